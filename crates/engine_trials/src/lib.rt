@@ -19,4 +19,4 @@ mod script_tests;
 #[cfg(test)]
 mod worker_tests;
 
-pub use pairs::{BoardActor, worker_and_client};
+pub use pairs::{BoardActor, Players, worker_and_client};

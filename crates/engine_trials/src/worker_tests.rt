@@ -6,7 +6,7 @@ ghost use Rattle.std.specs.Prelude.{◌≡◌, ◌∷◌, [], IfOk};
 ghost use Rattle.plan.specs.declared.node.Kind.TheVariants.{Min};
 ghost use Rattle.plan.specs.declared.node.Node.TheVariants.{Arrange, Input, Output, Reduce};
 
-use crate::pairs::worker_and_client;
+use crate::pairs::{Players, worker_and_client};
 use lattice::Bitime;
 use machine::Routing;
 use plan::{Kind, Node, NodeId, Plan, PlanBuilder};
@@ -46,7 +46,10 @@ fn is_carried<R: Wait>(rt: &R, alloc: Global) -> Result<(bool, bool), Refusal> {
     let plan = least_rows(alloc)?;
     let routing = Routing::of(alloc, &plan, 1)?;
     let mut desk = Desk::<Bitime>::open(alloc, &plan)?;
-    let (mut worker, mut client) = worker_and_client(rt, alloc, &plan)?;
+    let Players {
+        mut worker,
+        mut client,
+    } = worker_and_client(rt, alloc, &plan)?;
     worker.known();
     let update = Update {
         time: at(0, 0),

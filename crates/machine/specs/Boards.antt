@@ -4,7 +4,6 @@
 -- may stand for.
 pub mod Reads
 pub mod Routings
-pub mod CutEmissions
 pub mod Pieces
 use Rattle.std.specs.Prelude.{◌≡◌, ℕ, suc, ◌<◌, ◌≤◌, Bool, ◌||◌, if◌then◌else◌, List, [], ◌∷◌, ◌++◌, length, set, get_or, replicate, Option, Some, None, IsTrue, ⊤}
 use Rattle.lattice.specs.Frontiers.{is_beyond}
@@ -122,13 +121,16 @@ module _ {T : Type 0} where
   capture_output p n us views = if is_output (node_of p n) then capture_at n us views else views
 
   -- the board after a give, before the event is recorded: the bundles wait at their places, a view
-  -- captured the updates, and the worker holds these times at the node and has nothing in hand
-  abbrev pub give_output : Emission T → List T → List (Bundle T) → BoardState T → BoardState T
-  give_output g ts sent b = record b {
+  -- captured the updates, and the worker holds these times at the node; first with what the worker
+  -- had in hand, then with nothing in hand
+  abbrev pub pass_output : Emission T → List T → List (Bundle T) → BoardState T → BoardState T
+  pass_output g ts sent b = record b {
     stations = held_from g.node g.worker ts (put_all sent b.stations);
-    hand = set b.hand g.worker None;
     views = capture_output b.dataflow g.node g.updates b.views;
   }
+
+  abbrev pub give_output : Emission T → List T → List (Bundle T) → BoardState T → BoardState T
+  give_output g ts sent b = record (pass_output g ts sent b) { hand = set b.hand g.worker None }
 
   -- the board after a give
   abbrev pub after_give : Emission T → List T → List (Bundle T) → BoardState T → BoardState T

@@ -3,9 +3,10 @@
 //! A board holds what a history leaves, and of the history itself only the last event: the bundles
 //! that wait at each place, the times that workers hold, the frontiers of the inputs, each worker's
 //! piece in hand, what views captured, and how many changes each input accepted. There is no list
-//! of the changes. `Stands` says which histories a board may stand for. Every event keeps one
-//! invariant: if the board may stand for a history before the call, it stands afterwards for that
-//! history with one event more.
+//! of the changes. The first three lie in its accounts, together with the tally that counts them.
+//! `Stands` says which histories a board may stand for. Every event keeps one invariant: if the
+//! board may stand for a history before the call, it stands afterwards for that history with one
+//! event more.
 ghost use Rattle.std.specs.Prelude.{◌≡◌, ◌≤◌, List, [], ◌∷◌, None, IfErr, IfOk, replicate};
 ghost use Rattle.update.specs.declared.refusal.Refusal.TheVariants.{OutOfMemory};
 ghost use Rattle.histories.specs.Histories.Dataflows.{IsDataflow};
@@ -15,7 +16,6 @@ ghost use Rattle.machine.specs.Boards.{BoardState, IsBoard, Stands, first_board,
 pub(crate) mod arrivals;
 pub(crate) mod clients;
 pub(crate) mod cut;
-pub(crate) mod cut_emission;
 pub(crate) mod emission;
 pub(crate) mod frontiers;
 pub(crate) mod pieces;
@@ -24,11 +24,10 @@ pub(crate) mod reads;
 pub(crate) mod routing;
 pub(crate) mod workers;
 
+use accounts::Accounts;
 use histories::Event;
 use lattice::Minimum;
-use outstanding::{InputFrontiers, Stations};
 use plan::{NodeId, Plan};
-use progress::Graph;
 use std::alloc::Global;
 use std::marker::Model;
 use std::snapshot::Snapshot;
@@ -38,10 +37,8 @@ use views::View;
 /// The state between clients and workers. A contract sees all of it as a `BoardState`.
 #[derive(Drop)]
 pub struct Board<T: Minimum> {
-    pub(crate) plan: Graph,
+    pub(crate) accounts: Accounts<T>,
     pub(crate) workers: usize,
-    pub(crate) stations: Stations<T>,
-    pub(crate) inputs: InputFrontiers<T>,
     pub(crate) hand: Vec<Option<NodeId>>,
     pub(crate) accepted: Vec<usize>,
     pub(crate) views: Vec<View<T>>,
@@ -51,14 +48,13 @@ pub struct Board<T: Minimum> {
 
 impl<T: Minimum> Model for Board<T> {
     ghost use Rattle.machine.specs.Boards.{BoardState, IsBoard};
-    ghost use Rattle.outstanding.specs.Stations.{lots};
 
     ghost Value = { BoardState T };
 
     ghost view = { λ b. record {
-      dataflow = record { nodes = b.plan; workers = b.workers };
-      stations = lots b.stations;
-      inputs = b.inputs;
+      dataflow = record { nodes = b.accounts.nodes; workers = b.workers };
+      stations = b.accounts.stations;
+      inputs = b.accounts.inputs;
       hand = b.hand.items;
       accepted = b.accepted.items;
       views = b.views.items;
@@ -66,9 +62,9 @@ impl<T: Minimum> Model for Board<T> {
     } };
 
     ghost invariant = { λ b. IsBoard (record {
-      dataflow = record { nodes = b.plan; workers = b.workers };
-      stations = lots b.stations;
-      inputs = b.inputs;
+      dataflow = record { nodes = b.accounts.nodes; workers = b.workers };
+      stations = b.accounts.stations;
+      inputs = b.accounts.inputs;
       hand = b.hand.items;
       accepted = b.accepted.items;
       views = b.views.items;
@@ -89,27 +85,24 @@ impl<T: Minimum> Board<T> {
         ensures stands { IfOk result (λ board. Stands T.below T.least board []) }
         ensures refused { IfErr result (λ refusal. refusal ≡ OutOfMemory) }
     {
-        let graph = Graph::of(alloc, plan)?;
-        Board::first(alloc, graph, workers)
+        Board::first(alloc, plan, workers)
     }
 
-    // Makes the first board of a graph. `open` adds that it stands for the empty history.
-    fn first(alloc: Global, plan: Graph, workers: usize) -> Result<Board<T>, Refusal>
+    // Makes the first board of a plan. `open` adds that it stands for the empty history.
+    fn first(alloc: Global, plan: Plan, workers: usize) -> Result<Board<T>, Refusal>
         requires { 1 ≤ workers }
         ensures first { IfOk result (λ board.
             board ≡ first_board T.least (record { nodes = plan; workers = workers })) }
         ensures refused { IfErr result (λ refusal. refusal ≡ OutOfMemory) }
     {
-        let stations = Stations::first(alloc, plan.len(), workers)?;
-        let inputs = InputFrontiers::first(alloc, plan.plan())?;
+        let nodes = plan.len();
+        let accounts = Accounts::first(alloc, plan, workers)?;
         let hand = empty_hands(alloc, workers)?;
-        let accepted = no_changes(alloc, plan.len())?;
-        let views = first_views(alloc, plan.len())?;
+        let accepted = no_changes(alloc, nodes)?;
+        let views = first_views(alloc, nodes)?;
         Ok(Board {
-            plan,
+            accounts,
             workers,
-            stations,
-            inputs,
             hand,
             accepted,
             views,
@@ -140,7 +133,7 @@ impl<T: Minimum> Board<T> {
     pub fn plan(&self) -> &Plan
         ensures { result.now ≡ self.now.dataflow.nodes }
     {
-        self.plan.plan()
+        self.accounts.plan()
     }
 
     // Records an event as the board's last.

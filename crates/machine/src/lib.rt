@@ -16,11 +16,12 @@
 //! for before the call, it stands afterwards for that history with the board's last event on top. A
 //! `give` promises this only if the event is allowed, which the board cannot test. A question to
 //! the board, such as a view's rows, is answered for every history that it may stand for. Waiting
-//! bundles lie in queues by node, worker and port, so an event costs only what it moves.
+//! bundles lie in queues by node, worker and port, so an event costs only what it moves. A tally
+//! counts what is outstanding, and keeps the frontiers that somebody asks about.
 //!
-//! The events and the theorems stand in the crate `histories`, what waits, what is held and the
-//! inputs' frontiers in `outstanding`, and what is kept of views in `views`. This crate joins them to
-//! a board, and hands their names on.
+//! The events and the theorems stand in the crate `histories`. What waits, what is held and the
+//! inputs' frontiers stand in `accounts`, with the tally that counts them, and what is kept of views
+//! in `views`. This crate joins them to a board, and hands their names on.
 //!
 //! A client calls `feed`, `advance`, `close`, `allow` and `look`, and reads by `frontier`, `read`,
 //! `changes` and `is_quiet`. A worker finds work by `waiting_at` or `is_ready` and starts on it by
@@ -37,9 +38,8 @@
 
 mod board;
 
+pub use accounts::{CutEmission, Ungiven};
 pub use board::Board;
-pub use board::cut_emission::CutEmission;
-pub use board::emission::Ungiven;
 pub use board::pieces::Piece;
 pub use board::promises::{later_sinces_keep_sums, meets};
 pub use board::routing::Routing;

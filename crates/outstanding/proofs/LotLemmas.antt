@@ -6,16 +6,12 @@ use Rattle.std.proofs.lemmas.Bool.{and_from, eqb-true, eq-eqb, cases_lt}
 use Rattle.std.proofs.lemmas.List.{append-nil, map_push, take_more, take_all, get_or_past}
 use Rattle.std.proofs.lemmas.List.Concat.{flat_map-append}
 use Rattle.std.proofs.lemmas.List.Folds.{flat_map-map, list_any-append, list_all-append, list_all-map}
-use Rattle.lattice.specs.Frontiers.{is_beyond}
 use Rattle.plan.specs.Ancestors.{numbers_below}
 use Rattle.histories.specs.declared.event.Site.{Site}
-use Rattle.histories.specs.declared.event.Bundle.{Bundle}
 use Rattle.histories.specs.declared.event.HeldTime.{HeldTime}
 use Rattle.histories.specs.Histories.States.{place, same_place, queue, held_at}
-use Rattle.histories.specs.Histories.Outstanding.{stamps}
-use Rattle.histories.proofs.HistoryLemmas.OutstandingLemmas.{held_where}
 use Rattle.histories.specs.Histories.{held_entries}
-use Rattle.outstanding.specs.Loads.{is_none, Load, Lot, bundle_at, no_lot, loads_at, lot_of, queue_of, bundles_of, bundles_in, all_bundles, held_in, all_held, stamps_of, stamps_at, times_at}
+use Rattle.outstanding.specs.Loads.{is_none, Load, Lot, bundle_at, no_lot, loads_at, lot_of, queue_of, bundles_of, bundles_in, all_bundles, held_in, all_held}
 use Rattle.outstanding.specs.Stations.{lot}
 
 -- ---- lists of lists, one after another
@@ -46,7 +42,7 @@ module _ {X Y : Type 0} where
       step (y ∷ ys) = refl
 
   -- the flat list is empty if each piece is
-  flat_empty : (f : X → List Y) (xs : List X) → ((x : X) → f x ≡ []) → flat_map f xs ≡ []
+  pub flat_empty : (f : X → List Y) (xs : List X) → ((x : X) → f x ≡ []) → flat_map f xs ≡ []
   flat_empty f [] e = refl
   flat_empty f (x ∷ xs) e = ap₂ (λ ys zs. ys ++ zs) (e x) (flat_empty f xs e)
 
@@ -56,7 +52,7 @@ one_more : (n : ℕ) → n + 1 ≡ suc n
 one_more n = omega arith
 
 module _ {X : Type 0} where
-  flat_more : (f : ℕ → List X) (n : ℕ) → flat_map f (numbers_below (suc n)) ≡ flat_map f (numbers_below n) ++ f n
+  pub flat_more : (f : ℕ → List X) (n : ℕ) → flat_map f (numbers_below (suc n)) ≡ flat_map f (numbers_below n) ++ f n
   flat_more f n = flat_map-append f (numbers_below n) (n ∷ []) ∙ ap (λ xs. flat_map f (numbers_below n) ++ xs) (append-nil (f n))
 
   none_below : (f : ℕ → List X) (n : ℕ) → ((j : ℕ) → j < n → f j ≡ []) → flat_map f (numbers_below n) ≡ []
@@ -102,7 +98,7 @@ module _ {X : Type 0} where
 
 -- ---- tests of places
 
-no_and : (b : Bool) → (b && false) ≡ false
+pub no_and : (b : Bool) → (b && false) ≡ false
 no_and true = refl
 no_and false = refl
 
@@ -202,96 +198,6 @@ module _ {T : Type 0} where
       (λ m e. held_out n k m (get_or stations m []) e)
       (λ l. ap (λ row. held_at n k (held_in n row)) (get_or_past stations n [] l))
       ∙ held_row n k (get_or stations n []))
-
-  -- ---- what is in flight at the nodes that pass a test, node by node
-
-  numbered_row : {X : Type 0} (f : Lot T → List X) (c : Bool) (row : List (Lot T)) → flat_map (λ k. cond c (f (get_or row k no_lot)) []) (numbers_below (length row)) ≡ cond c (flat_map f row) []
-  numbered_row f true row = flat_numbered f row no_lot
-  numbered_row f false row = flat_empty (λ k. []) (numbers_below (length row)) (λ k. refl)
-
-  stamps_like : (test : ℕ → Bool) (site : Site) (c : Bool) → test site.node ≡ c → (loads : List (Load T)) → stamps (λ s. test s.node) (map (bundle_at site) loads) ≡ cond c (flat_map (λ load. load.stamp) loads) []
-  stamps_like test site true e [] = refl
-  stamps_like test site false e [] = refl
-  stamps_like test site true e (load ∷ loads) = ap₂ (λ b ts. cond b load.stamp [] ++ ts) e (stamps_like test site true e loads)
-  stamps_like test site false e (load ∷ loads) = ap₂ (λ b ts. cond b load.stamp [] ++ ts) e (stamps_like test site false e loads)
-
-  stamps_lot : (test : ℕ → Bool) (n k : ℕ) (lot : Lot T) (c : Bool) → test n ≡ c → stamps (λ site. test site.node) (bundles_of n k lot) ≡ cond c (stamps_of lot) []
-  stamps_lot test n k lot c e =
-      flat_map-append (λ b. cond (test b.place.node) b.stamp []) (map (bundle_at (place n 0 k)) lot.left) (map (bundle_at (place n 1 k)) lot.right)
-      ∙ (ap₂ (λ xs ys. xs ++ ys) (stamps_like test (place n 0 k) c e lot.left) (stamps_like test (place n 1 k) c e lot.right)
-      ∙ both c)
-    where
-      both : (d : Bool) → cond d (flat_map (λ load. load.stamp) lot.left) [] ++ cond d (flat_map (λ load. load.stamp) lot.right) [] ≡ cond d (stamps_of lot) []
-      both true = sym (flat_map-append (λ load. load.stamp) lot.left lot.right)
-      both false = refl
-
-  stamps_row : (test : ℕ → Bool) (n : ℕ) (row : List (Lot T)) → stamps (λ site. test site.node) (bundles_in n row) ≡ cond (test n) (flat_map stamps_of row) []
-  stamps_row test n row =
-      flat_flat (λ b. cond (test b.place.node) b.stamp []) (λ k. bundles_of n k (get_or row k no_lot)) (numbers_below (length row))
-      ∙ (ap (λ (f : ℕ → List T). flat_map f (numbers_below (length row))) (λ i k. stamps_lot test n k (get_or row k no_lot) (test n) refl i)
-      ∙ numbered_row stamps_of (test n) row)
-
-  -- stamps that are collected node by node are those of all bundles
-  pub stamps_spread : (test : ℕ → Bool) (stations : List (List (Lot T))) → stamps (λ site. test site.node) (all_bundles stations) ≡ flat_map (λ n. cond (test n) (stamps_at stations n) []) (numbers_below (length stations))
-  stamps_spread test stations =
-      flat_flat (λ b. cond (test b.place.node) b.stamp []) (λ n. bundles_in n (get_or stations n [])) (numbers_below (length stations))
-      ∙ ap (λ (f : ℕ → List T). flat_map f (numbers_below (length stations))) (λ i n. stamps_row test n (get_or stations n []) i)
-
-  -- ---- what is held at the nodes that pass a test, node by node
-
-  where_like : (test : ℕ → Bool) (n k : ℕ) (c : Bool) → test n ≡ c → (ts : List T) → held_where test (held_entries n k ts) ≡ cond c ts []
-  where_like test n k true e [] = refl
-  where_like test n k false e [] = refl
-  where_like test n k true e (t ∷ ts) = ap₂ (λ b us. cond b (t ∷ []) [] ++ us) e (where_like test n k true e ts)
-  where_like test n k false e (t ∷ ts) = ap₂ (λ b us. cond b (t ∷ []) [] ++ us) e (where_like test n k false e ts)
-
-  where_row : (test : ℕ → Bool) (n : ℕ) (row : List (Lot T)) → held_where test (held_in n row) ≡ cond (test n) (flat_map (λ lot. lot.held) row) []
-  where_row test n row =
-      flat_flat (λ m. cond (test m.node) (m.time ∷ []) []) (λ k. held_entries n k (get_or row k no_lot).held) (numbers_below (length row))
-      ∙ (ap (λ (f : ℕ → List T). flat_map f (numbers_below (length row))) (λ i k. where_like test n k (test n) refl (get_or row k no_lot).held i)
-      ∙ numbered_row (λ lot. lot.held) (test n) row)
-
-  -- held times that are collected node by node are all of them
-  pub held_spread : (test : ℕ → Bool) (stations : List (List (Lot T))) → held_where test (all_held stations) ≡ flat_map (λ n. cond (test n) (times_at stations n) []) (numbers_below (length stations))
-  held_spread test stations =
-      flat_flat (λ m. cond (test m.node) (m.time ∷ []) []) (λ n. held_in n (get_or stations n [])) (numbers_below (length stations))
-      ∙ ap (λ (f : ℕ → List T). flat_map f (numbers_below (length stations))) (λ i n. where_row test n (get_or stations n []) i)
-
-  -- ---- whether a stamp or a held time is at or before a time, node by node
-
-  module _ (below : T → T → Bool) (test : ℕ → Bool) (t : T) where
-    any_where : (c : Bool) (ts : List T) → is_beyond below (cond c ts []) t ≡ (c && is_beyond below ts t)
-    any_where true ts = refl
-    any_where false ts = refl
-
-    any_one : (c : Bool) (u : T) → is_beyond below (cond c (u ∷ []) []) t ≡ (c && below u t)
-    any_one true u = or_nothing (below u t)
-      where
-        or_nothing : (b : Bool) → (b || false) ≡ b
-        or_nothing true = refl
-        or_nothing false = refl
-    any_one false u = refl
-
-    -- t is beyond the times of the numbers that pass exactly if it is beyond those of one such
-    -- number
-    any_spread : (f : ℕ → List T) (ns : List ℕ) → is_beyond below (flat_map (λ n. cond (test n) (f n) []) ns) t ≡ list_any (λ n. test n && is_beyond below (f n) t) ns
-    any_spread f ns = any_flat (λ u. below u t) (λ n. cond (test n) (f n) []) ns ∙ ap (λ (p : ℕ → Bool). list_any p ns) (λ i n. any_where (test n) (f n) i)
-
-    -- asking node by node finds whether a stamp has an element at or before the time
-    pub in_flight_any : (stations : List (List (Lot T))) → list_any (λ n. test n && is_beyond below (stamps_at stations n) t) (numbers_below (length stations)) ≡ list_any (λ b. test b.place.node && is_beyond below b.stamp t) (all_bundles stations)
-    in_flight_any stations =
-        sym (any_spread (stamps_at stations) (numbers_below (length stations)))
-        ∙ (ap (λ ts. is_beyond below ts t) (sym (stamps_spread test stations))
-        ∙ (any_flat (λ u. below u t) (λ b. cond (test b.place.node) b.stamp []) (all_bundles stations)
-        ∙ ap (λ (p : Bundle T → Bool). list_any p (all_bundles stations)) (λ i b. any_where (test b.place.node) b.stamp i)))
-
-    -- asking node by node finds whether a held time is at or before the time
-    pub held_any_spread : (stations : List (List (Lot T))) → list_any (λ n. test n && is_beyond below (times_at stations n) t) (numbers_below (length stations)) ≡ list_any (λ m. test m.node && below m.time t) (all_held stations)
-    held_any_spread stations =
-        sym (any_spread (times_at stations) (numbers_below (length stations)))
-        ∙ (ap (λ ts. is_beyond below ts t) (sym (held_spread test stations))
-        ∙ (any_flat (λ u. below u t) (λ m. cond (test m.node) (m.time ∷ []) []) (all_held stations)
-        ∙ ap (λ (p : HeldTime T → Bool). list_any p (all_held stations)) (λ i m. any_one (test m.node) m.time i)))
 
   all_row : (f : ℕ → T → Bool) (n : ℕ) (row : List (Lot T)) → list_all (λ m. f m.node m.time) (held_in n row) ≡ list_all (λ k. list_all (f n) (get_or row k no_lot).held) (numbers_below (length row))
   all_row f n row =

@@ -29,7 +29,7 @@ same_either_way i j = step (eqb i j) refl
     step false e = sym (ne_eqb j i (λ z. eqb-false i j e (sym z)))
 
 module _ {X : Type 0} where
-  set_past : (xs : List X) (i : ℕ) (x : X) → length xs ≤ i → set xs i x ≡ xs
+  pub set_past : (xs : List X) (i : ℕ) (x : X) → length xs ≤ i → set xs i x ≡ xs
   set_past [] i x l = refl
   set_past (y ∷ xs) zero x l = absurd (omega (arith, l))
   set_past (y ∷ xs) (suc i) x l = ap (λ zs. y ∷ zs) (set_past xs i x (omega (arith, l)))

@@ -125,7 +125,7 @@ module _ {T : Type 0} where
   worker_within port zero number (lot ∷ row) l = omega arith
   worker_within port (suc worker) number (lot ∷ row) l = let below = worker_within port worker number row l in omega (arith, below)
 
-  node_within : (rows : List (List (Lot T))) (node worker : ℕ) → worker < length (get_or rows node []) → node < length rows
+  pub node_within : (rows : List (List (Lot T))) (node worker : ℕ) → worker < length (get_or rows node []) → node < length rows
   node_within [] node worker l = absurd (omega (arith, l))
   node_within (row ∷ rows) zero worker l = omega arith
   node_within (row ∷ rows) (suc node) worker l = let below = node_within rows node worker l in omega (arith, below)

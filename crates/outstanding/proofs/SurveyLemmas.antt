@@ -1,26 +1,24 @@
 -- What the loops of `survey.rt` have found so far at the stations, against what a contract sees of
 -- all stations.
-use Rattle.std.proofs.Common.{◌≡◌, ℕ, zero, suc, ◌+◌, ◌<◌, ◌≤◌, Bool, true, false, ◌&&◌, List, [], ◌∷◌, ◌++◌, map, length, get_or, take, drop, sym, refl, ap, ◌∙◌, eqb, arith}
-use Rattle.std.specs.List.{flat_map, list_any, list_all}
+use Rattle.std.proofs.Common.{◌≡◌, ℕ, zero, suc, ◌+◌, ◌<◌, ◌≤◌, Bool, true, false, ◌&&◌, List, [], ◌∷◌, ◌++◌, map, length, get_or, drop, slice_get, Option, Some, None, Result, Ok, Err, sym, refl, ap, ◌∙◌, subst, eqb, arith}
+use Rattle.std.specs.Option.{IfSome, option_map}
+use Rattle.std.specs.Result.{OnOk}
+use Rattle.std.proofs.lemmas.Option.{slice_get-map}
+use Rattle.std.specs.List.{list_all}
 use Rattle.std.proofs.lemmas.List.{at_drop_all, drop_more}
-use Rattle.std.proofs.lemmas.List.Folds.{flat_map-map, list_all-map}
-use Rattle.lattice.specs.Frontiers.{is_beyond}
-use Rattle.outstanding.specs.declared.queue.Parcel.{Parcel}
+use Rattle.std.proofs.lemmas.List.Folds.{list_all-map}
 use Rattle.outstanding.specs.declared.stations.Station.{Station}
+use Rattle.histories.specs.declared.event.Site.{Site}
+use Rattle.histories.specs.declared.event.Bundle.{Bundle}
 use Rattle.histories.specs.Histories.States.{place}
-use Rattle.outstanding.specs.Loads.{is_none, Load, Lot, queue_of, all_bundles, load_of}
+use Rattle.outstanding.specs.Loads.{is_none, Load, Lot, no_lot, bundle_at, loads_at, lot_of, queue_of, all_bundles}
 use Rattle.outstanding.specs.Stations.{lot, lots}
-use Rattle.outstanding.proofs.FoundLemmas.{found}
-use Rattle.outstanding.proofs.PutLemmas.{put_all}
-use Rattle.outstanding.proofs.LotLemmas.{any_flat, none_anywhere, apart}
+use Rattle.outstanding.proofs.LotLemmas.{none_anywhere, apart}
+use Rattle.outstanding.proofs.StationLemmas.{waits_in_row, worker_within}
 
 -- ---- loops that go over a list until they find an element that passes a test
 
 module _ {X : Type 0} (p : X → Bool) (xs : List X) (i : ℕ) where
-  -- all elements were read, and none passes
-  not_found : length xs ≤ i → list_any p (drop i xs) ≡ list_any p xs → false ≡ list_any p xs
-  not_found l so_far = sym (at_drop_all (list_any p) xs i l) ∙ so_far
-
   -- all elements were read, and each passes
   all_passed : length xs ≤ i → list_all p (drop i xs) ≡ list_all p xs → true ≡ list_all p xs
   all_passed l so_far = sym (at_drop_all (list_all p) xs i l) ∙ so_far
@@ -32,7 +30,7 @@ module _ {X : Type 0} (p : X → Bool) (xs : List X) (i : ℕ) where
       sym (sym so_far ∙ (here ∙ ap (λ b. b && list_all p (drop (i + 1) xs)) h))
 
 module _ {T : Type 0} where
-  -- ---- what is read at the stations of a node
+  -- ---- what is read at a station
 
   -- the lots of a node are those of its stations
   lots_at : (stations : List (List (Station T))) (n : ℕ) → get_or (lots stations) n [] ≡ map lot (get_or stations n [])
@@ -40,50 +38,36 @@ module _ {T : Type 0} where
   lots_at (row ∷ stations) zero = refl
   lots_at (row ∷ stations) (suc n) = lots_at stations n
 
-  -- what the stations of a node have is what its lots have
-  given_at : (f : Lot T → List T) (stations : List (List (Station T))) (n : ℕ) (row : List (Station T)) → row ≡ get_or stations n [] → flat_map (λ s. f (lot s)) row ≡ flat_map f (get_or (lots stations) n [])
-  given_at f stations n row e = sym (flat_map-map f lot row) ∙ ap (flat_map f) (ap (map lot) e ∙ sym (lots_at stations n))
+  module _ (stations : List (List (Station T))) (site : Site) (number : ℕ) (row : List (Station T)) (s : Station T) (e : row ≡ get_or stations site.node []) (d : s ≡ get_or row site.worker s) (waits : number < length (queue_of (lots stations) site)) where
+    here : get_or (lots stations) site.node [] ≡ map lot row
+    here = lots_at stations site.node ∙ ap (map lot) (sym e)
 
-  module _ (below : T → T → Bool) (t : T) where
-    -- whether a load's stamp has an element at or before a time, load by load
-    module _ (parcels : List (Parcel T)) (loads : List (Load T)) (same : map load_of parcels ≡ loads) (i : ℕ) (so_far : list_any (λ p. is_beyond below (load_of p).stamp t) (drop i parcels) ≡ list_any (λ p. is_beyond below (load_of p).stamp t) parcels) where
-      load_by_load : list_any (λ p. is_beyond below (load_of p).stamp t) parcels ≡ is_beyond below (flat_map (λ load. load.stamp) loads) t
-      load_by_load =
-          sym (any_flat (λ u. below u t) (λ p. (load_of p).stamp) parcels)
-          ∙ ap (λ ts. is_beyond below ts t) (sym (flat_map-map (λ load. load.stamp) load_of parcels) ∙ ap (flat_map (λ load. load.stamp)) same)
+    -- the station that was read has the lot of its node and worker
+    lot_read : lot_of (lots stations) site.node site.worker ≡ lot s
+    lot_read =
+        ap (λ (all : List (Lot T)). get_or all site.worker no_lot) here
+        ∙ read row site.worker (subst (λ (all : List (Lot T)). site.worker < length all) here
+        (worker_within site.port site.worker number (get_or (lots stations) site.node []) (waits_in_row (lots stations) site number (get_or (lots stations) site.node []) refl waits))) d
+      where
+        read : (xs : List (Station T)) (k : ℕ) → k < length (map lot xs) → s ≡ get_or xs k s → get_or (map lot xs) k no_lot ≡ lot s
+        read [] k l h = absurd (omega (arith, l))
+        read (x ∷ xs) zero l h = ap lot (sym h)
+        read (x ∷ xs) (suc k) l h = read xs k (omega (arith, l)) h
 
-      -- a load whose stamp has such an element decides the question
-      pub load_reaches : (p : Parcel T) → i < length parcels → p ≡ get_or parcels i p → (b : Bool) → b ≡ is_beyond below (load_of p).stamp t → b ≡ true → true ≡ is_beyond below (flat_map (λ load. load.stamp) loads) t
-      load_reaches p l e b d h = found (λ p. is_beyond below (load_of p).stamp t) parcels i p l e so_far (sym d ∙ h) ∙ load_by_load
+    -- the stamp that was read is that of the bundle of the number
+    pub stamp_read : {X E : Type 0} (r : Result X E) (old new : List T) → OnOk r (IfSome (slice_get (loads_at site.port (lot s)) number) (λ load. new ≡ old ++ load.stamp)) → OnOk r (IfSome (slice_get (queue_of (lots stations) site) number) (λ bundle. new ≡ old ++ bundle.stamp))
+    stamp_read (Err refusal) old new h = tt
+    stamp_read (Ok x) old new h =
+        subst (λ (o : Option (Bundle T)). IfSome o (λ bundle. new ≡ old ++ bundle.stamp))
+        (sym (slice_get-map (bundle_at site) (loads_at site.port (lot_of (lots stations) site.node site.worker)) number))
+        (mapped (slice_get (loads_at site.port (lot_of (lots stations) site.node site.worker)) number)
+        (subst (λ (l : Lot T). IfSome (slice_get (loads_at site.port l) number) (λ load. new ≡ old ++ load.stamp)) (sym lot_read) h))
+      where
+        mapped : (o : Option (Load T)) → IfSome o (λ load. new ≡ old ++ load.stamp) → IfSome (option_map (bundle_at site) o) (λ bundle. new ≡ old ++ bundle.stamp)
+        mapped None k = tt
+        mapped (Some load) k = k
 
-      -- at the end, no load's stamp has such an element
-      pub no_load_reaches : length parcels ≤ i → false ≡ is_beyond below (flat_map (λ load. load.stamp) loads) t
-      no_load_reaches l = not_found (λ p. is_beyond below (load_of p).stamp t) parcels i l so_far ∙ load_by_load
-
-    -- the same question, station by station
-    module _ (f : Lot T → List T) (stations : List (List (Station T))) (n : ℕ) (row : List (Station T)) (e : row ≡ get_or stations n []) (i : ℕ) (so_far : list_any (λ s. is_beyond below (f (lot s)) t) (drop i row) ≡ list_any (λ s. is_beyond below (f (lot s)) t) row) where
-      one_by_one : list_any (λ s. is_beyond below (f (lot s)) t) row ≡ is_beyond below (flat_map f (get_or (lots stations) n [])) t
-      one_by_one = sym (any_flat (λ u. below u t) (λ s. f (lot s)) row) ∙ ap (λ ts. is_beyond below ts t) (given_at f stations n row e)
-
-      -- a station that has such a time decides the question
-      pub station_reaches : (s : Station T) → i < length row → s ≡ get_or row i s → (b : Bool) → b ≡ is_beyond below (f (lot s)) t → b ≡ true → true ≡ is_beyond below (flat_map f (get_or (lots stations) n [])) t
-      station_reaches s l d b r h = found (λ s. is_beyond below (f (lot s)) t) row i s l d so_far (sym r ∙ h) ∙ one_by_one
-
-      -- at the end, no station has such a time
-      pub no_station_reaches : length row ≤ i → false ≡ is_beyond below (flat_map f (get_or (lots stations) n [])) t
-      no_station_reaches l = not_found (λ s. is_beyond below (f (lot s)) t) row i l so_far ∙ one_by_one
-
-  -- once all stations of a node were read, what was collected is what its lots have
-  pub station_by_station : (f : Lot T → List T) (stations : List (List (Station T))) (n : ℕ) (row : List (Station T)) → row ≡ get_or stations n [] → (old mid : List T) (i : ℕ) → length row ≤ i
-      → mid ≡ old ++ flat_map (λ s. f (lot s)) (take i row) → mid ≡ old ++ flat_map f (get_or (lots stations) n [])
-  station_by_station f stations n row e old mid i l m = put_all (flat_map (λ s. f (lot s))) old mid row i l m ∙ ap (λ ts. old ++ ts) (given_at f stations n row e)
-
-  -- once all loads of a queue were read, the stamps that were collected are all of them
-  pub stamp_by_stamp : (parcels : List (Parcel T)) (loads : List (Load T)) → map load_of parcels ≡ loads → (old mid : List T) (i : ℕ) → length parcels ≤ i
-      → mid ≡ old ++ flat_map (λ p. (load_of p).stamp) (take i parcels) → mid ≡ old ++ flat_map (λ load. load.stamp) loads
-  stamp_by_stamp parcels loads same old mid i l m =
-      put_all (flat_map (λ p. (load_of p).stamp)) old mid parcels i l m
-      ∙ ap (λ ts. old ++ ts) (sym (flat_map-map (λ load. load.stamp) load_of parcels) ∙ ap (flat_map (λ load. load.stamp)) same)
+  -- ---- whether anything waits
 
   -- nothing waits at any port if nothing waits at the first two, since a node has no others
   pub none_at_ports : (stations : List (List (Lot T))) (n k i : ℕ) → 2 ≤ i → ((port : ℕ) → port < i → queue_of stations (place n port k) ≡ []) → (port : ℕ) → queue_of stations (place n port k) ≡ []

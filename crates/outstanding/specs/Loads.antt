@@ -1,7 +1,7 @@
 -- What lies at the nodes of a board, by node and by worker: what waits at both ports, and the times
 -- that the worker holds. A load is a bundle without its place, since the place is known from where
 -- the load lies.
-use Rattle.std.specs.Prelude.{ℕ, zero, suc, Bool, true, false, List, [], ◌∷◌, ◌++◌, map, get_or, set, replicate, length}
+use Rattle.std.specs.Prelude.{ℕ, zero, suc, Bool, true, false, List, [], ◌∷◌, ◌++◌, ◌&&◌, map, get_or, set, replicate, length, nat_lt}
 use Rattle.std.specs.List.{remove, flat_map}
 use Rattle.update.specs.declared.change.Update.{Update}
 use Rattle.plan.specs.Ancestors.{numbers_below}
@@ -89,6 +89,11 @@ module _ {T : Type 0} where
   abbrev pub with_lot : ℕ → ℕ → (Lot T → Lot T) → List (List (Lot T)) → List (List (Lot T))
   with_lot n k change stations = set stations n (at_worker k change (get_or stations n []))
 
+  -- the stations have the place: the node, its worker, and port 0 or 1
+  abbrev pub has_place : List (List (Lot T)) → Site → Bool
+  has_place stations site =
+      nat_lt site.worker (length (get_or stations site.node [])) && nat_lt site.port 2
+
   -- the stations at which nothing lies
   abbrev pub first_stations : ℕ → ℕ → List (List (Lot T))
   first_stations nodes workers = replicate nodes (replicate workers no_lot)
@@ -136,14 +141,3 @@ module _ {T : Type 0} where
   abbrev pub all_held : List (List (Lot T)) → List (HeldTime T)
   all_held stations =
       flat_map (λ n. held_in n (get_or stations n [])) (numbers_below (length stations))
-
-  -- the stamps of what waits in a lot or at a node, and the times that are held at a node, on all
-  -- workers
-  abbrev pub stamps_of : Lot T → List T
-  stamps_of lot = flat_map (λ load. load.stamp) (lot.left ++ lot.right)
-
-  abbrev pub stamps_at : List (List (Lot T)) → ℕ → List T
-  stamps_at stations n = flat_map stamps_of (get_or stations n [])
-
-  abbrev pub times_at : List (List (Lot T)) → ℕ → List T
-  times_at stations n = flat_map (λ lot. lot.held) (get_or stations n [])

@@ -146,8 +146,9 @@ impl<T: Minimum> InputFrontiers<T> {
         self.stand_at(input, none.into());
     }
 
-    // Replaces an input's frontier by these times, without a test.
-    fn stand_at(&mut self, input: NodeId, times: Times<T>)
+    /// Replaces an input's frontier by these times. It is not tested whether they are beyond the old
+    /// frontier, as [`InputFrontiers::advance`] does. Takes no memory.
+    pub fn stand_at(&mut self, input: NodeId, times: Times<T>)
         requires { input < length self.old }
         ensures { self.new ≡ set self.old input times }
     {

@@ -3,15 +3,13 @@
 //! Each place has a queue of its own, so a bundle is put and taken without a look at any other. A
 //! change that was fed waits as it is, with no block of memory of its own, since a million changes
 //! may wait.
-ghost use Rattle.std.specs.Prelude.{◌≡◌, ◌<◌, ◌≤◌, ◌+◌, ◌++◌, List, [], ◌∷◌, Some, IfErr, IfOk, OnErr, OnOk, length, slice_get};
-ghost use Rattle.std.specs.List.{remove, flat_map};
-ghost use Rattle.lattice.specs.Frontiers.{is_beyond};
+ghost use Rattle.std.specs.Prelude.{◌≡◌, ◌<◌, ◌≤◌, ◌+◌, ◌++◌, List, [], ◌∷◌, Some, IfErr, IfOk, IfSome, OnErr, OnOk, length, slice_get};
+ghost use Rattle.std.specs.List.{remove};
 ghost use Rattle.update.specs.declared.refusal.Refusal.TheVariants.{OutOfMemory};
 ghost use Rattle.update.specs.declared.change.Update.{Update};
 ghost use Rattle.outstanding.specs.declared.queue.Parcel.TheVariants.{Sent};
 ghost use Rattle.outstanding.specs.Loads.{load_of};
 
-use antichain::is_beyond;
 use columns::UpdateList;
 use lattice::Minimum;
 use std::alloc::Global;
@@ -70,6 +68,18 @@ impl<T: Minimum> Queue<T> {
         ensures { result ≡ length self.now.loads }
     {
         self.parcels.len()
+    }
+
+    /// Appends the stamp of the load of a number, from 0. Refused only with `OutOfMemory`.
+    ///
+    /// Cost: linear in the stamp.
+    pub fn push_stamp(&self, number: usize, all: &mut Vec<T>) -> Result<(), Refusal>
+        requires { number < length self.now.loads }
+        ensures more { OnOk result (IfSome (slice_get self.now.loads number)
+            (λ load. all.new.items ≡ all.old.items ++ load.stamp)) }
+        ensures refused { IfErr result (λ refusal. refusal ≡ OutOfMemory) }
+    {
+        self.parcels[number].push_stamp(all)
     }
 
     /// Appends a parcel, and gives up any reserved room. Refused only with `OutOfMemory`; then the
@@ -158,34 +168,6 @@ impl<T: Minimum> Queue<T> {
             self.parcels.shrink_to_fit();
         }
     }
-
-    /// Whether the stamp of some load has an element at or before a time. Takes no memory.
-    ///
-    /// Cost: linear in the elements of the stamps.
-    pub fn is_beyond_stamps(&self, t: &T) -> bool
-        ensures { result ≡ is_beyond T.below (flat_map (λ load. load.stamp) self.now.loads) t.now }
-    {
-        for number in 0..self.parcels.len() {
-            if self.parcels[number].is_beyond_stamps(t) {
-                return true;
-            }
-        }
-        false
-    }
-
-    /// Appends the stamps of all loads. Refused only with `OutOfMemory`.
-    ///
-    /// Cost: linear in the elements of the stamps.
-    pub fn push_stamps(&self, all: &mut Vec<T>) -> Result<(), Refusal>
-        ensures more { OnOk result (all.new.items
-            ≡ all.old.items ++ flat_map (λ load. load.stamp) self.now.loads) }
-        ensures refused { IfErr result (λ refusal. refusal ≡ OutOfMemory) }
-    {
-        for number in 0..self.parcels.len() {
-            self.parcels[number].push_stamp(all)?;
-        }
-        Ok(())
-    }
 }
 
 impl<T: Minimum> Parcel<T> {
@@ -216,16 +198,6 @@ impl<T: Minimum> Parcel<T> {
         };
         *self = sent;
         Ok(())
-    }
-
-    // Whether the stamp has an element at or before a time.
-    fn is_beyond_stamps(&self, t: &T) -> bool
-        ensures { result ≡ is_beyond T.below (load_of self.now).stamp t.now }
-    {
-        match self {
-            Parcel::Change(update) => update.time.less_equal(t),
-            Parcel::Sent(_updates, stamp) => is_beyond(stamp.as_slice(), t),
-        }
     }
 
     // Appends the stamp. Refused only with `OutOfMemory`, and then nothing changes.

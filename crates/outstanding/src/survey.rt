@@ -1,15 +1,13 @@
-//! What is read at the stations of a board without changing them: what waits at a place, what is
-//! held at a node, and which of these times are at or before a given one.
-ghost use Rattle.std.specs.Prelude.{◌≡◌, ◌<◌, ◌++◌, ℕ, [], None, IfErr, IfSome, OnOk, length, get_or, map};
+//! What is read at the stations of a board without changing them: what waits at a place, and what is
+//! held at a node.
+ghost use Rattle.std.specs.Prelude.{◌≡◌, ◌<◌, ◌++◌, ℕ, [], None, IfErr, IfSome, OnOk, length, get_or, map, slice_get};
 ghost use Rattle.std.specs.List.{list_all};
-ghost use Rattle.lattice.specs.Frontiers.{is_beyond};
 ghost use Rattle.update.specs.declared.refusal.Refusal.TheVariants.{OutOfMemory};
 ghost use Rattle.histories.specs.Histories.States.{place};
-ghost use Rattle.outstanding.specs.Loads.{is_none, loads_at, lot_of, queue_of, all_bundles, stamps_of, stamps_at, times_at};
+ghost use Rattle.outstanding.specs.Loads.{is_none, has_place, loads_at, lot_of, queue_of, all_bundles};
 ghost use Rattle.outstanding.specs.Stations.{lot, lots};
 
 use crate::stations::{Row, Station, Stations};
-use antichain::is_beyond;
 use histories::Site;
 use lattice::Minimum;
 use plan::NodeId;
@@ -27,20 +25,18 @@ impl<T: Minimum> Station<T> {
         }
     }
 
-    // Whether the stamp of some load here has an element at or before a time.
-    fn is_beyond_stamps(&self, t: &T) -> bool
-        ensures { result ≡ is_beyond T.below (stamps_of (lot self.now)) t.now }
-    {
-        self.left.is_beyond_stamps(t) || self.right.is_beyond_stamps(t)
-    }
-
-    // Appends the stamps of the loads that wait here.
-    fn push_stamps(&self, all: &mut Vec<T>) -> Result<(), Refusal>
-        ensures more { OnOk result (all.new.items ≡ all.old.items ++ stamps_of (lot self.now)) }
+    // Appends the stamp of the load of a number at a port.
+    fn push_stamp(&self, port: usize, number: usize, all: &mut Vec<T>) -> Result<(), Refusal>
+        requires { number < length (loads_at port (lot self.now)) }
+        ensures more { OnOk result (IfSome (slice_get (loads_at port (lot self.now)) number)
+            (λ load. all.new.items ≡ all.old.items ++ load.stamp)) }
         ensures refused { IfErr result (λ refusal. refusal ≡ OutOfMemory) }
     {
-        self.left.push_stamps(all)?;
-        self.right.push_stamps(all)
+        match port {
+            0 => self.left.push_stamp(number, all),
+            1 => self.right.push_stamp(number, all),
+            _ => unreachable!(),
+        }
     }
 
     // Whether nothing waits here.
@@ -75,6 +71,28 @@ impl<T: Minimum> Stations<T> {
         } else {
             &[]
         }
+    }
+
+    /// Whether there is such a place: a node, a worker, and port 0 or 1. Takes no memory, and
+    /// constant time.
+    pub fn has_place(&self, site: &Site) -> bool
+        ensures { result ≡ has_place (lots self.now) site.now }
+    {
+        site.worker < self.row(site.node).len() && site.port < 2
+    }
+
+    /// Appends the stamp of the bundle of a number, from 0, at a place. Refused only with
+    /// `OutOfMemory`.
+    ///
+    /// Cost: linear in the stamp.
+    pub fn push_stamp(&self, site: &Site, number: usize, all: &mut Vec<T>) -> Result<(), Refusal>
+        requires { number < length (queue_of (lots self.now) site.now) }
+        ensures more { OnOk result (IfSome (slice_get (queue_of (lots self.now) site.now) number)
+            (λ bundle. all.new.items ≡ all.old.items ++ bundle.stamp)) }
+        ensures refused { IfErr result (λ refusal. refusal ≡ OutOfMemory) }
+    {
+        let row = self.row(site.node);
+        row[site.worker].push_stamp(site.port, number, all)
     }
 
     /// The number of bundles that wait at a place. Takes no memory.
@@ -116,68 +134,6 @@ impl<T: Minimum> Stations<T> {
         } else {
             &[]
         }
-    }
-
-    /// Whether the stamp of some bundle at a node, on any worker, has an element at or before a
-    /// time. Takes no memory.
-    ///
-    /// Cost: linear in the workers and in the elements of the stamps.
-    pub fn is_beyond_stamps(&self, node: NodeId, t: &T) -> bool
-        ensures { result ≡ is_beyond T.below (stamps_at (lots self.now) node) t.now }
-    {
-        let row = self.row(node);
-        for station in row {
-            if station.is_beyond_stamps(t) {
-                return true;
-            }
-        }
-        false
-    }
-
-    /// Whether some worker holds a time at a node at or before this one. Takes no memory.
-    ///
-    /// Cost: linear in the workers and in the times that are held at the node.
-    pub fn holds(&self, node: NodeId, t: &T) -> bool
-        ensures { result ≡ is_beyond T.below (times_at (lots self.now) node) t.now }
-    {
-        let row = self.row(node);
-        for station in row {
-            if is_beyond(station.held.as_slice(), t) {
-                return true;
-            }
-        }
-        false
-    }
-
-    /// Appends the stamps of the bundles that wait at a node, on every worker. Refused only with
-    /// `OutOfMemory`.
-    ///
-    /// Cost: linear in the workers and in the elements of the stamps.
-    pub fn push_stamps(&self, all: &mut Vec<T>, node: NodeId) -> Result<(), Refusal>
-        ensures more { OnOk result
-            (all.new.items ≡ all.old.items ++ stamps_at (lots self.now) node) }
-        ensures refused { IfErr result (λ refusal. refusal ≡ OutOfMemory) }
-    {
-        let row = self.row(node);
-        for station in row {
-            station.push_stamps(all)?;
-        }
-        Ok(())
-    }
-
-    /// Appends the times that are held at a node, by every worker. Refused only with `OutOfMemory`.
-    ///
-    /// Cost: linear in the workers and in the times that are held at the node.
-    pub fn push_held(&self, all: &mut Vec<T>, node: NodeId) -> Result<(), Refusal>
-        ensures more { OnOk result
-            (all.new.items ≡ all.old.items ++ times_at (lots self.now) node) }
-        ensures refused { IfErr result (λ refusal. refusal ≡ OutOfMemory) }
-    {
-        let row = self.row(node);
-        for station in row {
-            all.extend_from_slice(station.held.as_slice())?;
-        }
-        Ok(())
     }
 
     /// Whether nothing waits anywhere. Takes no memory.

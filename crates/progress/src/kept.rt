@@ -184,6 +184,29 @@ impl<T: Lattice> Kept<T> {
         Ok(answer)
     }
 
+    /// Finds all frontiers of a node anew if it is marked, and unmarks it. Refused only with
+    /// `OutOfMemory`, and then the mark is what it was.
+    ///
+    /// Cost: nothing for a node that is not marked. Otherwise linear in the different items that are
+    /// counted, times the elements.
+    pub(crate) fn refresh(
+        &mut self,
+        graph: &Graph,
+        node: NodeId,
+        items: &Counts<T>,
+    ) -> Result<(), Refusal>
+        requires node { node < length graph.now }
+        requires current { IsCurrent T.below graph.now items.now node self.old }
+        ensures current { IsCurrent T.below graph.now items.now node self.new }
+        ensures unmarked { OnOk result (self.new.marked ≡ false) }
+        ensures unchanged { OnErr result (self.new.marked ≡ self.old.marked) }
+        ensures refused { IfErr result (λ refusal. refusal ≡ OutOfMemory) }
+    {
+        self.find_all(graph, node, items)?;
+        self.marked = false;
+        Ok(())
+    }
+
     // Finds all frontiers anew if the node is marked. It stays marked.
     fn find_all(&mut self, graph: &Graph, node: NodeId, items: &Counts<T>) -> Result<(), Refusal>
         requires node { node < length graph.now }

@@ -280,6 +280,31 @@ impl<T: Lattice> Tally<T> {
         self.answer(&Scope::Port(node, port))
     }
 
+    /// Finds anew what is kept of a node if the node is marked, and unmarks it, as a question for one
+    /// of its frontiers does. Whoever asks about many times calls this first, since
+    /// [`Tally::has_passed`] leaves a mark. Refused only with `OutOfMemory`, and then the mark is what
+    /// it was.
+    ///
+    /// Cost: nothing for a node that is not marked, otherwise that of `frontier`.
+    pub fn refresh(&mut self, node: NodeId) -> Result<(), Refusal>
+        requires { node < length self.old.nodes }
+        ensures items { self.new.items ≡ self.old.items }
+        ensures nodes { self.new.nodes ≡ self.old.nodes }
+        ensures refused { IfErr result (λ refusal. refusal ≡ OutOfMemory) }
+        ensures unmarked { OnOk result ((n : ℕ) → is_marked self.new.marked n
+            ≡ (is_marked self.old.marked n && not (eqb n node))) }
+        ensures unanswered { OnErr result (self.new.marked ≡ self.old.marked) }
+        ensures rebuilt { OnOk result (self.new.rebuilt
+            ≡ rebuilt_after (is_marked self.old.marked node) self.old.rebuilt) }
+        ensures not_rebuilt { OnErr result (self.new.rebuilt ≡ self.old.rebuilt) }
+    {
+        let number = node.number();
+        let was_marked = self.kept[number].is_marked();
+        self.kept[number].refresh(&self.graph, node, &self.items)?;
+        self.rebuilt = rebuilt_after(was_marked, self.rebuilt);
+        Ok(())
+    }
+
     /// Whether the frontier of a node has passed a time. Takes no memory, and leaves a mark.
     ///
     /// Cost: linear in the elements. If the node is marked, linear in the different items that are

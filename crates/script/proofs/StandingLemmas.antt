@@ -171,15 +171,14 @@ module _ {T : Type 0} (below : T → T → Bool) (minimum : T) (o : PartialOrder
         (on_ok_weaker r (λ adds. after_fed old new old.number f s (client_step old new (Feed old.number f) number one actor adds) a) done) accepted refused (unchanged looks))
 
     -- a new frontier is answered as the session says
-    pub frontier_answered : (i : ℕ) (ts : List T) → i < length p.nodes → OnOk r (Adds old (Advance old.number i ts) new) → OnOk r (advance_refusal_in below (state_found below minimum new) i ts ≡ None) → IfErr r (λ refusal. advance_refusal_in below (state_found below minimum new) i ts ≡ Some refusal)
+    pub frontier_answered : (i : ℕ) (ts : List T) → i < length p.nodes → OnOk r (Adds old (Advance old.number i ts) new) → OnOk r (advance_refusal_in below (state_found below minimum new) i ts ≡ None) → IfErr r (IsRefusalBy (advance_refusal_in below (state_found below minimum new) i ts))
         → OnErr r (Adds old (Look old.number) new) → IsTold (frontier_refusal below p.nodes s i ts) (StandsAs below minimum new (with_frontier i ts s)) (StandsAs below minimum new s) r
     frontier_answered i ts within done accepted refused looks =
         let Accepted = StandsAs below minimum new (with_frontier i ts s) in
         let Stays = StandsAs below minimum new s in
         subst (λ (o : Option Refusal). IsTold o Accepted Stays r) (same_frontier_refusal p (state_found below minimum new) s i ts (some_step (Advance old.number i ts) done looks))
         (answered (advance_refusal_in below (state_found below minimum new) i ts) Accepted Stays r
-        (on_ok_weaker r (λ adds. after_advanced old new old.number i ts s within (client_step old new (Advance old.number i ts) number one actor adds) a) done) accepted
-        (refused_by (advance_refusal_in below (state_found below minimum new) i ts) r refused) (unchanged looks))
+        (on_ok_weaker r (λ adds. after_advanced old new old.number i ts s within (client_step old new (Advance old.number i ts) number one actor adds) a) done) accepted refused (unchanged looks))
 
   -- ---- before the first command
 

@@ -6,7 +6,10 @@
 //! changes inputs, so whatever others did since its last event, the changes, the inputs' frontiers
 //! and the sinces are as it left them. Once it has found the board quiet, the board stays so until
 //! it acts. So the worker does not occur in what a question's answer rests on.
-ghost use Rattle.std.specs.Prelude.{◌≡◌, ◌++◌, ◌∷◌, [], true, Some, IfErr, IfOk, OnOk, length};
+ghost use Rattle.std.specs.Prelude.{◌≡◌, ◌++◌, ◌∷◌, ℕ, [], true, Some, IfErr, IfOk, OnOk, length, slice_get};
+ghost use Rattle.hub.specs.Known.{Known};
+ghost use Rattle.lattice.specs.declared.product.Pair.{Pair};
+ghost use Rattle.shared_board.specs.declared.event.Doing.{Doing};
 ghost use Rattle.update.specs.declared.refusal.Refusal.TheVariants.{OutOfMemory};
 ghost use Rattle.histories.specs.Histories.Readings.{IsQuiet};
 ghost use Rattle.worker.specs.Found.{dataflow_of};
@@ -20,13 +23,13 @@ ghost use Rattle.script.specs.Bounds.{EndsByBound, IsLarge};
 use crate::engine::{CatchUp, Engine};
 use crate::sole_worker::SoleWorker;
 use antichain::Antichain;
-use lattice::Bitime;
+use lattice::{Bitime, Minimum};
 use plan::{NodeId, Plan};
 use std::alloc::Global;
 use std::marker::Model;
 use std::sync::Wait;
 use update::{Bag, Refusal, Times, Update, Updates};
-use worker::{Actor, BitemporalBoards, open};
+use worker::{Actor, BitemporalBoards, BoardProtocol, open};
 
 pub(crate) type BoardActor = Actor<Bitime, BitemporalBoards>;
 
@@ -66,7 +69,46 @@ impl<'a, R: Wait> BoardEngine<'a, R> {
             StandsAs bitime_below (make_pair 0 0) engine (opening_session plan.now)) }
         ensures refused { IfErr result (λ refusal. refusal ≡ OutOfMemory) }
     {
-        let (actor, client) = pair_of_actors(runtime, alloc, plan)?;
+        let mut actors: Vec<BoardActor> = Vec::new(alloc);
+        open_into(runtime, alloc, plan, &mut actors)?;
+        BoardEngine::of_actors(runtime, alloc, plan, actors)
+    }
+
+    // The engine of the actors of a new board, the worker first.
+    fn of_actors(
+        runtime: &'a R,
+        alloc: Global,
+        plan: &Plan,
+        mut actors: Vec<BoardActor>,
+    ) -> Result<BoardEngine<'a, R>, Refusal>
+        requires count { length actors.items ≡ 2 }
+        requires each { (k : ℕ) (a : Known (Doing (Pair ℕ ℕ))) → slice_get actors.items k ≡ Some a
+            → IsFirst (terms_for plan.now 1 1) k a }
+        ensures plan { IfOk result (λ engine. (dataflow_of engine).nodes ≡ plan.now) }
+        ensures stands { IfOk result (λ engine.
+            StandsAs bitime_below (make_pair 0 0) engine (opening_session plan.now)) }
+        ensures refused { IfErr result (λ refusal. refusal ≡ OutOfMemory) }
+    {
+        let client = actors.pop().unwrap();
+        let actor = actors.pop().unwrap();
+        BoardEngine::of_pair(runtime, alloc, plan, actor, client)
+    }
+
+    // The engine of a worker and a client that have looked once.
+    fn of_pair(
+        runtime: &'a R,
+        alloc: Global,
+        plan: &Plan,
+        actor: BoardActor,
+        client: BoardActor,
+    ) -> Result<BoardEngine<'a, R>, Refusal>
+        requires worker { IsFirst (terms_for plan.now 1 1) 0 actor }
+        requires client { IsFirst (terms_for plan.now 1 1) 1 client }
+        ensures plan { IfOk result (λ engine. (dataflow_of engine).nodes ≡ plan.now) }
+        ensures stands { IfOk result (λ engine.
+            StandsAs bitime_below (make_pair 0 0) engine (opening_session plan.now)) }
+        ensures refused { IfErr result (λ refusal. refusal ≡ OutOfMemory) }
+    {
         let worker = SoleWorker::new(runtime, alloc, plan, actor)?;
         client.known();
         Ok(BoardEngine {
@@ -103,20 +145,22 @@ impl<'a, R: Wait> BoardEngine<'a, R> {
     }
 }
 
-// The worker and the client of a new board.
-fn pair_of_actors<R: Wait>(
+// Puts the worker and the client of a new board into a list. The borrow checker does not cover a
+// function that answers a list of actors at bitemporal times, for too many generic types lie in a
+// board. It covers one at any times.
+fn open_into<T: Minimum, P: BoardProtocol<T>, R: Wait>(
     runtime: &R,
     alloc: Global,
     plan: &Plan,
-) -> Result<(BoardActor, BoardActor), Refusal>
-    ensures worker { IfOk result (λ both. IsFirst (terms_for plan.now 1 1) 0 both.0) }
-    ensures client { IfOk result (λ both. IsFirst (terms_for plan.now 1 1) 1 both.1) }
+    actors: &mut Vec<Actor<T, P>>,
+) -> Result<(), Refusal>
+    ensures count { OnOk result (length actors.new.items ≡ 2) }
+    ensures each { OnOk result ((k : ℕ) (a : Known (Doing T)) → slice_get actors.new.items k ≡ Some a
+        → IsFirst (terms_for plan.now 1 1) k a) }
     ensures refused { IfErr result (λ refusal. refusal ≡ OutOfMemory) }
 {
-    let mut actors: Vec<BoardActor> = open(runtime, alloc, plan, 1, 1)?;
-    let client = actors.pop().unwrap();
-    let worker = actors.pop().unwrap();
-    Ok((worker, client))
+    *actors = open(runtime, alloc, plan, 1, 1)?;
+    Ok(())
 }
 
 impl<'a, R: Wait> Engine for BoardEngine<'a, R> {

@@ -23,9 +23,10 @@ ghost use Rattle.shared_board.specs.Found.{AreDifferencesFound, IsChangesRefusal
 ghost use Rattle.shared_board.specs.Large.{HasNoSmallBound};
 ghost use Rattle.shared_board.specs.Tenures.{Adds, IsActor, IsFirst, WaitsOrNotIn, terms_for, terms_in, state_found, state_left, advance_refusal_in, allow_refusal_in};
 
+use crate::event::Doing;
 use crate::protocol::BoardProtocol;
 use antichain::Antichain;
-use hub::{Hub, Pass};
+use hub::{Hub, Pass, Protocol};
 use lattice::Minimum;
 use machine::{Bundle, CutEmission, Ungiven};
 use plan::{NodeId, Plan};
@@ -36,7 +37,7 @@ use update::{Bag, Refusal, Times, Update};
 
 /// An actor: a worker or a client, with its pass. A contract sees what its pass has seen.
 #[derive(Drop)]
-pub struct Actor<T: Minimum, P: BoardProtocol<T>> {
+pub struct Actor<T: Minimum, P: Protocol<Event = Doing<T>>> {
     number: usize,
     hub: Arc<Hub<P>, Global>,
     // Always there between two calls.
@@ -46,7 +47,7 @@ pub struct Actor<T: Minimum, P: BoardProtocol<T>> {
     of: PhantomData<T>,
 }
 
-impl<T: Minimum, P: BoardProtocol<T>> Model for Actor<T, P> {
+impl<T: Minimum, P: Protocol<Event = Doing<T>>> Model for Actor<T, P> {
     ghost use Rattle.std.specs.Prelude.{◌≡◌, ℕ, [], IsSomeAnd, length, Some};
     ghost use Rattle.std.specs.Arc.{arc_value};
     ghost use Rattle.std.specs.Option.{unwrap_or};
@@ -148,7 +149,7 @@ impl<T: Minimum, P: BoardProtocol<T>> Actor<T, P> {
     }
 
     /// A client moves an input's frontier forward. Refused as `Board::advance` says; then the event
-    /// is a look. Takes no memory.
+    /// is a look.
     pub fn advance<R: Wait>(
         &mut self,
         rt: &R,
@@ -162,9 +163,8 @@ impl<T: Minimum, P: BoardProtocol<T>> Actor<T, P> {
         ensures unchanged { OnErr result (Adds self.old (Look self.old.number) self.new) }
         ensures accepted { OnOk result
             (advance_refusal_in T.below (state_found T.below T.least self.new) input times ≡ None) }
-        ensures refused { IfErr result (λ refusal.
-            advance_refusal_in T.below (state_found T.below T.least self.new) input times
-            ≡ Some refusal) }
+        ensures refused { IfErr result (IsRefusalBy
+            (advance_refusal_in T.below (state_found T.below T.least self.new) input times)) }
     {
         let Some(pass) = self.pass.take() else {
             unreachable!()
@@ -287,7 +287,7 @@ impl<T: Minimum, P: BoardProtocol<T>> Actor<T, P> {
         answer
     }
 
-    /// Whether the board is quiet. Takes no memory.
+    /// Whether the board is quiet. Never refused.
     ///
     /// Cost: linear in the nodes times the workers, and that of `Board::input_has_passed` for each
     /// held time.

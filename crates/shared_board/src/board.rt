@@ -162,7 +162,7 @@ impl<T: Minimum> SharedBoard<T> {
     }
 
     /// A client moves an input's frontier forward. Refused as [`Board::advance`] says; then the
-    /// event is a look. Takes no memory.
+    /// event is a look.
     pub fn advance(&mut self, client: usize, input: NodeId, times: Times<T>) -> Result<(), Refusal>
         requires client { self.old.board.dataflow.workers ≤ client }
         requires actor { client < self.old.actors }
@@ -180,8 +180,8 @@ impl<T: Minimum> SharedBoard<T> {
             (left_by T.below T.least self.old.board.dataflow es) input times ≡ None) }
         ensures refused { (es : List (Entry (Doing T)))
             → StandsFor T.below T.least T.cmp self.old es
-            → IfErr result (λ refusal. advance_refusal_in T.below
-            (left_by T.below T.least self.old.board.dataflow es) input times ≡ Some refusal) }
+            → IfErr result (IsRefusalBy (advance_refusal_in T.below
+            (left_by T.below T.least self.old.board.dataflow es) input times)) }
     {
         self.board.advance(client, input, times)
     }
@@ -308,7 +308,7 @@ impl<T: Minimum> SharedBoard<T> {
         found
     }
 
-    /// Whether the board is quiet. The event is a look. Takes no memory. Cost: that of
+    /// Whether the board is quiet. The event is a look. Never refused. Cost: that of
     /// [`Board::is_quiet`].
     pub fn is_quiet(&mut self, actor: usize) -> bool
         ensures terms { terms_of_board self.new ≡ terms_of_board self.old }

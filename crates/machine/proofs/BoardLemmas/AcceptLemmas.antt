@@ -7,10 +7,12 @@ use Rattle.update.specs.declared.refusal.Refusal.{Refusal}
 use Rattle.update.specs.declared.refusal.Refusal.TheVariants.{OutOfMemory}
 use Rattle.update.specs.Refusals.{IsRefusalBy}
 use Rattle.histories.specs.declared.event.Bundle.{Bundle}
+use Rattle.histories.specs.declared.event.Emission.{Emission}
 use Rattle.histories.specs.declared.event.Fed.{Fed}
 use Rattle.histories.specs.declared.event.Site.{Site}
-use Rattle.outstanding.specs.Loads.{Load, Lot, with_load_at, without_load_at, with_lot, put_at, put_all, taken_from, held_from}
+use Rattle.outstanding.specs.Loads.{Load, Lot, with_load_at, without_load_at, with_lot, put_at, put_all, taken_from}
 use Rattle.views.specs.Views.{ViewState}
+use Rattle.accounts.specs.Accounts.{AccountState, with_stations, after_giving}
 use Rattle.machine.specs.Boards.{BoardState, IsBoard, put_change, accept_change}
 use Rattle.outstanding.proofs.PlacingLemmas.{as_many, as_wide, many_put_all, wide_put_all}
 
@@ -47,6 +49,13 @@ one_accepted {T} b sent e f k t put s c =
 pub board_accepting : {T : Type 0} (b : BoardState T) (k t : ℕ) → IsBoard b → IsBoard (record b { accepted = set b.accepted k t })
 board_accepting b k t is = record { dataflow = is.dataflow; stations = is.stations; rows = is.rows; hand = is.hand; accepted = length-set b.accepted k t ∙ is.accepted; views = is.views; inputs = is.inputs }
 
+-- a board's accounts, and the board with other accounts
+abbrev pub accounts_of : {T : Type 0} → BoardState T → AccountState T
+accounts_of b = record { nodes = b.dataflow.nodes; stations = b.stations; inputs = b.inputs }
+
+abbrev pub with_accounts : {T : Type 0} → BoardState T → AccountState T → BoardState T
+with_accounts b a = record b { dataflow = record { nodes = a.nodes; workers = b.dataflow.workers }; stations = a.stations; inputs = a.inputs }
+
 module _ {T : Type 0} (b : BoardState T) (is : IsBoard b) where
   -- stations with as many nodes and workers as before keep the invariant of boards
   pub board_lots : (stations : List (List (Lot T))) → length stations ≡ length b.stations → ((m : ℕ) → length (get_or stations m []) ≡ length (get_or b.stations m [])) → IsBoard (record b { stations = stations })
@@ -56,35 +65,43 @@ module _ {T : Type 0} (b : BoardState T) (is : IsBoard b) where
   pub board_changed : (n k : ℕ) (change : Lot T → Lot T) → IsBoard (record b { stations = with_lot n k change b.stations })
   board_changed n k change = board_lots (with_lot n k change b.stations) (as_many b.stations n k change) (as_wide b.stations n k change)
 
-  -- after all of a give was put, the board is still a board
-  pub board_gave : (bundles : List (Bundle T)) (n k : ℕ) (ts : List T) (before mid after : List (List (Lot T))) → before ≡ b.stations → mid ≡ put_all bundles before → after ≡ held_from n k ts mid
-      → (worker : ℕ) (views : List (ViewState T)) → length views ≡ length b.views → IsBoard (record b { stations = after; hand = set b.hand worker None; views = views })
-  board_gave bundles n k ts before mid after e f g worker views long =
-      let were : length mid ≡ length b.stations = ap length f ∙ (many_put_all bundles before ∙ ap length e) in
-      let many : length after ≡ length b.stations = ap length g ∙ (as_many mid n k (λ lot. record lot { held = ts }) ∙ were) in
-      record {
+  -- whether or not a change was put at its place, the board is still a board
+  pub board_sent : {A E : Type 0} (r : Result A E) (a : AccountState T) (site : Site) (load : Load T) → OnOk r (a ≡ with_stations (accounts_of b) (put_at site load b.stations)) → OnErr r (a ≡ accounts_of b) → IsBoard (with_accounts b a)
+  board_sent (Ok x) a site load e f = subst (λ (z : AccountState T). IsBoard (with_accounts b z)) (sym e) (board_changed site.node site.worker (with_load_at site.port load))
+  board_sent (Err x) a site load e f = subst (λ (z : AccountState T). IsBoard (with_accounts b z)) (sym f) is
+
+  -- whether or not a bundle was taken, the board is still a board
+  pub board_taken : {E : Type 0} (r : Result (Bundle T) E) (a : AccountState T) (number : ℕ) → IfOk r (λ x. a ≡ with_stations (accounts_of b) (taken_from number x b.stations)) → OnErr r (a ≡ accounts_of b) → IsBoard (with_accounts b a)
+  board_taken (Ok x) a number e f = subst (λ (z : AccountState T). IsBoard (with_accounts b z)) (sym e) (board_changed x.place.node x.place.worker (without_load_at x.place.port number x.stamp))
+  board_taken (Err x) a number e f = subst (λ (z : AccountState T). IsBoard (with_accounts b z)) (sym f) is
+
+  -- an input's frontier that has moved keeps the invariant of boards
+  pub board_moved : (i : ℕ) (ts : List T) (a : AccountState T) → a ≡ record (accounts_of b) { inputs = set b.inputs i ts } → IsBoard (with_accounts b a)
+  board_moved i ts a e = subst (λ (z : AccountState T). IsBoard (with_accounts b z)) (sym e) (record { dataflow = is.dataflow; stations = is.stations; rows = is.rows; hand = is.hand; accepted = is.accepted; views = is.views; inputs = length-set b.inputs i ts ∙ is.inputs })
+
+  -- whether or not an input's frontier has moved, the board is still a board
+  pub board_advanced : {A E : Type 0} (r : Result A E) (i : ℕ) (ts : List T) (a : AccountState T) → OnOk r (a ≡ record (accounts_of b) { inputs = set b.inputs i ts }) → OnErr r (a ≡ accounts_of b) → IsBoard (with_accounts b a)
+  board_advanced (Ok x) i ts a e f = board_moved i ts a e
+  board_advanced (Err x) i ts a e f = subst (λ (z : AccountState T). IsBoard (with_accounts b z)) (sym f) is
+
+  -- whether or not a worker's output was passed on, the board is still a board
+  pub board_passed : {A E : Type 0} (r : Result A E) (g : Emission T) (ts : List T) (sent : List (Bundle T)) (a : AccountState T) (views : List (ViewState T)) → OnOk r (a ≡ after_giving g ts sent (accounts_of b)) → OnErr r (a ≡ accounts_of b) → length views ≡ length b.views
+      → IsBoard (record (with_accounts b a) { views = views })
+  board_passed (Err x) g ts sent a views e f long =
+      subst (λ (z : AccountState T). IsBoard (record (with_accounts b z) { views = views })) (sym f) (record { dataflow = is.dataflow; stations = is.stations; rows = is.rows; hand = is.hand; accepted = is.accepted; views = long ∙ is.views; inputs = is.inputs })
+  board_passed (Ok x) g ts sent a views e f long =
+      let put = put_all sent b.stations in
+      let change : Lot T → Lot T = λ lot. record lot { held = ts } in
+      subst (λ (z : AccountState T). IsBoard (record (with_accounts b z) { views = views })) (sym e) (record {
         dataflow = is.dataflow;
-        stations = many ∙ is.stations;
-        rows = λ m l. wide m ∙ is.rows m l;
-        hand = length-set b.hand worker None ∙ is.hand;
+        stations = as_many put g.node g.worker change ∙ (many_put_all sent b.stations ∙ is.stations);
+        rows = λ m l. as_wide put g.node g.worker change m ∙ (wide_put_all sent b.stations m ∙ is.rows m l);
+        hand = is.hand;
         accepted = is.accepted;
         views = long ∙ is.views;
         inputs = is.inputs;
-      }
-    where
-      wide : (m : ℕ) → length (get_or after m []) ≡ length (get_or b.stations m [])
-      wide m =
-          ap (λ stations. length (get_or stations m [])) g
-          ∙ (as_wide mid n k (λ lot. record lot { held = ts }) m
-          ∙ (ap (λ stations. length (get_or stations m [])) f
-          ∙ (wide_put_all bundles before m ∙ ap (λ stations. length (get_or stations m [])) e)))
+      })
 
-  -- whether or not a change was put at its place, the board is still a board
-  pub board_sent : {A E : Type 0} (r : Result A E) (after : List (List (Lot T))) (site : Site) (load : Load T) → OnOk r (after ≡ put_at site load b.stations) → OnErr r (after ≡ b.stations) → IsBoard (record b { stations = after })
-  board_sent (Ok x) after site load e f = subst (λ stations. IsBoard (record b { stations = stations })) (sym e) (board_changed site.node site.worker (with_load_at site.port load))
-  board_sent (Err x) after site load e f = subst (λ stations. IsBoard (record b { stations = stations })) (sym f) is
-
-  -- whether or not a bundle was taken, the board is still a board
-  pub board_taken : {E : Type 0} (r : Result (Bundle T) E) (after : List (List (Lot T))) (number : ℕ) → IfOk r (λ x. after ≡ taken_from number x b.stations) → OnErr r (after ≡ b.stations) → IsBoard (record b { stations = after })
-  board_taken (Ok x) after number e f = subst (λ stations. IsBoard (record b { stations = stations })) (sym e) (board_changed x.place.node x.place.worker (without_load_at x.place.port number x.stamp))
-  board_taken (Err x) after number e f = subst (λ stations. IsBoard (record b { stations = stations })) (sym f) is
+-- a place at which a board has stations
+pub staffed_there : {T : Type 0} (b : BoardState T) → IsBoard b → (n k : ℕ) → n < length b.dataflow.nodes → k < b.dataflow.workers → (n < length b.stations) × (k < length (get_or b.stations n []))
+staffed_there b is n k l m = (subst (λ z. n < z) (sym is.stations) l, subst (λ z. k < z) (sym (is.rows n l)) m)

@@ -4,7 +4,7 @@ use Rattle.std.proofs.Common.{◌≡◌, ⊎_elim, ℕ, ◌<◌, ◌≤◌, Bool
 use Rattle.std.proofs.lemmas.Bool.{eqb-true, eq-eqb, false≢true, true≢false, or_cases, or_left, or_right}
 use Rattle.std.specs.Prelude.{IsTrue}
 use Rattle.lattice.specs.Order.{PartialOrderLaws}
-use Rattle.lattice.specs.Frontiers.{is_beyond, all_beyond}
+use Rattle.lattice.specs.Frontiers.{all_beyond}
 use Rattle.lattice.proofs.FrontierLemmas.{beyond_later}
 use Rattle.update.specs.declared.change.Update.{Update}
 use Rattle.update.specs.declared.refusal.Refusal.TheVariants.{NotForward}
@@ -14,7 +14,7 @@ use Rattle.histories.specs.declared.event.Event.{Event}
 use Rattle.histories.specs.declared.event.Event.TheVariants.{Allow}
 use Rattle.histories.specs.Histories.Dataflows.{node_of}
 use Rattle.histories.specs.Histories.States.{State, emitted_at}
-use Rattle.histories.specs.Histories.{state_after, with_at}
+use Rattle.histories.specs.Histories.{state_after}
 use Rattle.histories.specs.Histories.Readings.{is_from_start}
 use Rattle.views.specs.Views.{ViewState}
 use Rattle.machine.specs.Boards.{BoardState, IsBoard, IsKeptOf, Stands, after_allow, allow_refusal, no_view}

@@ -1,37 +1,17 @@
 -- Cutting an emission: the list that the last bundle has, the stamp of a list, and the bundles along
 -- the last edge behind those along the others.
-use Rattle.std.proofs.Common.{◌≡◌, ℕ, zero, suc, ◌<◌, ◌≤◌, Bool, true, List, [], ◌∷◌, ◌++◌, length, take, drop, get_or, slice_get, IsSomeAnd, Result, Ok, Err, sym, refl, ap, ◌∙◌, subst, append-nil, append_assoc, arith}
+use Rattle.std.proofs.Common.{◌≡◌, ℕ, zero, suc, ◌<◌, ◌≤◌, true, List, [], ◌∷◌, ◌++◌, length, take, get_or, Result, Ok, Err, sym, refl, ap, ◌∙◌, subst, append-nil, append_assoc, arith}
 use Rattle.std.specs.Prelude.{IfOk}
 use Rattle.std.specs.List.{flat_map}
-use Rattle.update.specs.declared.change.Update.{Update}
 use Rattle.plan.specs.Edges.{edges_from, leads_from}
 use Rattle.plan.specs.declared.edges.Edge.{Edge}
 use Rattle.plan.specs.declared.node.Node.{Node}
-use Rattle.histories.specs.declared.event.Bundle.{Bundle}
-use Rattle.histories.specs.Histories.States.{times}
-use Rattle.histories.specs.Histories.Outstanding.{with_time, with_times}
-use Rattle.machine.specs.Boards.CutEmissions.{last_updates}
 use Rattle.machine.proofs.BoardLemmas.RoutingLemmas.{leading}
 
 -- what follows from a fact of an answer is a fact of the answer
 pub if_ok : {T E : Type 0} (r : Result T E) (P Q : T → Type 0) → ((x : T) → P x → Q x) → IfOk r P → IfOk r Q
 if_ok (Ok x) P Q f h = f x h
 if_ok (Err e) P Q f h = tt
-
-module _ {T : Type 0} where
-  -- the bundle that was pushed last has the updates
-  pub last_pushed : (bs : List (Bundle T)) (b : Bundle T) → last_updates (bs ++ b ∷ []) ≡ b.updates
-  last_pushed [] b = refl
-  last_pushed (c ∷ []) b = refl
-  last_pushed (c ∷ (d ∷ bs)) b = last_pushed (d ∷ bs) b
-
-  -- the bundle that is read at the last place has the updates
-  pub last_read : (bs : List (Bundle T)) (n : ℕ) (b : Bundle T) → suc n ≡ length bs → b ≡ get_or bs n b → last_updates bs ≡ b.updates
-  last_read [] n b l e = absurd (omega (arith, l))
-  last_read (c ∷ []) zero b l e = ap (λ (x : Bundle T). x.updates) (sym e)
-  last_read (c ∷ []) (suc n) b l e = absurd (omega (arith, l))
-  last_read (c ∷ (d ∷ bs)) zero b l e = absurd (omega (arith, l))
-  last_read (c ∷ (d ∷ bs)) (suc n) b l e = last_read (d ∷ bs) n b (omega (arith, l)) e
 
 -- the edges among the first ones lead from the node, too
 pub leading_first : (nodes : List Node) (n count i : ℕ) (edge : Edge) (edges : List Edge) → edges ≡ take count (edges_from nodes n) → count ≤ length (edges_from nodes n) → i < length edges → edge ≡ get_or edges i edge → leads_from nodes n edge ≡ true

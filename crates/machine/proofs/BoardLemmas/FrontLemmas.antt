@@ -1,7 +1,7 @@
--- What is found on a board from scratch is what the definitions say of each history that the board
--- may stand for. So frontiers need no bookkeeping, and cannot be out of date.
-use Rattle.std.proofs.Common.{◌≡◌, ℕ, zero, suc, ◌<◌, Bool, true, false, cond, not, ◌&&◌, ◌||◌, List, [], ◌∷◌, ◌++◌, length, get_or, sym, refl, ap, ap₂, ◌∙◌, subst, Option, Some, None, arith, append_assoc, nat_lt, inl, inr}
-use Rattle.std.specs.List.{flat_map, list_any, list_all}
+-- The frontiers of what lies on a board are what the definitions say of each history that the board
+-- may stand for.
+use Rattle.std.proofs.Common.{◌≡◌, ℕ, zero, suc, ◌<◌, Bool, true, false, cond, not, ◌&&◌, ◌||◌, List, [], ◌∷◌, ◌++◌, length, get_or, sym, refl, ap, ap₂, ◌∙◌, subst, Option, Some, None, arith, nat_lt, inl, inr}
+use Rattle.std.specs.List.{list_any, list_all}
 use Rattle.std.specs.Result.{IfOk}
 use Rattle.std.specs.Prelude.{Result, Ok, Err}
 use Rattle.std.proofs.lemmas.Bool.{and_parts, and_from, false≢true, true≢false}
@@ -9,7 +9,7 @@ use Rattle.std.proofs.lemmas.Bool.Decides.{nat_tests}
 use Rattle.std.proofs.lemmas.List.Folds.{list_any-append}
 use Rattle.lattice.specs.Order.{PartialOrderLaws}
 use Rattle.lattice.specs.Frontiers.{is_beyond}
-use Rattle.antichain.specs.Antichains.{least, SameElements}
+use Rattle.antichain.specs.Antichains.{SameElements}
 use Rattle.antichain.proofs.InsertionLemmas.{least_beyond}
 use Rattle.antichain.proofs.Lists.{Among, contains_among, all_at, all_from}
 use Rattle.plan.specs.Changes.{has_passed}
@@ -17,7 +17,7 @@ use Rattle.histories.specs.declared.event.Bundle.{Bundle}
 use Rattle.histories.specs.declared.event.HeldTime.{HeldTime}
 use Rattle.histories.specs.declared.event.OpenTime.{OpenTime}
 use Rattle.histories.specs.declared.event.Event.{Event}
-use Rattle.histories.specs.Histories.Dataflows.{Dataflow, upstream}
+use Rattle.histories.specs.Histories.Dataflows.{upstream}
 use Rattle.histories.specs.Histories.States.{State, queue, held_at}
 use Rattle.progress.specs.Tallies.{is_upstream, is_input_upstream, times_where}
 use Rattle.progress.proofs.FrontierLemmas.{same_least}
@@ -28,11 +28,10 @@ use Rattle.histories.specs.Histories.Promises.{IsInPlace}
 use Rattle.histories.specs.Histories.Readings.{IsQuiet}
 use Rattle.machine.specs.Boards.{BoardState, IsBoard, Stands}
 use Rattle.machine.specs.Boards.Reads.{on_board, open_on, front, input_front, is_ready, hands_are_free, is_quiet_board}
-use Rattle.outstanding.specs.Loads.{Lot, is_none, lot_of, all_bundles, all_held, stamps_at, times_at}
-use Rattle.outstanding.proofs.LotLemmas.{any_flat, all_held_all, all_queued, all_held_at, stamps_spread, held_spread}
-use Rattle.histories.proofs.HistoryLemmas.OutstandingLemmas.{held_where, open_where, counted_times, outstanding_is, input_outstanding_is, beyond_frontier, beyond_input_frontier}
-use Rattle.outstanding.proofs.OpenLemmas.{open_on_at, where_spread}
-use Rattle.outstanding.specs.Inputs.{front_at}
+use Rattle.outstanding.specs.Loads.{is_none, lot_of, all_bundles, all_held}
+use Rattle.outstanding.proofs.LotLemmas.{all_held_all, all_queued, all_held_at}
+use Rattle.histories.proofs.HistoryLemmas.OutstandingLemmas.{held_where, open_where, counted_times, beyond_frontier, beyond_input_frontier}
+use Rattle.outstanding.proofs.OpenLemmas.{open_on_at}
 use Rattle.plan.specs.Ancestors.{numbers_below}
 use Rattle.outstanding.proofs.SiteLemmas.{AreQueued, AreHeld, AreOpen, any_among, queued_any, none_queued, held_any_like, held_all_like, open_any_like}
 
@@ -71,32 +70,6 @@ module _ {T : Type 0} (below : T → T → Bool) (o : PartialOrderLaws below) wh
       step true = or_nothing (below x.time t)
       step false = refl
 
-  -- a question about what waits or is held may be asked node by node
-  one_node : (c : Bool) (xs : List T) (t : T) → is_beyond below (cond c xs []) t ≡ (c && is_beyond below xs t)
-  one_node true xs t = refl
-  one_node false xs t = refl
-
-  by_node : (test : ℕ → Bool) (f : ℕ → List T) (t : T) (n : ℕ) → list_any (λ m. test m && is_beyond below (f m) t) (numbers_below n) ≡ is_beyond below (flat_map (λ m. cond (test m) (f m) []) (numbers_below n)) t
-  by_node test f t n =
-      ap (λ (g : ℕ → Bool). list_any g (numbers_below n)) (λ i m. sym (one_node (test m) (f m) t) i)
-      ∙ sym (any_flat (λ u. below u t) (λ m. cond (test m) (f m) []) (numbers_below n))
-
-  -- asking node by node finds what is in flight
-  pub in_flight_found : (test : ℕ → Bool) (t : T) (stations : List (List (Lot T))) (n : ℕ) → length stations ≡ n
-      → list_any (λ m. test m && is_beyond below (stamps_at stations m) t) (numbers_below n) ≡ list_any (λ b. test b.place.node && is_beyond below b.stamp t) (all_bundles stations)
-  in_flight_found test t stations n e =
-      by_node test (stamps_at stations) t n
-      ∙ (ap (λ ts. is_beyond below ts t) (ap (λ k. flat_map (λ m. cond (test m) (stamps_at stations m) []) (numbers_below k)) (sym e) ∙ sym (stamps_spread test stations))
-      ∙ stamps_any test t (all_bundles stations))
-
-  -- asking node by node finds what is held
-  pub held_found : (test : ℕ → Bool) (t : T) (stations : List (List (Lot T))) (n : ℕ) → length stations ≡ n
-      → list_any (λ m. test m && is_beyond below (times_at stations m) t) (numbers_below n) ≡ list_any (λ m. test m.node && below m.time t) (all_held stations)
-  held_found test t stations n e =
-      by_node test (times_at stations) t n
-      ∙ (ap (λ ts. is_beyond below ts t) (ap (λ k. flat_map (λ m. cond (test m) (times_at stations m) []) (numbers_below k)) (sym e) ∙ sym (held_spread test stations))
-      ∙ held_any test t (all_held stations))
-
   counted_any : (w : State T) (there holds : ℕ → Bool) (t : T) → is_beyond below (counted_times w there holds) t
       ≡ (list_any (λ b. there b.place.node && is_beyond below b.stamp t) w.in_flight || (list_any (λ m. holds m.node && below m.time t) w.held || list_any (λ x. there x.input && below x.time t) w.open_times))
   counted_any w there holds t =
@@ -111,87 +84,6 @@ module _ {T : Type 0} (below : T → T → Bool) (o : PartialOrderLaws below) wh
       ∙ (ap₂ (λ x y. x || y) (queued_any (λ b. there b.place.node && is_beyond below b.stamp t) v.in_flight w.in_flight queued)
       (ap₂ (λ x y. x || y) (held_any_like (λ n u. holds n && below u t) v.held w.held held) (open_any_like (λ i u. there i && below u t) v.open_times w.open_times opened))
       ∙ sym (counted_any w there holds t))
-
-  or_thrice : (a b c : Bool) → ((a || b) || c) ≡ (a || (b || c))
-  or_thrice true b c = refl
-  or_thrice false b c = refl
-
-  -- three tests tell whether all that counts has passed a time
-  none_found : (w : State T) (there holds : ℕ → Bool) (t : T) (a b c : Bool)
-      → a ≡ list_any (λ b. there b.place.node && is_beyond below b.stamp t) w.in_flight → b ≡ list_any (λ m. holds m.node && below m.time t) w.held → c ≡ list_any (λ x. there x.input && below x.time t) w.open_times
-      → not ((a || b) || c) ≡ has_passed below (counted_times w there holds) t
-  none_found w there holds t a b c e f g =
-      ap not (or_thrice a b c ∙ ap₂ (λ x y. x || y) e (ap₂ (λ x y. x || y) f g) ∙ sym (counted_any w there holds t))
-
-  -- the three parts that were collected, one after another, are all times that count for a node, if
-  -- held times count at the nodes that pass a test
-  collected : (b : BoardState T) {v : BoardState T} → v ≡ b → IsBoard v → (n : ℕ) (holds : Dataflow → ℕ → Bool) (none flight some all : List T) → none ≡ []
-      → flight ≡ none ++ flat_map (λ m. cond (upstream v.dataflow n m) (stamps_at v.stations m) []) (numbers_below (length v.dataflow.nodes))
-      → some ≡ flight ++ flat_map (λ m. cond (holds v.dataflow m) (times_at v.stations m) []) (numbers_below (length v.dataflow.nodes))
-      → all ≡ some ++ flat_map (λ i. cond (upstream v.dataflow n i) (front_at i v.inputs) []) (numbers_below (length v.dataflow.nodes))
-      → all ≡ counted_times (on_board b) (upstream b.dataflow n) (holds b.dataflow)
-  collected b {v} e is n holds none flight some all x f s a =
-      let waiting = f ∙ (ap (λ ts. ts ++ flat_map (λ m. cond (upstream v.dataflow n m) (stamps_at v.stations m) []) (numbers_below (length v.dataflow.nodes))) x
-      ∙ (ap (λ k. flat_map (λ m. cond (upstream v.dataflow n m) (stamps_at v.stations m) []) (numbers_below k)) (sym is.stations) ∙ sym (stamps_spread (upstream v.dataflow n) v.stations))) in
-      let holding = ap (λ k. flat_map (λ m. cond (holds v.dataflow m) (times_at v.stations m) []) (numbers_below k)) (sym is.stations) ∙ sym (held_spread (holds v.dataflow) v.stations) in
-      a
-      ∙ (ap₂ (λ ts us. ts ++ us) (s ∙ ap₂ (λ ts us. ts ++ us) waiting holding) (sym (where_spread (upstream v.dataflow n) (λ i. front_at i v.inputs) (length v.dataflow.nodes)))
-      ∙ (append_assoc (stamps (λ site. upstream v.dataflow n site.node) (all_bundles v.stations)) (held_where (holds v.dataflow) (all_held v.stations)) (open_where (upstream v.dataflow n) (open_on v))
-      ∙ ap (λ (w : BoardState T). counted_times (on_board w) (upstream w.dataflow n) (holds w.dataflow)) e))
-
-  -- what a frontier counts on the board
-  abbrev counted : BoardState T → ℕ → List T
-  counted b n = times_where (is_upstream b.dataflow.nodes n) (items_of (on_board b))
-
-  pub all_collected : (b : BoardState T) {v : BoardState T} → v ≡ b → IsBoard v → (n : ℕ) (none flight some all : List T) → none ≡ []
-      → flight ≡ none ++ flat_map (λ m. cond (upstream v.dataflow n m) (stamps_at v.stations m) []) (numbers_below (length v.dataflow.nodes))
-      → some ≡ flight ++ flat_map (λ m. cond (upstream v.dataflow n m) (times_at v.stations m) []) (numbers_below (length v.dataflow.nodes))
-      → all ≡ some ++ flat_map (λ i. cond (upstream v.dataflow n i) (front_at i v.inputs) []) (numbers_below (length v.dataflow.nodes))
-      → all ≡ counted b n
-  all_collected b e is n none flight some all x f s a = collected b e is n (λ p. upstream p n) none flight some all x f s a ∙ sym (outstanding_is b.dataflow (on_board b) n)
-
-  -- the least of the collected times are the node's frontier
-  pub front_found : (b : BoardState T) (n : ℕ) (all found : List T) → all ≡ counted b n → SameElements found (least below all) → SameElements found (front below b n)
-  front_found b n all found e same = subst (λ ts. SameElements found (least below ts)) e same
-
-  -- the same times are beyond the collected times' least and beyond the frontier
-  pub beyond_found : (b : BoardState T) (n : ℕ) (all found : List T) → all ≡ counted b n → ((t : T) → is_beyond below found t ≡ is_beyond below all t) → (t : T) → is_beyond below found t ≡ is_beyond below (front below b n) t
-  beyond_found b n all found e same t = same t ∙ (ap (λ ts. is_beyond below ts t) e ∙ sym (least_beyond o (counted b n) t))
-
-  -- three tests tell whether a frontier has passed a time
-  pub passed_found : (b : BoardState T) (n : ℕ) (t : T) (x y z : Bool)
-      → x ≡ list_any (λ q. upstream b.dataflow n q.place.node && is_beyond below q.stamp t) (all_bundles b.stations) → y ≡ list_any (λ m. upstream b.dataflow n m.node && below m.time t) (all_held b.stations)
-      → z ≡ list_any (λ i. upstream b.dataflow n i.input && below i.time t) (open_on b) → not ((x || y) || z) ≡ has_passed below (front below b n) t
-  passed_found b n t x y z e f g =
-      none_found (on_board b) (upstream b.dataflow n) (upstream b.dataflow n) t x y z e f g ∙ ap not (sym (beyond_frontier b.dataflow (on_board b) n below o t))
-
-  -- what an input frontier counts on the board
-  abbrev counted_above : BoardState T → ℕ → List T
-  counted_above b n = times_where (is_input_upstream b.dataflow.nodes n) (items_of (on_board b))
-
-  -- the three parts that were collected for an input frontier: as for a frontier, but without what
-  -- is held at the node itself
-  pub input_collected : (b : BoardState T) {v : BoardState T} → v ≡ b → IsBoard v → (n : ℕ) (none flight some all : List T) → none ≡ []
-      → flight ≡ none ++ flat_map (λ m. cond (upstream v.dataflow n m) (stamps_at v.stations m) []) (numbers_below (length v.dataflow.nodes))
-      → some ≡ flight ++ flat_map (λ m. cond (strictly_upstream v.dataflow n m) (times_at v.stations m) []) (numbers_below (length v.dataflow.nodes))
-      → all ≡ some ++ flat_map (λ i. cond (upstream v.dataflow n i) (front_at i v.inputs) []) (numbers_below (length v.dataflow.nodes))
-      → all ≡ counted_above b n
-  input_collected b e is n none flight some all x f s a = collected b e is n (λ p. strictly_upstream p n) none flight some all x f s a ∙ sym (input_outstanding_is b.dataflow (on_board b) n)
-
-  -- the least of the collected times are the node's input frontier
-  pub input_front_found : (b : BoardState T) (n : ℕ) (all found : List T) → all ≡ counted_above b n → SameElements found (least below all) → SameElements found (input_front below b n)
-  input_front_found b n all found e same = subst (λ ts. SameElements found (least below ts)) e same
-
-  -- the same times are beyond the collected times' least and beyond the frontier
-  pub input_beyond_found : (b : BoardState T) (n : ℕ) (all found : List T) → all ≡ counted_above b n → ((t : T) → is_beyond below found t ≡ is_beyond below all t) → (t : T) → is_beyond below found t ≡ is_beyond below (input_front below b n) t
-  input_beyond_found b n all found e same t = same t ∙ (ap (λ ts. is_beyond below ts t) e ∙ sym (least_beyond o (counted_above b n) t))
-
-  -- three tests tell whether an input frontier has passed a time
-  pub input_passed_found : (b : BoardState T) (n : ℕ) (t : T) (x y z : Bool)
-      → x ≡ list_any (λ q. upstream b.dataflow n q.place.node && is_beyond below q.stamp t) (all_bundles b.stations) → y ≡ list_any (λ m. strictly_upstream b.dataflow n m.node && below m.time t) (all_held b.stations)
-      → z ≡ list_any (λ i. upstream b.dataflow n i.input && below i.time t) (open_on b) → not ((x || y) || z) ≡ has_passed below (input_front below b n) t
-  input_passed_found b n t x y z e f g =
-      none_found (on_board b) (upstream b.dataflow n) (strictly_upstream b.dataflow n) t x y z e f g ∙ ap not (sym (beyond_input_frontier b.dataflow (on_board b) n below o t))
 
 -- what follows from a fact about an answer holds if the fact does
 pub on_ok : {A E : Type 0} (r : Result A E) (P Q : A → Type 0) → ((x : A) → P x → Q x) → IfOk r P → IfOk r Q
@@ -275,6 +167,19 @@ module _ {T : Type 0} (below : T → T → Bool) (o : PartialOrderLaws below) (m
   all_alike : {A : Type 0} (f g : A → Bool) (xs : List A) → ((x : A) → Among x xs → f x ≡ g x) → list_all f xs ≡ list_all g xs
   all_alike f g [] e = refl
   all_alike f g (x ∷ xs) e = ap₂ (λ a b. a && b) (e x (inl refl)) (all_alike f g xs (λ y m. e y (inr m)))
+
+  -- each time waits if none of them is passed
+  waiting : {A : Type 0} (f : A → Bool) (xs : List A) → list_all f xs ≡ not (list_any (λ x. not (f x)) xs)
+  waiting f [] = refl
+  waiting f (x ∷ xs) = ap (λ b. f x && b) (waiting f xs) ∙ step (f x) (list_any (λ y. not (f y)) xs)
+    where
+      step : (a b : Bool) → (a && not b) ≡ not (not a || b)
+      step true b = refl
+      step false b = refl
+
+  -- a worker that is not ready at a node holds there only times that could still receive input
+  pub unready : (b : BoardState T) (k n : ℕ) (c : Bool) → is_ready below b k n ≡ c → list_all (is_beyond below (input_front below b n)) (lot_of b.stations n k).held ≡ not c
+  unready b k n c e = waiting (is_beyond below (input_front below b n)) (lot_of b.stations n k).held ∙ ap not e
 
   -- going over nodes and workers finds whether each held time could still receive input
   pub wait_found : (b : BoardState T) → IsBoard b

@@ -1,5 +1,5 @@
 -- What is read on a board is the query on what each history fed that the board may stand for.
-use Rattle.std.proofs.Common.{arith, get_or, subst, ◌≡◌, ℕ, ◌<◌, Bool, true, false, cond, not, List, [], ◌∷◌, length, sym, refl, ap, ap₂, ◌∙◌, None, map, IsTrue}
+use Rattle.std.proofs.Common.{arith, get_or, subst, ◌≡◌, ℕ, ◌<◌, Bool, true, false, cond, not, List, [], ◌∷◌, length, sym, refl, ap, ◌∙◌, None, map, IsTrue}
 use Rattle.std.specs.List.{filter, list_all}
 use Rattle.std.specs.Result.{IfOk, OnOk}
 use Rattle.std.specs.Prelude.{Result, Ok, Err}
@@ -103,8 +103,3 @@ module _ {T : Type 0} (below : T → T → Bool) (minimum : T) (o : PartialOrder
             → list_all (λ u. has_passed below F u.time) (cond a (u ∷ filter (λ u. has_passed below F u.time) us) (filter (λ u. has_passed below F u.time) us)) ≡ true
         step true f ih = and_from (has_passed below F u.time) (list_all (λ u. has_passed below F u.time) (filter (λ u. has_passed below F u.time) us)) f ih
         step false f ih = ih
-
-  -- two frontiers with the same times beyond them keep the same updates
-  pub same_kept : (F G : List T) → ((t : T) → is_beyond below F t ≡ is_beyond below G t) → (us : List (Update T)) → filter (λ u. not (is_beyond below F u.time)) us ≡ filter (λ u. has_passed below G u.time) us
-  same_kept F G same [] = refl
-  same_kept F G same (u ∷ us) = ap₂ (λ a rest. cond a (u ∷ rest) rest) (ap not (same u.time)) (same_kept F G same us)

@@ -22,7 +22,7 @@ impl<T: Minimum> Board<T> {
         ensures none { result ≡ None → (port : ℕ)
             → queue_of self.now.stations (place node port worker) ≡ [] }
     {
-        let port = self.stations.port_waiting(node, worker)?;
+        let port = self.accounts.stations().port_waiting(node, worker)?;
         Some(Site { node, port, worker })
     }
 
@@ -30,7 +30,7 @@ impl<T: Minimum> Board<T> {
     pub fn waiting(&self, site: &Site) -> usize
         ensures { result ≡ length (queue_of self.now.stations site.now) }
     {
-        self.stations.waiting(site)
+        self.accounts.stations().waiting(site)
     }
 
     /// The node of the piece that a worker has in hand, if it has one. Takes no memory.

@@ -17,7 +17,6 @@ use crate::board::Board;
 use antichain::all_beyond;
 use histories::{Event, Site, remembered_advance, remembered_allow, remembered_feed};
 use lattice::Minimum;
-use outstanding::Parcel;
 use plan::{NodeId, Plan};
 use std::alloc::Global;
 use std::snapshot::Snapshot;
@@ -31,8 +30,8 @@ impl<T: Minimum> Board<T> {
     /// [`InputFrontiers::feed_refusal`](crate::InputFrontiers::feed_refusal) answers, then with
     /// `OutOfMemory`. After a refusal the event is a look, and nothing else changes.
     ///
-    /// Cost: linear in the elements of the input's frontier, apart from the queue's growth now and
-    /// then.
+    /// Cost: linear in the elements of the input's frontier, and that of counting the change's time
+    /// ([`Tally::add`](progress::Tally::add)), apart from the queue's growth now and then.
     pub fn feed(&mut self, client: usize, input: NodeId, update: Update<T>) -> Result<(), Refusal>
         requires client { self.old.dataflow.workers ≤ client }
         requires input { IsInput self.old.dataflow input }
@@ -89,10 +88,8 @@ impl<T: Minimum> Board<T> {
         ensures unchanged { OnErr result (self.new ≡ self.old) }
     {
         let taken = self.accepted[input.number()];
-        if let Some(refusal) = self
-            .inputs
-            .feed_refusal(self.plan.plan(), taken, input, &update)
-        {
+        let inputs = self.accounts.inputs();
+        if let Some(refusal) = inputs.feed_refusal(self.accounts.plan(), taken, input, &update) {
             return Err(refusal);
         }
         let (update, event) = remembered_feed(client, input, update);
@@ -113,23 +110,24 @@ impl<T: Minimum> Board<T> {
             port: 0,
             worker,
         };
-        self.stations.put(&site, Parcel::Change(update))
+        self.accounts.put(&site, update)
     }
 
     /// A client moves an input's frontier forward. From then on no change may be fed at a time that
     /// is not beyond it. With no times the input is closed.
     ///
-    /// Refused only with `NotForward`, if one of the times is not beyond the old frontier. Takes no
-    /// memory. After a refusal the event is a look, and nothing else changes.
+    /// Refused first with `NotForward`, if one of the times is not beyond the old frontier, then
+    /// with `OutOfMemory`. After a refusal the event is a look, and nothing else changes.
     ///
-    /// Cost: the product of the times and the elements of the input's old frontier.
+    /// Cost: the product of the times and the elements of the input's old frontier, and that of
+    /// counting each of them ([`Tally::add`](progress::Tally::add)).
     pub fn advance(&mut self, client: usize, input: NodeId, times: Times<T>) -> Result<(), Refusal>
         requires client { self.old.dataflow.workers ≤ client }
         requires input { IsInput self.old.dataflow input }
         ensures advanced { OnOk result (self.new ≡ after_advance client input times self.old) }
         ensures accepted { OnOk result (advance_refusal T.below self.old input times ≡ None) }
-        ensures refused { IfErr result (λ refusal.
-            advance_refusal T.below self.old input times ≡ Some refusal) }
+        ensures refused { IfErr result
+            (IsRefusalBy (advance_refusal T.below self.old input times)) }
         ensures unchanged { OnErr result (self.new ≡ after_look client self.old) }
         ensures stands { (h : List (Event T)) → Stands T.below T.least self.old h
             → Stands T.below T.least self.new (self.new.last ∷ h) }
@@ -142,13 +140,13 @@ impl<T: Minimum> Board<T> {
         requires { input < length self.old.dataflow.nodes }
         ensures advanced { OnOk result (self.new ≡ after_advance client input times self.old) }
         ensures accepted { OnOk result (advance_refusal T.below self.old input times ≡ None) }
-        ensures refused { IfErr result (λ refusal.
-            advance_refusal T.below self.old input times ≡ Some refusal) }
+        ensures refused { IfErr result
+            (IsRefusalBy (advance_refusal T.below self.old input times)) }
         ensures board { IsBoard self.old }
         ensures unchanged { OnErr result (self.new ≡ after_look client self.old) }
     {
         let (times, event) = remembered_advance(client, input, times);
-        match self.inputs.advance(input, times) {
+        match self.accounts.advance(input, times) {
             Ok(()) => {
                 self.note(event);
                 Ok(())
@@ -162,6 +160,9 @@ impl<T: Minimum> Board<T> {
 
     /// A client closes an input: from then on no change may be fed there. Never refused. Takes no
     /// memory.
+    ///
+    /// Cost: that of counting off each element of the input's frontier
+    /// ([`Tally::remove`](progress::Tally::remove)).
     pub fn close(&mut self, client: usize, input: NodeId)
         requires client { self.old.dataflow.workers ≤ client }
         requires input { IsInput self.old.dataflow input }
@@ -180,7 +181,7 @@ impl<T: Minimum> Board<T> {
     {
         let none = Vec::new(*self.hand.allocator()).into();
         let (none, event) = remembered_advance(client, input, none);
-        self.inputs.close(input);
+        self.accounts.close(input);
         self.note(event);
     }
 

@@ -14,7 +14,6 @@ ghost use Rattle.std.specs.Prelude.{◌≡◌, ◌<◌, ◌+◌, ◌%◌, List, 
 ghost use Rattle.histories.specs.declared.event.Event.{Event};
 ghost use Rattle.histories.specs.Histories.States.{place};
 ghost use Rattle.machine.specs.Boards.{IsBoard, Stands};
-ghost use Rattle.machine.specs.Boards.Reads.{is_ready};
 ghost use Rattle.machine.specs.Boards.Pieces.{takable_at, pieces_held, pieces_at, pieces, IsPiece, MayTakeOn, HasNoPieceOn};
 
 use crate::board::Board;
@@ -47,7 +46,7 @@ fn site_at(node: NodeId, port: usize, worker: usize) -> Site
 }
 
 impl<T: Minimum> Board<T> {
-    /// The number of pieces that a worker may take, at most `usize::MAX`. Takes no memory.
+    /// The number of pieces that a worker may take, at most `usize::MAX`. Never refused.
     ///
     /// Cost: linear in the nodes, and for each node where the worker holds a time, that of
     /// [`Board::is_ready`].
@@ -60,7 +59,7 @@ impl<T: Minimum> Board<T> {
     }
 
     /// The piece of a number among those that a worker may take. The number is reduced modulo the
-    /// number of pieces, and the answer is `None` if there is none. Takes no memory.
+    /// number of pieces, and the answer is `None` if there is none. Never refused.
     ///
     /// Cost: linear in the nodes, and for each node where the worker holds a time, that of
     /// [`Board::is_ready`]; twice that if the number has to be reduced.
@@ -79,9 +78,10 @@ impl<T: Minimum> Board<T> {
         self.pick(worker, pick)
     }
 
-    // Answers `pieces` for a board that is only borrowed.
-    fn count(&self, worker: usize) -> usize
-        ensures { result ≡ min (length (pieces T.below self.now worker)) usize.MAX }
+    // Answers `pieces`, also for a worker that there is not.
+    fn count(&mut self, worker: usize) -> usize
+        ensures kept { self.new ≡ self.old }
+        ensures value { result ≡ min (length (pieces T.below self.old worker)) usize.MAX }
     {
         match self.find(worker, usize::MAX) {
             Ok(_piece) => usize::MAX,
@@ -89,14 +89,16 @@ impl<T: Minimum> Board<T> {
         }
     }
 
-    // Answers `piece_at` for a board that is only borrowed.
-    fn pick(&self, worker: usize, pick: usize) -> Option<Piece>
-        ensures value { let all = pieces T.below self.now worker in
+    // Answers `piece_at`, which adds what that means for histories.
+    fn pick(&mut self, worker: usize, pick: usize) -> Option<Piece>
+        ensures kept { self.new ≡ self.old }
+        ensures value { let all = pieces T.below self.old worker in
             result ≡ slice_get all (pick % length all) }
-        ensures none { result ≡ None → pieces T.below self.now worker ≡ [] }
-        ensures piece { IfSome result (IsPiece T.below self.now worker) }
-        ensures board { IsBoard self.now }
+        ensures none { result ≡ None → pieces T.below self.old worker ≡ [] }
+        ensures piece { IfSome result (IsPiece T.below self.old worker) }
+        ensures board { IsBoard self.old }
     {
+        self.known();
         match self.find(worker, pick) {
             Ok(piece) => Some(piece),
             Err(left) => self.pick_among(worker, pick, pick - left),
@@ -104,11 +106,12 @@ impl<T: Minimum> Board<T> {
     }
 
     // Reduces a number modulo the number of pieces, and finds the piece.
-    fn pick_among(&self, worker: usize, pick: usize, all: usize) -> Option<Piece>
-        requires { all ≡ length (pieces T.below self.now worker) }
-        ensures value { result ≡ slice_get (pieces T.below self.now worker) (pick % all) }
-        ensures none { result ≡ None → pieces T.below self.now worker ≡ [] }
-        ensures piece { IfSome result (IsPiece T.below self.now worker) }
+    fn pick_among(&mut self, worker: usize, pick: usize, all: usize) -> Option<Piece>
+        requires { all ≡ length (pieces T.below self.old worker) }
+        ensures kept { self.new ≡ self.old }
+        ensures value { result ≡ slice_get (pieces T.below self.old worker) (pick % all) }
+        ensures none { result ≡ None → pieces T.below self.old worker ≡ [] }
+        ensures piece { IfSome result (IsPiece T.below self.old worker) }
     {
         if all == 0 {
             return None;
@@ -120,16 +123,16 @@ impl<T: Minimum> Board<T> {
     }
 
     // Finds the piece of a number, or by how much the number is past all pieces.
-    fn find(&self, worker: usize, number: usize) -> Result<Piece, usize>
+    fn find(&mut self, worker: usize, number: usize) -> Result<Piece, usize>
+        ensures kept { self.new ≡ self.old }
         ensures found { IfOk result (λ piece.
-            slice_get (pieces T.below self.now worker) number ≡ Some piece) }
-        ensures piece { IfOk result (IsPiece T.below self.now worker) }
+            slice_get (pieces T.below self.old worker) number ≡ Some piece) }
+        ensures piece { IfOk result (IsPiece T.below self.old worker) }
         ensures past { IfErr result (λ left.
-            number ≡ length (pieces T.below self.now worker) + left) }
-        ensures board { IsBoard self.now }
+            number ≡ length (pieces T.below self.old worker) + left) }
     {
         let mut left = number;
-        for n in 0..self.plan.len() {
+        for n in 0..self.plan().len() {
             match self.find_at(worker, NodeId::new(n), left) {
                 Ok(piece) => return Ok(piece),
                 Err(rest) => left = rest,
@@ -139,13 +142,14 @@ impl<T: Minimum> Board<T> {
     }
 
     // Finds the piece of a number among those at a node, or by how much the number is past them.
-    fn find_at(&self, worker: usize, node: NodeId, number: usize) -> Result<Piece, usize>
-        requires { node < length self.now.dataflow.nodes }
+    fn find_at(&mut self, worker: usize, node: NodeId, number: usize) -> Result<Piece, usize>
+        requires { node < length self.old.dataflow.nodes }
+        ensures kept { self.new ≡ self.old }
         ensures found { IfOk result (λ piece.
-            slice_get (pieces_at T.below self.now worker node) number ≡ Some piece) }
-        ensures piece { IfOk result (IsPiece T.below self.now worker) }
+            slice_get (pieces_at T.below self.old worker node) number ≡ Some piece) }
+        ensures piece { IfOk result (IsPiece T.below self.old worker) }
         ensures past { IfErr result (λ left.
-            number ≡ length (pieces_at T.below self.now worker node) + left) }
+            number ≡ length (pieces_at T.below self.old worker node) + left) }
     {
         let first = site_at(node, 0, worker);
         let second = site_at(node, 1, worker);
@@ -168,15 +172,16 @@ impl<T: Minimum> Board<T> {
 
     // Finds the piece of a number among the times that are held at a node, of which there is one at
     // most, or by how much the number is past it.
-    fn find_held(&self, worker: usize, node: NodeId, number: usize) -> Result<Piece, usize>
-        requires { node < length self.now.dataflow.nodes }
+    fn find_held(&mut self, worker: usize, node: NodeId, number: usize) -> Result<Piece, usize>
+        requires { node < length self.old.dataflow.nodes }
+        ensures kept { self.new ≡ self.old }
         ensures found { IfOk result (λ piece.
-            slice_get (pieces_held T.below self.now worker node) number ≡ Some piece) }
-        ensures piece { IfOk result (IsPiece T.below self.now worker) }
+            slice_get (pieces_held T.below self.old worker node) number ≡ Some piece) }
+        ensures piece { IfOk result (IsPiece T.below self.old worker) }
         ensures past { IfErr result (λ left.
-            number ≡ length (pieces_held T.below self.now worker node) + left) }
+            number ≡ length (pieces_held T.below self.old worker node) + left) }
     {
-        if !self.may_turn(worker, node) {
+        if !self.is_ready(worker, node) {
             Err(number)
         } else if number == 0 {
             Ok(Piece::Held { node })
@@ -190,19 +195,11 @@ impl<T: Minimum> Board<T> {
         requires { site.now.node < length self.now.dataflow.nodes }
         ensures { result ≡ takable_at self.now site.now }
     {
-        let waiting = self.stations.waiting(site);
-        if self.plan.plan().is_arranged(site.node) {
+        let waiting = self.accounts.stations().waiting(site);
+        if self.accounts.plan().is_arranged(site.node) {
             waiting
         } else {
             waiting.min(1)
         }
-    }
-
-    // Whether the worker may turn to the node. If it holds nothing there, no frontier is asked for.
-    fn may_turn(&self, worker: usize, node: NodeId) -> bool
-        requires { node < length self.now.dataflow.nodes }
-        ensures { result ≡ is_ready T.below self.now worker node }
-    {
-        !self.stations.held(node, worker).is_empty() && self.holds_passed(worker, node)
     }
 }

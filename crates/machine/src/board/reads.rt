@@ -2,7 +2,7 @@
 //! quiet. (Frontiers are found in `frontiers`.) Each answer is a function of what lies on the board
 //! at one moment, so rows and frontier belong to one history. Each contract says what the answer is
 //! for every history that the board may stand for.
-ghost use Rattle.std.specs.Prelude.{◌≡◌, ◌<◌, ◌↔◌, ◌&&◌, None, not, List, [], IfErr, IfOk, OnOk, IsTrue, length};
+ghost use Rattle.std.specs.Prelude.{◌≡◌, ◌<◌, ◌↔◌, None, List, IfErr, IfOk, OnOk, IsTrue, length};
 ghost use Rattle.std.specs.List.{filter, list_all};
 ghost use Rattle.lattice.specs.Frontiers.{is_beyond};
 ghost use Rattle.update.specs.Bags.{Alike, IsBag};
@@ -12,19 +12,19 @@ ghost use Rattle.plan.specs.Changes.{has_passed, AreDifferences};
 ghost use Rattle.plan.specs.Nodes.{is_output};
 ghost use Rattle.histories.specs.declared.event.Event.{Event};
 ghost use Rattle.histories.specs.Histories.Dataflows.{IsDataflow, node_of};
-ghost use Rattle.histories.specs.Histories.Outstanding.{with_times};
 ghost use Rattle.views.specs.Views.{IsSumRefusal};
 ghost use Rattle.update.specs.Refusals.{IsMemoryOrOverflow};
 ghost use Rattle.machine.specs.Boards.{plan_on, frontier_on, changes_on, query_on, IsQuietOn, Stands, IsBoard};
 ghost use Rattle.histories.specs.Histories.Readings.{is_from_start};
 ghost use Rattle.plan.specs.Ancestors.{numbers_below};
 ghost use Rattle.outstanding.specs.Loads.{lot_of};
+ghost use Rattle.accounts.specs.Accounts.{front_of};
 ghost use Rattle.machine.specs.Boards.Reads.{front, input_front, captured_of, passed_captured, since_of, hands_are_free, all_wait, is_quiet_board, read_refusal_on, changes_refusal_on, IsReadRefusal, IsChangesRefusal};
 
 use crate::board::Board;
+use accounts::Accounts;
 use antichain::is_beyond;
 use columns::Columns;
-use histories::insert;
 use lattice::Minimum;
 use plan::NodeId;
 use std::alloc::Global;
@@ -49,37 +49,28 @@ fn is_from_start<T: Minimum>(times: &[T]) -> bool
     is_beyond(times, &T::minimum())
 }
 
-// Copies the updates that are not beyond the times.
+// Copies the updates at times that the frontier of a node has passed.
 fn passed_by<T: Minimum>(
     alloc: Global,
+    accounts: &mut Accounts<T>,
+    node: NodeId,
     updates: &Columns<T>,
-    times: &[T],
 ) -> Result<Vec<Update<T>>, Refusal>
-    ensures passed { IfOk result (λ passed. passed.items
-        ≡ filter (λ u. not (is_beyond T.below times.now u.time)) updates.now) }
+    requires { node < length accounts.old.nodes }
+    ensures kept { accounts.new ≡ accounts.old }
+    ensures passed { IfOk result (λ passed. passed.items ≡ filter (λ u.
+        has_passed T.below (front_of T.below accounts.old node) u.time) updates.now) }
     ensures refused { IfErr result (λ refusal. refusal ≡ OutOfMemory) }
 {
     let mut passed = Vec::new(alloc);
     let mut run = 0;
     for i in 0..updates.len() {
-        if !is_beyond(times, &updates.time(i)) {
+        if accounts.has_passed(node, &updates.time(i)) {
             run = updates.run_near(i, run);
             passed.push(updates.copy(i, run))?;
         }
     }
     Ok(passed)
-}
-
-// The least of the times, each once.
-fn least_times<T: Minimum>(alloc: Global, times: &[T]) -> Result<Vec<T>, Refusal>
-    ensures least { IfOk result (λ least. least.items ≡ with_times T.below [] times.now) }
-    ensures refused { IfErr result (λ refusal. refusal ≡ OutOfMemory) }
-{
-    let mut least = Vec::new(alloc);
-    for t in times {
-        insert(&mut least, *t)?;
-    }
-    Ok(least)
 }
 
 impl<T: Minimum> Board<T> {
@@ -89,14 +80,6 @@ impl<T: Minimum> Board<T> {
         ensures { result.now ≡ since_of self.now view }
     {
         self.views[view.number()].since()
-    }
-
-    // What a view captured.
-    fn captured(&self, view: NodeId) -> &Columns<T>
-        requires { view < length self.now.dataflow.nodes }
-        ensures { result.now ≡ captured_of self.now view }
-    {
-        self.views[view.number()].captured()
     }
 
     /// A view's rows at a time: the query, computed from scratch, on the changes fed up to that
@@ -159,11 +142,12 @@ impl<T: Minimum> Board<T> {
     }
 
     // What refuses a read, in the order in which it is tested.
-    fn read_refusal(&self, view: NodeId, t: &T) -> Option<Refusal>
-        requires { view < length self.now.dataflow.nodes }
-        ensures { result ≡ read_refusal_on T.below self.now view t.now }
+    fn read_refusal(&mut self, view: NodeId, t: &T) -> Option<Refusal>
+        requires { view < length self.old.dataflow.nodes }
+        ensures kept { self.new ≡ self.old }
+        ensures value { result ≡ read_refusal_on T.below self.old view t.now }
     {
-        if !self.is_passed(view, t) {
+        if !self.has_passed(view, t) {
             Some(Refusal::NotPassed)
         } else if !is_beyond(self.since(view), t) {
             Some(Refusal::GivenUp)
@@ -198,17 +182,18 @@ impl<T: Minimum> Board<T> {
 
     // What the view captured at passed times, consolidated. `changes` adds that it is the list of
     // differences.
-    fn passed_changes(&self, view: NodeId) -> Result<Vec<Update<T>>, Refusal>
-        requires within { view < length self.now.dataflow.nodes }
-        ensures accepted { OnOk result (changes_refusal_on T.below T.least self.now view ≡ None) }
-        ensures refused { IfErr result (IsChangesRefusal T.below T.least self.now view) }
+    fn passed_changes(&mut self, view: NodeId) -> Result<Vec<Update<T>>, Refusal>
+        requires within { view < length self.old.dataflow.nodes }
+        ensures kept { self.new ≡ self.old }
+        ensures accepted { OnOk result (changes_refusal_on T.below T.least self.old view ≡ None) }
+        ensures refused { IfErr result (IsChangesRefusal T.below T.least self.old view) }
         ensures consolidated { IfOk result (λ us. IsConsolidated T.cmp us.items) }
         ensures passed { IfOk result (λ us. IsTrue (list_all
-            (λ u. has_passed T.below (front T.below self.now view) u.time) us.items)) }
+            (λ u. has_passed T.below (front T.below self.old view) u.time) us.items)) }
         ensures sums { IfOk result (λ us. (t : T)
-            → IsTrue (has_passed T.below (front T.below self.now view) t)
-            → Alike (as_of T.below t us.items) (as_of T.below t (captured_of self.now view))) }
-        ensures board { IsBoard self.now }
+            → IsTrue (has_passed T.below (front T.below self.old view) t)
+            → Alike (as_of T.below t us.items) (as_of T.below t (captured_of self.old view))) }
+        ensures board { IsBoard self.old }
     {
         self.known();
         match self.changes_refusal(view) {
@@ -230,50 +215,40 @@ impl<T: Minimum> Board<T> {
     }
 
     // The changes of a view, once nothing refuses them.
-    fn consolidated_changes(&self, view: NodeId) -> Result<Vec<Update<T>>, Refusal>
-        requires within { view < length self.now.dataflow.nodes }
+    fn consolidated_changes(&mut self, view: NodeId) -> Result<Vec<Update<T>>, Refusal>
+        requires within { view < length self.old.dataflow.nodes }
+        ensures kept { self.new ≡ self.old }
         ensures refused { IfErr result
-            (IsMemoryOrOverflow (HasLargeTotal T.below (passed_captured T.below self.now view))) }
+            (IsMemoryOrOverflow (HasLargeTotal T.below (passed_captured T.below self.old view))) }
         ensures consolidated { IfOk result (λ us. IsConsolidated T.cmp us.items) }
         ensures passed { IfOk result (λ us. IsTrue (list_all
-            (λ u. has_passed T.below (front T.below self.now view) u.time) us.items)) }
+            (λ u. has_passed T.below (front T.below self.old view) u.time) us.items)) }
         ensures sums { IfOk result (λ us. (t : T)
-            → IsTrue (has_passed T.below (front T.below self.now view) t)
-            → Alike (as_of T.below t us.items) (as_of T.below t (captured_of self.now view))) }
+            → IsTrue (has_passed T.below (front T.below self.old view) t)
+            → Alike (as_of T.below t us.items) (as_of T.below t (captured_of self.old view))) }
     {
         let passed = self.passed_captured(view)?;
         consolidate(passed)
     }
 
     // Copies what a view captured at times that its frontier has passed.
-    fn passed_captured(&self, view: NodeId) -> Result<Vec<Update<T>>, Refusal>
-        requires within { view < length self.now.dataflow.nodes }
+    fn passed_captured(&mut self, view: NodeId) -> Result<Vec<Update<T>>, Refusal>
+        requires within { view < length self.old.dataflow.nodes }
+        ensures kept { self.new ≡ self.old }
         ensures passed { IfOk result (λ passed.
-            passed.items ≡ passed_captured T.below self.now view) }
+            passed.items ≡ passed_captured T.below self.old view) }
         ensures refused { IfErr result (λ refusal. refusal ≡ OutOfMemory) }
     {
-        let times = self.outstanding(view)?;
-        let least = least_times(*self.hand.allocator(), times.as_slice())?;
-        self.captured_passed_by(view, least)
-    }
-
-    // Copies what a view captured that is not beyond the times.
-    fn captured_passed_by(&self, view: NodeId, times: Vec<T>) -> Result<Vec<Update<T>>, Refusal>
-        requires within { view < length self.now.dataflow.nodes }
-        ensures passed { IfOk result (λ passed. passed.items ≡ filter (λ u.
-            not (is_beyond T.below times.items u.time)) (captured_of self.now view)) }
-        ensures refused { IfErr result (λ refusal. refusal ≡ OutOfMemory) }
-    {
-        passed_by(
-            *self.hand.allocator(),
-            self.captured(view),
-            times.as_slice(),
-        )
+        // The tally then keeps the view's frontier, so each test is short.
+        self.accounts.refresh(view)?;
+        let alloc = *self.hand.allocator();
+        let captured = self.views[view.number()].captured();
+        passed_by(alloc, &mut self.accounts, view, captured)
     }
 
     /// Whether the board is quiet: nothing is in flight, no worker has a piece in hand, and each
     /// held time could still receive input at or before it. Then each node's frontier is the least
-    /// of the frontiers of the inputs that feed it. Takes no memory.
+    /// of the frontiers of the inputs that feed it. Never refused.
     ///
     /// Cost: linear in the nodes times the workers, and that of [`Board::input_has_passed`] for
     /// each held time.
@@ -287,19 +262,25 @@ impl<T: Minimum> Board<T> {
     }
 
     // Whether no worker can go on. `is_quiet` adds what that means for histories.
-    fn rests(&self) -> bool
-        ensures value { result ≡ is_quiet_board T.below self.now }
-        ensures board { IsBoard self.now }
+    fn rests(&mut self) -> bool
+        ensures kept { self.new ≡ self.old }
+        ensures value { result ≡ is_quiet_board T.below self.old }
+        ensures board { IsBoard self.old }
     {
-        self.stations.is_empty() && are_free(&self.hand) && self.all_wait()
+        if !self.accounts.stations().is_empty() || !are_free(&self.hand) {
+            return false;
+        }
+        self.all_wait()
     }
 
     // Whether each held time could still receive input: its node's input frontier has not passed
     // it.
-    fn all_wait(&self) -> bool
-        ensures { result ≡ all_wait T.below self.now }
+    fn all_wait(&mut self) -> bool
+        ensures kept { self.new ≡ self.old }
+        ensures value { result ≡ all_wait T.below self.old }
     {
-        for n in 0..self.plan.len() {
+        self.known();
+        for n in 0..self.plan().len() {
             if !self.all_wait_at(NodeId::new(n)) {
                 return false;
             }
@@ -308,28 +289,15 @@ impl<T: Minimum> Board<T> {
     }
 
     // Whether each time that is held at a node could still receive input.
-    fn all_wait_at(&self, node: NodeId) -> bool
-        requires { node < length self.now.dataflow.nodes }
-        ensures { result ≡ list_all (λ k.
-            list_all (is_beyond T.below (input_front T.below self.now node))
-            (lot_of self.now.stations node k).held) (numbers_below self.now.dataflow.workers) }
+    fn all_wait_at(&mut self, node: NodeId) -> bool
+        requires { node < length self.old.dataflow.nodes }
+        ensures kept { self.new ≡ self.old }
+        ensures value { result ≡ list_all (λ k.
+            list_all (is_beyond T.below (input_front T.below self.old node))
+            (lot_of self.old.stations node k).held) (numbers_below self.old.dataflow.workers) }
     {
         for worker in 0..self.workers {
-            if !self.are_waiting(node, self.stations.held(node, worker)) {
-                return false;
-            }
-        }
-        true
-    }
-
-    // Whether each of these times could still receive input at the node.
-    fn are_waiting(&self, node: NodeId, held: &[T]) -> bool
-        requires { node < length self.now.dataflow.nodes }
-        ensures { result
-            ≡ list_all (is_beyond T.below (input_front T.below self.now node)) held.now }
-    {
-        for t in held {
-            if self.is_input_passed(node, t) {
+            if self.is_ready(worker, node) {
                 return false;
             }
         }

@@ -16,7 +16,7 @@ ghost use Rattle.machine.specs.Boards.Routings.{all_edges};
 ghost use Rattle.histories.specs.Histories.Dataflows.{IsDataflow, node_of};
 
 use crate::board::cut::{place_at, push_for_giver, push_for_workers};
-use crate::board::cut_emission::CutEmission;
+use accounts::CutEmission;
 use histories::{Bundle, Emission};
 use lattice::Minimum;
 use plan::{Edge, NodeId, Plan};

@@ -32,8 +32,9 @@ impl<T: Minimum> Board<T> {
     ///
     /// Refused only with `OutOfMemory`. Then the event is a look, and nothing else changes.
     ///
-    /// Cost: linear in the stamp, and in the number of bundles before it or behind it, whichever is
-    /// smaller.
+    /// Cost: that of counting each element of the stamp
+    /// ([`Tally::add`](progress::Tally::add)), and linear in the number of bundles before it or
+    /// behind it, whichever is smaller.
     pub fn take(&mut self, place: Site, number: usize) -> Result<Bundle<T>, Refusal>
         requires worker { place.worker < self.old.dataflow.workers }
         requires free { get_or self.old.hand place.worker None ≡ None }
@@ -63,7 +64,7 @@ impl<T: Minimum> Board<T> {
         ensures unchanged { OnErr result (self.new ≡ after_look place.worker self.old) }
         ensures board { OnOk result (IsBoard self.old) }
     {
-        match self.stations.take(&place, number) {
+        match self.accounts.take(&place, number) {
             Ok(bundle) => Ok(self.hand_over(number, bundle)),
             Err(refusal) => {
                 self.look(place.worker);

@@ -6,8 +6,12 @@ use Rattle.outstanding.specs.Loads.{lot_of}
 use Rattle.machine.specs.Boards.Reads.{input_front}
 use Rattle.machine.proofs.board.Board.all_wait.Given as goal
 
--- at each node so far, each held time could still receive input
+-- the board is as it was, and at each node so far each held time could still receive input
 abbrev pub invariant-loop-n : goal.invariant-loop-n
 invariant-loop-n g l =
     let below = g.T.PartialOrder.below in
-    list_all (λ n. list_all (λ k. list_all (is_beyond below (input_front below l.self n)) (lot_of l.self.stations n k).held) (numbers_below l.self.dataflow.workers)) (numbers_below l.n) ≡ true
+    let b = l.fn.self in
+    record {
+      kept : l.self ≡ b;
+      waits : list_all (λ n. list_all (λ k. list_all (is_beyond below (input_front below b n)) (lot_of b.stations n k).held) (numbers_below b.dataflow.workers)) (numbers_below l.n) ≡ true;
+    }

@@ -6,8 +6,12 @@ use Rattle.outstanding.specs.Loads.{lot_of}
 use Rattle.machine.specs.Boards.Reads.{input_front}
 use Rattle.machine.proofs.board.Board.all_wait_at.Given as goal
 
--- for each worker so far, each held time could still receive input
+-- the board is as it was, and for each worker so far each held time could still receive input
 abbrev pub invariant-loop-worker : goal.invariant-loop-worker
 invariant-loop-worker g l =
     let below = g.T.PartialOrder.below in
-    list_all (λ k. list_all (is_beyond below (input_front below l.self l.node)) (lot_of l.self.stations l.node k).held) (numbers_below l.worker) ≡ true
+    let b = l.fn.self in
+    record {
+      kept : l.self ≡ b;
+      waits : list_all (λ k. list_all (is_beyond below (input_front below b l.node)) (lot_of b.stations l.node k).held) (numbers_below l.worker) ≡ true;
+    }

@@ -4,8 +4,12 @@ use Rattle.plan.specs.Ancestors.{numbers_below}
 use Rattle.machine.specs.Boards.Pieces.{pieces_at}
 use Rattle.machine.proofs.board.Board.find.Given as goal
 
--- the number is past the pieces of the nodes so far, by what is left of it
+-- the board is as it was, and the number is past the pieces of the nodes so far, by what is left of
+-- it
 abbrev pub invariant-loop-n : goal.invariant-loop-n
 invariant-loop-n g l =
     let below = g.T.PartialOrder.below in
-    l.number ≡ length (flat_map (pieces_at below l.self l.worker) (numbers_below l.n)) + l.left
+    record {
+      kept : l.self ≡ l.fn.self;
+      past : l.number ≡ length (flat_map (pieces_at below l.fn.self l.worker) (numbers_below l.n)) + l.left;
+    }

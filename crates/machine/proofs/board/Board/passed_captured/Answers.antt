@@ -1,19 +1,24 @@
-use Rattle.std.proofs.Common.{◌∙◌, [], ap}
-use Rattle.lattice.specs.Frontiers.{is_beyond}
-use Rattle.machine.specs.Boards.Reads.{captured_of}
-use Rattle.histories.specs.Histories.Outstanding.{with_times}
-use Rattle.machine.proofs.BoardLemmas.FrontLemmas.{on_ok, beyond_found}
-use Rattle.machine.proofs.BoardLemmas.ReadLemmas.{same_kept}
-use Rattle.histories.proofs.HistoryLemmas.StampLemmas.{with_times_beyond}
+use Rattle.std.proofs.Common.{◌≡◌, ◌∙◌, ap, ap₂, List}
+use Rattle.std.specs.List.{filter}
+use Rattle.plan.specs.Changes.{has_passed}
+use Rattle.views.specs.Views.{ViewState}
+use Rattle.update.specs.declared.change.Update.{Update}
+use Rattle.accounts.specs.Accounts.{AccountState, front_of}
+use Rattle.machine.specs.Boards.{BoardState}
+use Rattle.machine.specs.Boards.Reads.{captured_of, front}
+use Rattle.machine.proofs.BoardLemmas.FrontLemmas.{on_ok}
+use Rattle.machine.proofs.BoardLemmas.ReadLemmas.{view_read}
 use Rattle.machine.proofs.board.Board.passed_captured.Goals as goal
 
 pub returns-clause-passed : goal.returns-clause-passed
 returns-clause-passed g c =
-    let o = g.met.T.PartialOrder.order in
     let below = g.T.PartialOrder.below in
     let b = c.args.self.now in
-    on_ok c.captured_passed_by.result _ _
-    (λ passed e. e ∙ same_kept _ g.T.Minimum.least o _ _
-    (beyond_found _ o b c.args.view _ _ c.in_ok-times.ensures.times
-    (λ t. ap (λ ts. is_beyond below ts t) (c.in_ok-least.ensures.least ∙ ap (λ ts. with_times below [] ts) c.as_slice.ensures.value) ∙ with_times_beyond below o [] c.in_ok-times.times.items t))
-    (captured_of b c.args.view)) c.captured_passed_by.ensures.passed
+    let v = c.args.view in
+    let seen = view_read b c.self.view_is v c.number.result c.number.ensures c.requires.within c.index.result.now c.self.invariant c.index.ensures in
+    let captured : c.captured-captured.result.now ≡ captured_of b v = c.captured-captured.ensures ∙ ap (λ (z : ViewState g.row.T.Denot). z.captured) seen in
+    on_ok c.passed_by.result _ _
+    (λ passed e. e
+    ∙ (ap₂ (λ (a : AccountState g.row.T.Denot) (us : List (Update g.row.T.Denot)). filter (λ u. has_passed below (front_of below a v) u.time) us) c.refresh.ensures.kept captured
+    ∙ ap (λ (z : BoardState g.row.T.Denot). filter (λ u. has_passed below (front below z v) u.time) (captured_of b v)) c.self.view_is))
+    c.passed_by.ensures.passed

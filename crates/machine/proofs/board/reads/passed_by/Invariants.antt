@@ -1,7 +1,14 @@
-use Rattle.std.proofs.Common.{◌≡◌, not, take}
+use Rattle.std.proofs.Common.{◌≡◌, take}
 use Rattle.std.specs.List.{filter}
-use Rattle.lattice.specs.Frontiers.{is_beyond}
+use Rattle.plan.specs.Changes.{has_passed}
+use Rattle.accounts.specs.Accounts.{front_of}
 use Rattle.machine.proofs.board.reads.passed_by.Given as goal
 
+-- the accounts are as they were, and of the updates so far those at passed times are copied
 abbrev pub invariant-loop-i : goal.invariant-loop-i
-invariant-loop-i g l = l.passed.items ≡ filter (λ u. not (is_beyond g.T.PartialOrder.below l.times u.time)) (take l.i l.updates)
+invariant-loop-i g l =
+    let below = g.T.PartialOrder.below in
+    record {
+      kept : l.accounts ≡ l.fn.accounts;
+      passed : l.passed.items ≡ filter (λ u. has_passed below (front_of below l.fn.accounts l.node) u.time) (take l.i l.updates);
+    }

@@ -1,7 +1,7 @@
 use Rattle.std.proofs.Common.{List, ap, subst, ◌∙◌}
 use Rattle.histories.specs.declared.event.Bundle.{Bundle}
 use Rattle.histories.specs.declared.event.Emission.{Emission}
-use Rattle.machine.specs.Boards.CutEmissions.{CutState}
+use Rattle.accounts.specs.CutEmissions.{CutState}
 use Rattle.histories.specs.declared.event.Event.TheVariants.{Give}
 use Rattle.histories.specs.Histories.{next_state}
 use Rattle.worker.specs.Between.{IsLeftBy}

@@ -1,0 +1,183 @@
+//! Accounts: what lies at the stations, where the inputs stand, and the tally of both.
+ghost use Rattle.std.specs.Prelude.{◌≡◌, ◌<◌, [], IfErr, IfOk, OnOk, length};
+ghost use Rattle.lattice.specs.Frontiers.{is_beyond};
+ghost use Rattle.antichain.specs.Antichains.{SameElements};
+ghost use Rattle.update.specs.declared.refusal.Refusal.TheVariants.{OutOfMemory};
+ghost use Rattle.plan.specs.Changes.{has_passed};
+ghost use Rattle.plan.specs.Rules.{IsPlan};
+ghost use Rattle.progress.specs.Tallies.{SameCounts};
+ghost use Rattle.outstanding.specs.Inputs.{first_inputs};
+ghost use Rattle.outstanding.specs.Loads.{first_stations};
+ghost use Rattle.outstanding.specs.Stations.{lots};
+ghost use Rattle.accounts.specs.Accounts.{AccountState, items_left, front_of, input_front_of};
+
+use antichain::Antichain;
+use lattice::Minimum;
+use outstanding::{InputFrontiers, Stations};
+use plan::{NodeId, Plan};
+use progress::{Place, Tally};
+use std::alloc::Global;
+use std::marker::Model;
+use update::Refusal;
+
+/// What is outstanding in a dataflow, and the tally that counts it. A contract sees the nodes of the
+/// plan, what lies at the stations, and the frontiers of the inputs, as an `AccountState`.
+#[derive(Drop)]
+pub struct Accounts<T: Minimum> {
+    pub(crate) tally: Tally<T>,
+    pub(crate) stations: Stations<T>,
+    pub(crate) inputs: InputFrontiers<T>,
+    // Where a take copies a stamp to, so that it can be counted before the bundle leaves its queue.
+    // The list keeps its memory.
+    pub(crate) stamp: Vec<T>,
+}
+
+impl<T: Minimum> Model for Accounts<T> {
+    ghost use Rattle.accounts.specs.Accounts.{AccountState, IsCounted};
+    ghost use Rattle.outstanding.specs.Stations.{lots};
+
+    ghost Value = { AccountState T };
+
+    ghost view = { λ a. record {
+      nodes = a.tally.nodes;
+      stations = lots a.stations;
+      inputs = a.inputs;
+    } };
+
+    ghost invariant = { λ a. IsCounted (record {
+      nodes = a.tally.nodes;
+      stations = lots a.stations;
+      inputs = a.inputs;
+    }) a.tally.items };
+}
+
+impl<T: Minimum> Accounts<T> {
+    /// The accounts of a plan on so many workers, before anything has happened: nothing waits or is
+    /// held, and each input stands at the least time. Refused only with `OutOfMemory`.
+    ///
+    /// Cost: the square of the nodes, of which a plan has at most 256, and the nodes times the
+    /// workers.
+    pub fn first(alloc: Global, plan: Plan, workers: usize) -> Result<Accounts<T>, Refusal>
+        ensures first { IfOk result (λ accounts. accounts ≡ record {
+          nodes = plan;
+          stations = first_stations (length plan) workers;
+          inputs = first_inputs T.least plan;
+        }) }
+        ensures refused { IfErr result (λ refusal. refusal ≡ OutOfMemory) }
+    {
+        let stations = Stations::first(alloc, plan.len(), workers)?;
+        let inputs = InputFrontiers::first(alloc, &plan)?;
+        let mut tally = Tally::new(alloc, plan)?;
+        count_inputs(&mut tally, &inputs)?;
+        Ok(Accounts {
+            tally,
+            stations,
+            inputs,
+            stamp: Vec::new(alloc),
+        })
+    }
+
+    /// The plan. Takes no memory.
+    pub fn plan(&self) -> &Plan
+        ensures value { result.now ≡ self.now.nodes }
+        ensures plan { IsPlan self.now.nodes }
+    {
+        self.tally.plan()
+    }
+
+    /// What waits and what is held, by place. Takes no memory.
+    pub fn stations(&self) -> &Stations<T>
+        ensures { lots result.now ≡ self.now.stations }
+    {
+        &self.stations
+    }
+
+    /// The frontiers of the inputs. Takes no memory.
+    pub fn inputs(&self) -> &InputFrontiers<T>
+        ensures value { result.now ≡ self.now.inputs }
+        ensures len { length self.now.inputs ≡ length self.now.nodes }
+    {
+        &self.inputs
+    }
+
+    /// The frontier of a node: the least of what is outstanding at it or above it. Refused only with
+    /// `OutOfMemory`.
+    ///
+    /// Cost: that of [`Tally::frontier`].
+    pub fn frontier(&mut self, node: NodeId) -> Result<Antichain<T>, Refusal>
+        requires { node < length self.old.nodes }
+        ensures kept { self.new ≡ self.old }
+        ensures least { IfOk result (λ found. SameElements found (front_of T.below self.old node)) }
+        ensures beyond { IfOk result (λ found. (t : T)
+            → is_beyond T.below found t ≡ is_beyond T.below (front_of T.below self.old node) t) }
+        ensures refused { IfErr result (λ refusal. refusal ≡ OutOfMemory) }
+    {
+        self.tally.frontier(node)
+    }
+
+    /// The input frontier of a node: the same, without what is held at the node itself. Refused only
+    /// with `OutOfMemory`.
+    ///
+    /// Cost: that of [`Tally::input_frontier_of`].
+    pub fn input_frontier(&mut self, node: NodeId) -> Result<Antichain<T>, Refusal>
+        requires { node < length self.old.nodes }
+        ensures kept { self.new ≡ self.old }
+        ensures least { IfOk result (λ found.
+            SameElements found (input_front_of T.below self.old node)) }
+        ensures beyond { IfOk result (λ found. (t : T) → is_beyond T.below found t
+            ≡ is_beyond T.below (input_front_of T.below self.old node) t) }
+        ensures refused { IfErr result (λ refusal. refusal ≡ OutOfMemory) }
+    {
+        self.tally.input_frontier_of(node)
+    }
+
+    /// Finds anew what the tally keeps of a node, if something moved it. Whoever asks about many times
+    /// calls this first. Refused only with `OutOfMemory`.
+    ///
+    /// Cost: that of [`Tally::refresh`].
+    pub fn refresh(&mut self, node: NodeId) -> Result<(), Refusal>
+        requires { node < length self.old.nodes }
+        ensures kept { self.new ≡ self.old }
+        ensures refused { IfErr result (λ refusal. refusal ≡ OutOfMemory) }
+    {
+        self.tally.refresh(node)
+    }
+
+    /// Whether the frontier of a node has passed a time. Takes no memory.
+    ///
+    /// Cost: that of [`Tally::has_passed`].
+    pub fn has_passed(&mut self, node: NodeId, t: &T) -> bool
+        requires { node < length self.old.nodes }
+        ensures kept { self.new ≡ self.old }
+        ensures value { result ≡ has_passed T.below (front_of T.below self.old node) t.now }
+    {
+        self.tally.has_passed(node, t)
+    }
+
+    /// Whether the input frontier of a node has passed a time. Takes no memory.
+    ///
+    /// Cost: that of [`Tally::input_has_passed`].
+    pub fn input_has_passed(&mut self, node: NodeId, t: &T) -> bool
+        requires { node < length self.old.nodes }
+        ensures kept { self.new ≡ self.old }
+        ensures value { result ≡ has_passed T.below (input_front_of T.below self.old node) t.now }
+    {
+        self.tally.input_has_passed(node, t)
+    }
+}
+
+// Counts the elements of the inputs' frontiers in a tally that counts nothing yet.
+fn count_inputs<T: Minimum>(tally: &mut Tally<T>, inputs: &InputFrontiers<T>) -> Result<(), Refusal>
+    requires none { SameCounts tally.old.items [] }
+    requires inputs { length inputs.now ≡ length tally.old.nodes }
+    ensures counted { OnOk result
+        (SameCounts tally.new.items (items_left (length tally.old.nodes) inputs.now)) }
+    ensures nodes { tally.new.nodes ≡ tally.old.nodes }
+    ensures refused { IfErr result (λ refusal. refusal ≡ OutOfMemory) }
+{
+    for n in 0..tally.plan().len() {
+        let input = NodeId::new(n);
+        tally.add_all(&Place::Input { node: input }, inputs.of(input))?;
+    }
+    Ok(())
+}

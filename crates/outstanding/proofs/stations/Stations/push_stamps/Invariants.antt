@@ -1,9 +1,0 @@
-use Rattle.std.proofs.Common.{◌≡◌, ◌++◌, take}
-use Rattle.std.specs.List.{flat_map}
-use Rattle.outstanding.specs.Loads.{stamps_of}
-use Rattle.outstanding.specs.Stations.{lot}
-use Rattle.outstanding.proofs.stations.Stations.push_stamps.Given as goal
-
--- the times of the stations so far are appended
-abbrev pub invariant-loop-station : goal.invariant-loop-station
-invariant-loop-station g l = l.all.items ≡ l.fn.all.items ++ flat_map (λ s. stamps_of (lot s)) (take l.station-index l.row)
