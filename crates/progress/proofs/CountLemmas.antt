@@ -6,6 +6,7 @@ use Rattle.std.proofs.lemmas.List.Folds.{list_any-append}
 use Rattle.lattice.specs.Frontiers.{is_beyond}
 use Rattle.progress.specs.declared.place.Place.{Place}
 use Rattle.progress.specs.declared.counted.Counted.{Counted}
+use Rattle.progress.specs.Counting.{CountAlike}
 use Rattle.progress.specs.Tallies.{SameCounts, times_where}
 
 pub one_more : {A : Type 0} (test : A → Bool) (xs : List A) (x : A) → length (filter test (x ∷ xs)) ≡ cond (test x) (suc (length (filter test xs))) (length (filter test xs))
@@ -25,9 +26,9 @@ abbrev some : ℕ → Bool
 some zero = false
 some (suc n) = true
 
-module _ {T : Type 0} where
+module _ {A : Type 0} where
   -- an item behind the others counts like one in front of them
-  pub pushed : (xs : List (Counted T)) (x : Counted T) → SameCounts (xs ++ x ∷ []) (x ∷ xs)
+  pub pushed : (xs : List A) (x : A) → CountAlike (xs ++ x ∷ []) (x ∷ xs)
   pushed [] x test = refl
   pushed (y ∷ ys) x test =
       one_more test (ys ++ x ∷ []) y
@@ -37,7 +38,7 @@ module _ {T : Type 0} where
       ∙ sym (one_more test (y ∷ ys) x))))
 
   -- an item that was removed is counted once less
-  pub removed : (xs : List (Counted T)) (i : ℕ) (x : Counted T) → i < length xs → x ≡ slice_index_or xs i x → SameCounts (x ∷ remove xs i) xs
+  pub removed : (xs : List A) (i : ℕ) (x : A) → i < length xs → x ≡ slice_index_or xs i x → CountAlike (x ∷ remove xs i) xs
   removed [] i x l e test = absurd (omega (arith, l))
   removed (y ∷ ys) zero x l e test = ap (λ z. length (filter test (z ∷ ys))) e
   removed (y ∷ ys) (suc i) x l e test =
@@ -49,7 +50,7 @@ module _ {T : Type 0} where
       ∙ sym (one_more test ys y)))))
 
   -- the order of two items does not count
-  pub exchanged : (xs : List (Counted T)) (x y : Counted T) → SameCounts (x ∷ (y ∷ xs)) (y ∷ (x ∷ xs))
+  pub exchanged : (xs : List A) (x y : A) → CountAlike (x ∷ (y ∷ xs)) (y ∷ (x ∷ xs))
   exchanged xs x y test =
       one_more test (y ∷ xs) x
       ∙ (ap (λ n. cond (test x) (suc n) n) (one_more test xs y)
@@ -58,9 +59,10 @@ module _ {T : Type 0} where
       ∙ sym (one_more test (x ∷ xs) y))))
 
   -- one item more in front of lists that count alike
-  pub more_alike : (xs ys : List (Counted T)) (x : Counted T) → SameCounts xs ys → SameCounts (x ∷ xs) (x ∷ ys)
+  pub more_alike : (xs ys : List A) (x : A) → CountAlike xs ys → CountAlike (x ∷ xs) (x ∷ ys)
   more_alike xs ys x same test = one_more test xs x ∙ (ap (λ n. cond (test x) (suc n) n) (same test) ∙ sym (one_more test ys x))
 
+module _ {T : Type 0} where
   -- a time counts for a frontier if some item says so
   pub any_where : (test : Place → Bool) (p : T → Bool) (xs : List (Counted T)) → list_any p (times_where test xs) ≡ list_any (λ i. cond (test i.place) (p i.time) false) xs
   any_where test p [] = refl
@@ -118,7 +120,7 @@ module _ {T : Type 0} where
           pred m n k = omega (arith, k)
       more false q m n k f = ap some k
 
-or_swap : (a b c : Bool) → ((a || b) || c) ≡ (b || (a || c))
+pub or_swap : (a b c : Bool) → ((a || b) || c) ≡ (b || (a || c))
 or_swap true true c = refl
 or_swap true false c = refl
 or_swap false b c = refl

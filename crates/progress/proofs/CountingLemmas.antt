@@ -12,19 +12,12 @@ use Rattle.std.proofs.lemmas.List.{length-append, length-replicate}
 use Rattle.std.proofs.lemmas.List.Folds.{list_any-append}
 use Rattle.lattice.specs.Frontiers.{is_beyond}
 use Rattle.antichain.proofs.Lists.{Among}
-use Rattle.progress.specs.declared.place.Place.{Place}
-use Rattle.progress.specs.declared.counted.Counted.{Counted}
-use Rattle.progress.specs.Counting.{listed}
-use Rattle.progress.specs.Tallies.{times_where}
-use Rattle.progress.proofs.CountLemmas.{one_more, swapped, any_where}
-
--- the lists have each item equally often
-abbrev pub Same : {A : Type 0} → List A → List A → Type 0
-Same {A} a b = (test : A → Bool) → length (filter test a) ≡ length (filter test b)
+use Rattle.progress.specs.Counting.{CountAlike, listed}
+use Rattle.progress.proofs.CountLemmas.{one_more, swapped}
 
 module _ {A : Type 0} where
   -- one item more behind some others
-  pub carried : (before new old : List A) (k : A) → Same new (k ∷ old) → Same (before ++ new) (k ∷ (before ++ old))
+  pub carried : (before new old : List A) (k : A) → CountAlike new (k ∷ old) → CountAlike (before ++ new) (k ∷ (before ++ old))
   carried [] new old k h test = h test
   carried (p ∷ ps) new old k h test =
       one_more test (ps ++ new) p
@@ -34,7 +27,7 @@ module _ {A : Type 0} where
       ∙ sym (one_more test (p ∷ (ps ++ old)) k))))
 
   -- lists that count alike do so with others behind them
-  pub behind : (new old rest : List A) → Same new old → Same (new ++ rest) (old ++ rest)
+  pub behind : (new old rest : List A) → CountAlike new old → CountAlike (new ++ rest) (old ++ rest)
   behind new old rest h test = spread new ∙ (ap (λ n. n + length (filter test rest)) (h test) ∙ sym (spread old))
     where
       by : (b : Bool) (m n : ℕ) → cond b (suc (m + n)) (m + n) ≡ cond b (suc m) m + n
@@ -49,7 +42,7 @@ module _ {A : Type 0} where
           ∙ (by (test x) (length (filter test xs)) (length (filter test rest)) ∙ ap (λ n. n + length (filter test rest)) (sym (one_more test xs x))))
 
   -- lists that count alike are equally long
-  pub same_length : (xs ys : List A) → Same xs ys → length xs ≡ length ys
+  pub same_length : (xs ys : List A) → CountAlike xs ys → length xs ≡ length ys
   same_length xs ys h = sym (ap length (all xs)) ∙ (h (λ _. true) ∙ ap length (all ys))
     where
       all : (zs : List A) → filter (λ _. true) zs ≡ zs
@@ -92,7 +85,7 @@ module _ {A : Type 0} where
 
     module _ (exact : (e : A) → at e ≡ true → e ≡ k) where
       -- a number that is one more counts one item more
-      pub written : (es : List (A × ℕ)) (v w : ℕ) → lookup at es ≡ Some v → Same (listed (set_value at es (suc w))) (k ∷ listed (set_value at es w))
+      pub written : (es : List (A × ℕ)) (v w : ℕ) → lookup at es ≡ Some v → CountAlike (listed (set_value at es (suc w))) (k ∷ listed (set_value at es w))
       written [] v w h test = absurd (cc)
       written (e ∷ es) v w h test =
           elim (at e.0) as (λ b. at e.0 ≡ b → cond b (Some e.1) (lookup at es) ≡ Some v → length (filter test (listed (cond b ((e.0, suc w) ∷ es) (e ∷ set_value at es (suc w))))) ≡ length (filter test (k ∷ listed (cond b ((e.0, w) ∷ es) (e ∷ set_value at es w))))) [
@@ -101,7 +94,7 @@ module _ {A : Type 0} where
           ] refl h
 
       -- without its entry, an item that was counted once is counted once less
-      pub dropped : (es : List (A × ℕ)) → lookup at es ≡ Some 0 → Same (k ∷ listed (remove_entry at es)) (listed es)
+      pub dropped : (es : List (A × ℕ)) → lookup at es ≡ Some 0 → CountAlike (k ∷ listed (remove_entry at es)) (listed es)
       dropped [] h test = absurd (cc)
       dropped (e ∷ es) h test =
           elim (at e.0) as (λ b. at e.0 ≡ b → cond b (Some e.1) (lookup at es) ≡ Some 0 → length (filter test (k ∷ listed (cond b es (e ∷ remove_entry at es)))) ≡ length (filter test (listed (e ∷ es)))) [
@@ -119,7 +112,7 @@ module _ {A : Type 0} where
         ] h
 
   -- a new entry counts its item once
-  pub entered : (cmp : A → A → Ordering) (k : A) (es : List (A × ℕ)) → lookup (is_at (cmp k)) es ≡ None → Same (listed (insert_entry cmp es k 0)) (k ∷ listed es)
+  pub entered : (cmp : A → A → Ordering) (k : A) (es : List (A × ℕ)) → lookup (is_at (cmp k)) es ≡ None → CountAlike (listed (insert_entry cmp es k 0)) (k ∷ listed es)
   entered cmp k [] h test = refl
   entered cmp k (e ∷ es) h test =
       elim (cmp k e.0) as (λ o. cond (is_eq o) (Some e.1) (lookup (is_at (cmp k)) es) ≡ None → length (filter test (listed (match_ordering o ((k, 0) ∷ (e ∷ es)) ((e.0, 0) ∷ es) (e ∷ insert_entry cmp es k 0)))) ≡ length (filter test (k ∷ listed (e ∷ es)))) [
@@ -128,8 +121,8 @@ module _ {A : Type 0} where
         | Greater ↦ λ r. carried (e.0 ∷ replicate e.1 e.0) (listed (insert_entry cmp es k 0)) (listed es) k (entered cmp k es r) test
       ] h
 
-module _ {T : Type 0} (below : T → T → Bool) (test : Place → Bool) where
-  copies_any : (p : Counted T → Bool) (n : ℕ) (x : Counted T) (ys : List (Counted T)) → (p x || list_any p (replicate n x ++ ys)) ≡ (p x || list_any p ys)
+module _ {T : Type 0} (below : T → T → Bool) where
+  copies_any : (p : T → Bool) (n : ℕ) (x : T) (ys : List T) → (p x || list_any p (replicate n x ++ ys)) ≡ (p x || list_any p ys)
   copies_any p zero x ys = refl
   copies_any p (suc n) x ys = again (p x) (list_any p (replicate n x ++ ys)) ∙ copies_any p n x ys
     where
@@ -137,23 +130,6 @@ module _ {T : Type 0} (below : T → T → Bool) (test : Place → Bool) where
       again true b = refl
       again false b = refl
 
-  -- how often an item is counted does not matter to a frontier
-  pub listed_beyond : (x : Counted T) (n : ℕ) (ys : List (Counted T)) (t : T) → is_beyond below (times_where test (x ∷ (replicate n x ++ ys))) t ≡ is_beyond below (times_where test (x ∷ ys)) t
-  listed_beyond x n ys t =
-      any_where test (λ f. below f t) (x ∷ (replicate n x ++ ys))
-      ∙ (copies_any (λ i. cond (test i.place) (below i.time t) false) n x ys
-      ∙ sym (any_where test (λ f. below f t) (x ∷ ys)))
-
-  -- the items of two lists
-  pub both_beyond : (xs ys : List (Counted T)) (t : T) → is_beyond below (times_where test (xs ++ ys)) t ≡ (is_beyond below (times_where test xs) t || is_beyond below (times_where test ys) t)
-  both_beyond xs ys t =
-      any_where test (λ f. below f t) (xs ++ ys)
-      ∙ (list_any-append (λ i. cond (test i.place) (below i.time t) false) xs ys
-      ∙ sym (λ k. any_where test (λ f. below f t) xs k || any_where test (λ f. below f t) ys k))
-
-  -- what the first entry adds
-  pub listed_first : (x : Counted T) (n : ℕ) (ys : List (Counted T)) (t : T) → is_beyond below (times_where test (x ∷ (replicate n x ++ ys))) t ≡ (cond (test x.place) (below x.time t) false || is_beyond below (times_where test ys) t)
-  listed_first x n ys t =
-      listed_beyond x n ys t
-      ∙ (any_where test (λ f. below f t) (x ∷ ys)
-      ∙ ap (λ b. cond (test x.place) (below x.time t) false || b) (sym (any_where test (λ f. below f t) ys)))
+  -- how often a time is counted does not matter to a frontier
+  pub listed_first : (x : T) (n : ℕ) (ys : List T) (t : T) → is_beyond below (x ∷ (replicate n x ++ ys)) t ≡ is_beyond below (x ∷ ys) t
+  listed_first x n ys t = copies_any (λ f. below f t) n x ys

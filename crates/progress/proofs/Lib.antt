@@ -13,3 +13,4 @@ pub mod ScopeLemmas
 pub mod CurrentLemmas
 pub mod CountingLemmas
 pub mod TieLemmas
+pub mod PlacingLemmas

@@ -1,7 +1,12 @@
--- Counts that are kept by item, read as a list of items.
-use Rattle.std.specs.Prelude.{ℕ, List, [], ◌∷◌, ◌++◌, replicate}
+-- Counts that are kept by entry, read as a list.
+use Rattle.std.specs.Prelude.{◌≡◌, ℕ, Bool, List, [], ◌∷◌, ◌++◌, length, replicate}
+use Rattle.std.specs.List.{filter}
 
--- each item of the entries once, and so many times more as its number says
+-- the key of each entry once, and so many times more as its number says
 abbrev pub listed : {A : Type 0} → List (A × ℕ) → List A
 listed [] = []
 listed (e ∷ es) = e.0 ∷ (replicate e.1 e.0 ++ listed es)
+
+-- the lists have each element equally often, in whatever order
+abbrev pub CountAlike : {A : Type 0} → List A → List A → Type 0
+CountAlike {A} a b = (test : A → Bool) → length (filter test a) ≡ length (filter test b)

@@ -5,3 +5,4 @@ pub mod Scopes
 pub mod Graphs
 pub mod Kept
 pub mod Counting
+pub mod Placing

@@ -4,8 +4,8 @@ ghost use Rattle.std.specs.Prelude.{◌≡◌, ◌↔◌, IsTrue};
 use crate::place::Place;
 use lattice::Lattice;
 
-/// A time that is outstanding at a place. Items sort by place, then by time.
-#[derive(Drop, PartialEq, Eq, PartialOrd, Ord)]
+/// A time that is outstanding at a place.
+#[derive(Drop)]
 pub struct Counted<T> {
     /// The place.
     pub place: Place,

@@ -1,108 +1,135 @@
-//! How often each item is counted. A bulk load has very many bundles in flight at a few times, so
-//! the items stand in a tree, each with a number. Counting one more or one less takes a step down
-//! that tree.
+//! How often each item is counted, place by place. Each node of a plan has four places: its two
+//! ports, what is held at it, and its frontier if it is an input. They stand in a list in this order,
+//! so the counts of a place are found in one step. Then a frontier is found from the places that
+//! count for it, and the times at the others are not looked at.
 //!
-//! A later time in place of an earlier one may need a new entry, but a downgrade takes no memory. So
-//! there is always room in a list for as many items as are counted. The list is used only if the
-//! tree is refused memory, and mostly it is empty.
-ghost use Rattle.std.specs.Prelude.{◌≡◌, ◌<◌, ◌≤◌, ◌||◌, [], ◌∷◌, ◌++◌, true, false, IsTrue, IfErr, OnErr, OnOk, Contains, length, slice_index_or};
-ghost use Rattle.std.specs.Vec.{vec_len, vec_capacity};
+//! A place that the plan does not have is counted too, though for no frontier. Such items stand in a
+//! list of their own. A board counts none.
+ghost use Rattle.std.specs.Prelude.{◌≡◌, ℕ, ◌+◌, ◌*◌, ◌<◌, ◌≤◌, ◌||◌, [], ◌∷◌, Some, None, IfErr, IfOk, IfSome, OnErr, OnOk, Contains, length, slice_index_or};
 ghost use Rattle.lattice.specs.Frontiers.{is_beyond};
 ghost use Rattle.update.specs.declared.refusal.Refusal.TheVariants.{OutOfMemory};
-ghost use Rattle.progress.specs.Counting.{listed};
+ghost use Rattle.progress.specs.Placing.{IsPlaced, items_in, slot};
 ghost use Rattle.progress.specs.Scopes.{scope_node, is_in_scope};
 ghost use Rattle.progress.specs.Tallies.{SameCounts, times_where};
 
 use crate::counted::Counted;
 use crate::graph::Graph;
 use crate::place::Place;
-use crate::scan::{insert_listed, insert_times, is_any_in, is_any_listed};
+use crate::scan::{insert_times, is_any_in};
 use crate::scope::Scope;
+use crate::time_counts::TimeCounts;
 use lattice::Lattice;
+use plan::NodeId;
 use std::alloc::Global;
-use std::collections::BTreeMap;
 use std::marker::Model;
 use update::Refusal;
+
+// How many places stand in the list for each node.
+const PLACES_OF_A_NODE: usize = 4;
+
+/// A place, and how often each time is counted there.
+#[derive(Drop)]
+pub(crate) struct PlaceCounts<T: Lattice> {
+    place: Place,
+    times: TimeCounts<T>,
+}
 
 /// Items, each counted a number of times. A contract sees a list of them.
 #[derive(Drop)]
 pub(crate) struct Counts<T: Lattice> {
-    // By item, how often it is counted beyond the first time.
-    more: BTreeMap<Counted<T>, usize>,
-    // What a downgrade counted while memory was refused. There is room for all that is counted.
-    moved: Vec<Counted<T>>,
-    // How many items are counted in all.
-    len: usize,
+    places: Vec<PlaceCounts<T>>,
+    // What is counted at places that do not stand there.
+    others: Vec<Counted<T>>,
 }
 
 impl<T: Lattice> Model for Counts<T> {
-    ghost use Rattle.std.specs.Prelude.{◌≡◌, ◌≤◌, ◌++◌, List, length};
-    ghost use Rattle.std.specs.Vec.{vec_capacity};
+    ghost use Rattle.std.specs.Prelude.{◌++◌, List, length};
     ghost use Rattle.progress.specs.declared.counted.Counted.{Counted};
-    ghost use Rattle.progress.specs.Counting.{listed};
+    ghost use Rattle.progress.specs.Placing.{AreOthers, IsPlaced, items_in};
 
     ghost Value = { List (Counted T) };
 
-    ghost view = { λ c. listed c.more.entries ++ c.moved.items };
+    ghost view = { λ c. items_in c.places.items ++ c.others.items };
 
-    ghost invariant = { λ c. (length (listed c.more.entries ++ c.moved.items) ≡ c.len)
-        × (c.len ≤ vec_capacity c.moved) };
+    ghost invariant = { λ c. IsPlaced c.places.items
+        × AreOthers (length c.places.items) c.others.items };
 }
 
 impl<T: Lattice> Counts<T> {
-    /// Nothing is counted. Takes no memory.
-    pub(crate) fn new(alloc: Global) -> Counts<T>
-        ensures { result ≡ [] }
+    /// Nothing is counted, with the places of so many nodes. Refused only with `OutOfMemory`.
+    ///
+    /// Cost: linear in the nodes.
+    pub(crate) fn new(alloc: Global, nodes: usize) -> Result<Counts<T>, Refusal>
+        ensures none { IfOk result (λ counts. counts ≡ []) }
+        ensures refused { IfErr result (λ refusal. refusal ≡ OutOfMemory) }
     {
-        Counts {
-            more: BTreeMap::new(alloc),
-            moved: Vec::new(alloc),
-            len: 0,
+        let mut places = Vec::new(alloc);
+        for number in 0..nodes {
+            push_places(alloc, &mut places, NodeId::new(number))?;
         }
+        Ok(Counts {
+            places,
+            others: Vec::new(alloc),
+        })
     }
 
-    /// Counts an item once more. Refused only with `OutOfMemory`, and then nothing changes.
+    /// Counts a time at a place once more. Refused only with `OutOfMemory`, and then nothing changes.
     ///
-    /// Cost: logarithmic in the different items that are counted.
-    pub(crate) fn add(&mut self, item: Counted<T>) -> Result<(), Refusal>
-        ensures counted { OnOk result (SameCounts self.new (item ∷ self.old)) }
+    /// Cost: logarithmic in the different times that are counted at the place.
+    pub(crate) fn add(&mut self, place: &Place, t: T) -> Result<(), Refusal>
+        ensures counted { OnOk result
+            (SameCounts self.new (record { place = place.now; time = t } ∷ self.old)) }
         ensures refused { IfErr result (λ refusal. refusal ≡ OutOfMemory) }
         ensures unchanged { OnErr result (self.new ≡ self.old) }
     {
-        make_room(&mut self.moved, self.len)?;
-        if let Err(_refused) = put(&mut self.more, item) {
-            return Err(Refusal::OutOfMemory);
+        if let Some(number) = number_of(place, self.places.len()) {
+            self.places[number].times.add(t)?;
+            return Ok(());
         }
-        self.len += 1;
+        let place = place.copy();
+        self.others.push(Counted { place, time: t })?;
         Ok(())
     }
 
-    /// Counts an item once less. Takes no memory.
+    /// Counts a time at a place once less. Takes no memory.
     ///
-    /// Cost: logarithmic in the different items that are counted, and linear in those that were
-    /// moved while memory was refused.
-    pub(crate) fn remove(&mut self, item: &Counted<T>)
-        requires { Contains self.old item.now }
-        ensures { SameCounts (item.now ∷ self.new) self.old }
+    /// Cost: logarithmic in the different times that are counted at the place, and linear in those
+    /// that were moved there while memory was refused. If the plan does not have the place, linear in
+    /// what is counted at such places.
+    pub(crate) fn remove(&mut self, place: &Place, t: &T)
+        requires { Contains self.old (record { place = place.now; time = t.now }) }
+        ensures { SameCounts (record { place = place.now; time = t.now } ∷ self.new) self.old }
     {
-        take(&mut self.more, &mut self.moved, item);
-        self.len -= 1;
+        if let Some(number) = number_of(place, self.places.len()) {
+            self.places[number].times.remove(t);
+        } else {
+            let number = position(self.others.as_slice(), place, t);
+            let _ = self.others.remove(number);
+        }
     }
 
-    /// Counts an item once less, and another one in its place. Takes no memory.
+    /// Counts a time at a place once less, and another one there in its place. Takes no memory.
     ///
     /// Cost: that of `remove`.
-    pub(crate) fn replace(&mut self, item: &Counted<T>, later: Counted<T>)
-        requires { Contains self.old item.now }
-        ensures { SameCounts (item.now ∷ self.new) (later ∷ self.old) }
+    pub(crate) fn replace(&mut self, place: &Place, t: &T, later: T)
+        requires { Contains self.old (record { place = place.now; time = t.now }) }
+        ensures { SameCounts (record { place = place.now; time = t.now } ∷ self.new)
+            (record { place = place.now; time = later } ∷ self.old) }
     {
-        take(&mut self.more, &mut self.moved, item);
-        if let Err(later) = put(&mut self.more, later) {
-            self.moved.push_reserved(later);
+        if let Some(number) = number_of(place, self.places.len()) {
+            self.places[number].times.replace(t, later);
+        } else {
+            let number = position(self.others.as_slice(), place, t);
+            let _ = self.others.remove(number);
+            let place = place.copy();
+            self.others.push_reserved(Counted { place, time: later });
         }
     }
 
     /// Inserts the times that count for a frontier. Refused only with `OutOfMemory`.
+    ///
+    /// Cost: linear in the places, and in the different times that are counted at those that count for
+    /// the frontier, times the elements of the frontier.
     pub(crate) fn insert_times(
         &self,
         found: &mut Vec<T>,
@@ -115,95 +142,117 @@ impl<T: Lattice> Counts<T> {
             || is_beyond T.below (times_where (is_in_scope graph.now scope.now) self.now) t)) }
         ensures refused { IfErr result (λ refusal. refusal ≡ OutOfMemory) }
     {
-        insert_listed(found, graph, scope, &self.more)?;
-        insert_times(found, graph, scope, self.moved.as_slice())?;
+        insert_placed(found, graph, scope, self.places.as_slice())?;
+        insert_times(found, graph, scope, self.others.as_slice())?;
         Ok(())
     }
 
     /// Whether some time that counts for a frontier is at or before this one. Takes no memory.
+    ///
+    /// Cost: that of [`Counts::insert_times`] at most, for a frontier without elements. The first such
+    /// time settles it.
     pub(crate) fn is_any_in(&self, graph: &Graph, scope: &Scope, t: &T) -> bool
         requires { scope_node scope.now < length graph.now }
         ensures { result
             ≡ is_beyond T.below (times_where (is_in_scope graph.now scope.now) self.now) t.now }
     {
-        is_any_listed(graph, scope, &self.more, t)
-            || is_any_in(graph, scope, self.moved.as_slice(), t)
+        is_any_placed(graph, scope, self.places.as_slice(), t)
+            || is_any_in(graph, scope, self.others.as_slice(), t)
     }
 }
 
-// Makes room for one item more than there are.
-fn make_room<T: Lattice>(moved: &mut Vec<Counted<T>>, len: usize) -> Result<(), Refusal>
-    requires { length moved.old.items ≤ len }
-    ensures items { moved.new.items ≡ moved.old.items }
-    ensures room { OnOk result (len < vec_capacity moved.new) }
-    ensures capacity { vec_capacity moved.old ≤ vec_capacity moved.new }
+// The places of a node, behind those of the nodes before it.
+fn push_places<T: Lattice>(
+    alloc: Global,
+    places: &mut Vec<PlaceCounts<T>>,
+    node: NodeId,
+) -> Result<(), Refusal>
+    requires placed { IsPlaced places.old.items }
+    requires next { length places.old.items ≡ node * 4 }
+    ensures placed { OnOk result (IsPlaced places.new.items) }
+    ensures next { OnOk result (length places.new.items ≡ (node + 1) * 4) }
+    ensures items { OnOk result (items_in places.new.items ≡ items_in places.old.items) }
     ensures refused { IfErr result (λ refusal. refusal ≡ OutOfMemory) }
 {
-    if len == usize::MAX {
-        return Err(Refusal::OutOfMemory);
-    }
-    moved.reserve(len + 1 - moved.len())?;
+    push_place(alloc, places, Place::Port { node, port: 0 })?;
+    push_place(alloc, places, Place::Port { node, port: 1 })?;
+    push_place(alloc, places, Place::Held { node })?;
+    push_place(alloc, places, Place::Input { node })?;
     Ok(())
 }
 
-// Counts an item once more. Memory is refused only to an item that is not counted yet; then the
-// item is handed back.
-fn put<T: Lattice>(
-    more: &mut BTreeMap<Counted<T>, usize>,
-    item: Counted<T>,
-) -> Result<(), Counted<T>>
-    requires { length (listed more.old.entries) < 18446744073709551615 }
-    ensures counted { OnOk result
-        (SameCounts (listed more.new.entries) (item ∷ listed more.old.entries)) }
-    ensures back { IfErr result (λ back. back ≡ item) }
-    ensures unchanged { OnErr result (more.new.entries ≡ more.old.entries) }
+// One place more, at which nothing is counted.
+fn push_place<T: Lattice>(
+    alloc: Global,
+    places: &mut Vec<PlaceCounts<T>>,
+    place: Place,
+) -> Result<(), Refusal>
+    requires placed { IsPlaced places.old.items }
+    requires next { slot place ≡ Some (length places.old.items) }
+    ensures placed { OnOk result (IsPlaced places.new.items) }
+    ensures next { OnOk result (length places.new.items ≡ length places.old.items + 1) }
+    ensures items { OnOk result (items_in places.new.items ≡ items_in places.old.items) }
+    ensures refused { IfErr result (λ refusal. refusal ≡ OutOfMemory) }
 {
-    if let Some(number) = more.get_mut(&item) {
-        *number += 1;
-        return Ok(());
-    }
-    match more.insert(item, 0) {
-        Ok(_) => Ok(()),
-        Err(failed) => {
-            let (item, _) = failed.value;
-            Err(item)
+    let times = TimeCounts::new(alloc);
+    places.push(PlaceCounts { place, times })?;
+    Ok(())
+}
+
+// The number of a place among so many, if it is there.
+fn number_of(place: &Place, len: usize) -> Option<usize>
+    ensures found { IfSome result (λ number. (slot place.now ≡ Some number) × (number < len)) }
+    ensures missing { result ≡ None → (number : ℕ) → slot place.now ≡ Some number → len ≤ number }
+{
+    let beside = match place {
+        Place::Port { port, .. } if *port < 2 => *port,
+        Place::Port { .. } => return None,
+        Place::Held { .. } => 2,
+        Place::Input { .. } => 3,
+    };
+    let first = place.node().number().checked_mul(PLACES_OF_A_NODE)?;
+    let number = first.checked_add(beside)?;
+    if number < len { Some(number) } else { None }
+}
+
+// Inserts the times of the places that count for a frontier.
+fn insert_placed<T: Lattice>(
+    found: &mut Vec<T>,
+    graph: &Graph,
+    scope: &Scope,
+    places: &[PlaceCounts<T>],
+) -> Result<(), Refusal>
+    requires { scope_node scope.now < length graph.now }
+    ensures beyond { OnOk result ((t : T) → is_beyond T.below found.new.items t
+        ≡ (is_beyond T.below found.old.items t || is_beyond T.below
+        (times_where (is_in_scope graph.now scope.now) (items_in places.now)) t)) }
+    ensures refused { IfErr result (λ refusal. refusal ≡ OutOfMemory) }
+{
+    for counts in places {
+        if scope.counts(graph, &counts.place) {
+            counts.times.insert_into(found)?;
         }
     }
+    Ok(())
 }
 
-// Counts an item once less, wherever it stands.
-fn take<T: Lattice>(
-    more: &mut BTreeMap<Counted<T>, usize>,
-    moved: &mut Vec<Counted<T>>,
-    item: &Counted<T>,
-)
-    requires { Contains (listed more.old.entries ++ moved.old.items) item.now }
-    ensures counted { SameCounts (item.now ∷ (listed more.new.entries ++ moved.new.items))
-        (listed more.old.entries ++ moved.old.items) }
-    ensures room { vec_capacity moved.new ≡ vec_capacity moved.old }
+// Whether some time at a place that counts for a frontier is at or before this one.
+fn is_any_placed<T: Lattice>(
+    graph: &Graph,
+    scope: &Scope,
+    places: &[PlaceCounts<T>],
+    t: &T,
+) -> bool
+    requires { scope_node scope.now < length graph.now }
+    ensures { result ≡ is_beyond T.below
+        (times_where (is_in_scope graph.now scope.now) (items_in places.now)) t.now }
 {
-    if !take_listed(more, item) {
-        let number = position(moved.as_slice(), &item.place, &item.time);
-        let _ = moved.remove(number);
+    for counts in places {
+        if scope.counts(graph, &counts.place) && counts.times.is_any_before(t) {
+            return true;
+        }
     }
-}
-
-// Counts an item once less, if it has an entry, and tells whether it has one.
-fn take_listed<T: Lattice>(more: &mut BTreeMap<Counted<T>, usize>, item: &Counted<T>) -> bool
-    ensures counted { IsTrue result
-        → SameCounts (item.now ∷ listed more.new.entries) (listed more.old.entries) }
-    ensures missing { result ≡ false → Contains (listed more.old.entries) item.now → ⊥ }
-    ensures unchanged { result ≡ false → more.new.entries ≡ more.old.entries }
-{
-    let Some(number) = more.get_mut(item) else {
-        return false;
-    };
-    if *number > 0 {
-        *number -= 1;
-        return true;
-    }
-    let _ = more.remove(item);
-    true
+    false
 }
 
 // The number of an item of a place and a time. There must be one; which of several does not matter.

@@ -21,8 +21,8 @@
 //! was found anew. At first all nodes are marked, so a node that nobody asks about is never found.
 //!
 //! Of what is counted, a contract says only how often each item occurs, and nothing of the order.
-//! [`counts_determine_frontiers`] proves that no frontier depends on more than that. So the items
-//! stand in a tree, each once with a number, and a million bundles at one time are one entry.
+//! [`counts_determine_frontiers`] proves that no frontier depends on more than that. So the times of
+//! each place stand in a tree, each once with a number, and a million bundles at one time are one entry.
 //! Questions borrow the tally mutably, since they change what is kept.
 //!
 //! A [`Capability`] is the right to give updates at a place at a time or later. The tally counts
@@ -46,6 +46,7 @@ mod scope;
 mod several;
 mod table;
 mod tally;
+mod time_counts;
 
 pub use capability::Capability;
 pub use counted::Counted;

@@ -7,7 +7,7 @@ use plan::NodeId;
 
 /// Where something is outstanding. The numbers are not tested. If no node of the plan has the
 /// number that a place names, then nothing that is counted there is in any frontier.
-#[derive(Drop, PartialEq, Eq, PartialOrd, Ord)]
+#[derive(Drop)]
 pub enum Place {
     /// A port of a node: the bundles that wait there. Changes of an input wait at its port 0.
     Port { node: NodeId, port: usize },

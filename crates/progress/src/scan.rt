@@ -56,40 +56,40 @@ pub(crate) fn is_any_in<T: Lattice>(
     false
 }
 
-// Inserts the times that count for a frontier, once each.
-pub(crate) fn insert_listed<T: Lattice>(
-    found: &mut Vec<T>,
-    graph: &Graph,
-    scope: &Scope,
-    more: &BTreeMap<Counted<T>, usize>,
-) -> Result<(), Refusal>
-    requires { scope_node scope.now < length graph.now }
-    ensures beyond { OnOk result ((t : T) → is_beyond T.below found.new.items t
-        ≡ (is_beyond T.below found.old.items t || is_beyond T.below
-        (times_where (is_in_scope graph.now scope.now) (listed more.now.entries)) t)) }
+// Inserts all of these times.
+pub(crate) fn insert_all<T: Lattice>(found: &mut Vec<T>, times: &[T]) -> Result<(), Refusal>
+    ensures beyond { OnOk result ((s : T) → is_beyond T.below found.new.items s
+        ≡ (is_beyond T.below found.old.items s || is_beyond T.below times.now s)) }
     ensures refused { IfErr result (λ refusal. refusal ≡ OutOfMemory) }
 {
-    for (entry, _) in more {
-        if scope.counts(graph, &entry.place) {
-            insert_time(found, entry.time)?;
-        }
+    for t in times {
+        insert_time(found, *t)?;
     }
     Ok(())
 }
 
-// Whether some time that counts for a frontier is at or before this one.
-pub(crate) fn is_any_listed<T: Lattice>(
-    graph: &Graph,
-    scope: &Scope,
-    more: &BTreeMap<Counted<T>, usize>,
-    t: &T,
-) -> bool
-    requires { scope_node scope.now < length graph.now }
-    ensures { result ≡ is_beyond T.below
-        (times_where (is_in_scope graph.now scope.now) (listed more.now.entries)) t.now }
+// Inserts the times that have an entry.
+pub(crate) fn insert_listed<T: Lattice>(
+    found: &mut Vec<T>,
+    more: &BTreeMap<T, usize>,
+) -> Result<(), Refusal>
+    ensures beyond { OnOk result ((s : T) → is_beyond T.below found.new.items s
+        ≡ (is_beyond T.below found.old.items s
+        || is_beyond T.below (listed more.now.entries) s)) }
+    ensures refused { IfErr result (λ refusal. refusal ≡ OutOfMemory) }
 {
     for (entry, _) in more {
-        if scope.counts(graph, &entry.place) && entry.time.less_equal(t) {
+        insert_time(found, *entry)?;
+    }
+    Ok(())
+}
+
+// Whether some time that has an entry is at or before this one.
+pub(crate) fn is_any_listed<T: Lattice>(more: &BTreeMap<T, usize>, t: &T) -> bool
+    ensures { result ≡ is_beyond T.below (listed more.now.entries) t.now }
+{
+    for (entry, _) in more {
+        if entry.less_equal(t) {
             return true;
         }
     }

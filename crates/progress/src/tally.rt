@@ -11,7 +11,6 @@ ghost use Rattle.progress.specs.Tallies.{AreMarksBelow, SameCounts, is_marked, t
 ghost use Rattle.progress.specs.Scopes.{scope_node, is_in_scope};
 
 use crate::capability::Capability;
-use crate::counted::Counted;
 use crate::counts::Counts;
 use crate::graph::Graph;
 use crate::kept::Kept;
@@ -67,10 +66,11 @@ impl<T: Lattice> Tally<T> {
         ensures refused { IfErr result (λ refusal. refusal ≡ OutOfMemory) }
     {
         let graph = Graph::of(alloc, plan)?;
+        let items = Counts::new(alloc, graph.len())?;
         let kept = all_marked(alloc, graph.len())?;
         Ok(Tally {
             graph,
-            items: Counts::new(alloc),
+            items,
             kept,
             rebuilt: 0,
         })
@@ -129,11 +129,7 @@ impl<T: Lattice> Tally<T> {
         ensures below { AreMarksBelow self.old.nodes place.now self.old.marked self.new.marked }
         ensures rebuilt { self.new.rebuilt ≡ self.old.rebuilt }
     {
-        let item = Counted {
-            place: place.copy(),
-            time: *t,
-        };
-        self.items.remove(&item);
+        self.items.remove(place, t);
         forget_in_all(&mut self.kept, &self.graph, place, t);
     }
 
@@ -178,15 +174,7 @@ impl<T: Lattice> Tally<T> {
         ensures rebuilt { self.new.rebuilt ≡ self.old.rebuilt }
     {
         let Capability { place, time } = capability;
-        let item = Counted {
-            place: place.copy(),
-            time,
-        };
-        let moved = Counted {
-            place: place.copy(),
-            time: later,
-        };
-        self.items.replace(&item, moved);
+        self.items.replace(&place, &time, later);
         forget_in_all(&mut self.kept, &self.graph, &place, &time);
         Capability { place, time: later }
     }
@@ -403,7 +391,6 @@ fn count<T: Lattice>(
     ensures unchanged { OnErr result (items.new ≡ items.old) }
 {
     insert_in_all(kept, graph, place, t)?;
-    let place = place.copy();
-    items.add(Counted { place, time: t })?;
+    items.add(place, t)?;
     Ok(())
 }

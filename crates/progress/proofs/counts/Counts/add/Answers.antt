@@ -1,13 +1,49 @@
-use Rattle.std.proofs.Common.{◌∷◌, length, ap, arith}
-use Rattle.std.proofs.lemmas.List.{length-append}
-use Rattle.progress.specs.Counting.{listed}
-use Rattle.progress.proofs.CountingLemmas.{same_length}
+use Rattle.std.proofs.Common.{◌≡◌, ◌<◌, Result, Ok, Err, OnErr, List, [], ◌∷◌, ◌++◌, length, ap, sym, subst, ◌∙◌, append_assoc, arith}
+use Rattle.std.specs.List.{filter}
+use Rattle.std.specs.Prelude.{slice_set}
+use Rattle.progress.specs.declared.place.Place.{Place}
+use Rattle.progress.specs.declared.counted.Counted.{Counted}
+use Rattle.progress.specs.declared.counts.PlaceCounts.{PlaceCounts}
+use Rattle.progress.specs.Placing.{items_in}
+use Rattle.progress.proofs.CountLemmas.{pushed}
+use Rattle.progress.proofs.PlacingLemmas.{changed, own_place, set_itself}
 use Rattle.progress.proofs.counts.Counts.add.Goals as goal
 
-pub invariant_of-self-2 : goal.invariant_of-self-2
-invariant_of-self-2 g c =
-    let l = same_length (listed c.put.new.more.entries) (c.args.item ∷ listed c.self.inside.more.entries) c.in_default.ensures.counted in
-    let now = length-append (listed c.put.new.more.entries) c.make_room.new.moved.items in
-    let was = length-append (listed c.self.inside.more.entries) c.self.inside.moved.items in
-    let same = ap length c.in_ok-make_room.ensures.items in
-    (omega (arith, l, now, was, same, c.self.invariant.0), omega (arith, c.in_ok-make_room.ensures.room))
+at_err : {X E P : Type 0} (r : Result X E) → P → OnErr r P
+at_err (Ok x) p = tt
+at_err (Err e) p = p
+
+pub returns-in-Some-clause-counted : goal.returns-in-Some-clause-counted
+returns-in-Some-clause-counted g c test =
+    let ps = c.self.inside.places.items in
+    let os = c.self.inside.others.items in
+    let i = c.in-Some.number in
+    let a = c.index_mut.result.now in
+    let s = c.in-Some.ensures.found.0 in
+    let within : i < length ps = omega (arith, c.in-Some.ensures.found.1, c.len.ensures) in
+    let b : PlaceCounts g.row.T.Denot = record { place = a.place; times = c.add.new.self } in
+    let x : Counted g.row.T.Denot = record { place = c.args.place.now; time = c.args.t } in
+    let same = own_place ps os c.self.invariant.0 c.args.place.now i a s within c.index_mut.ensures.value in
+    changed [] (c.args.t ∷ []) c.args.place.now ps i a b os within c.index_mut.ensures.value same same c.in_ok-add.ensures.counted test
+    ∙ ap (λ xs. length (filter test (x ∷ xs))) c.self.view_is
+
+pub returns-in_err-add-clause-unchanged : goal.returns-in_err-add-clause-unchanged
+returns-in_err-add-clause-unchanged g c =
+    let ps = c.self.inside.places.items in
+    let os = c.self.inside.others.items in
+    let a = c.index_mut.result.now in
+    let at = λ (ts : List g.row.T.Denot). let p : PlaceCounts g.row.T.Denot = record { place = a.place; times = ts } in p in
+    at_err c.from_residual.result ((λ k. items_in (slice_set ps c.in-Some.number (at (c.in_err-add.ensures.unchanged k))) ++ os)
+    ∙ (ap (λ qs. items_in qs ++ os) (set_itself ps c.in-Some.number a c.index_mut.ensures.value) ∙ c.self.view_is))
+
+pub returns-clause-counted : goal.returns-clause-counted
+returns-clause-counted g c test =
+    let ps = c.self.inside.places.items in
+    let os = c.self.inside.others.items in
+    let x : Counted g.row.T.Denot = record { place = c.args.place.now; time = c.args.t } in
+    let at = λ (p : Place). let z : Counted g.row.T.Denot = record { place = p; time = c.args.t } in z in
+    let last : c.push.new.self.items ≡ os ++ x ∷ [] = c.in_ok-push.ensures.items ∙ (λ k. os ++ at (c.copy-place.ensures k) ∷ []) in
+    ap (λ xs. length (filter test (items_in ps ++ xs))) last
+    ∙ (ap (λ xs. length (filter test xs)) (sym (append_assoc (items_in ps) os (x ∷ [])))
+    ∙ (pushed (items_in ps ++ os) x test
+    ∙ ap (λ xs. length (filter test (x ∷ xs))) c.self.view_is))

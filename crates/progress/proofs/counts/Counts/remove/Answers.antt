@@ -1,9 +1,77 @@
-use Rattle.std.proofs.Common.{◌∷◌, ◌++◌, arith}
-use Rattle.progress.specs.Counting.{listed}
-use Rattle.progress.proofs.CountingLemmas.{same_length}
+use Rattle.std.proofs.Common.{◌≡◌, ℕ, ◌<◌, ◌≤◌, Some, refl, [], ◌∷◌, ◌++◌, length, ap, sym, subst, ◌∙◌, arith}
+use Rattle.std.specs.List.{filter, remove}
+use Rattle.std.specs.Prelude.{Contains, slice_index_or}
+use Rattle.progress.specs.declared.counted.Counted.{Counted}
+use Rattle.progress.specs.declared.counts.PlaceCounts.{PlaceCounts}
+use Rattle.progress.specs.Placing.{AreOthers, items_in, slot}
+use Rattle.progress.specs.Tallies.{SameCounts}
+use Rattle.progress.proofs.CountLemmas.{removed}
+use Rattle.progress.proofs.CountingLemmas.{carried}
+use Rattle.progress.proofs.PlacingLemmas.{changed, in_its_place, in_others, others_less, others_stay, own_place, still_placed}
 use Rattle.progress.proofs.counts.Counts.remove.Goals as goal
+
+pub remove-requires : goal.remove-requires
+remove-requires g c =
+    let ps = c.self.inside.places.items in
+    let os = c.self.inside.others.items in
+    let i = c.in-Some.number in
+    let a = c.index_mut.result.now in
+    let s = c.in-Some.ensures.found.0 in
+    let within : i < length ps = omega (arith, c.in-Some.ensures.found.1, c.len.ensures) in
+    let x : Counted g.row.T.Denot = record { place = c.args.place.now; time = c.args.t.now } in
+    let there = in_its_place ps os c.self.invariant.0 c.self.invariant.1 x i a s within (subst (λ xs. Contains xs x) (sym c.self.view_is) c.requires) in
+    subst (λ (p : PlaceCounts g.row.T.Denot). Contains p.times c.args.t.now) (sym c.index_mut.ensures.value) there
 
 pub invariant_of-self : goal.invariant_of-self
 invariant_of-self g c =
-    let l = same_length (c.args.item.now ∷ (listed c.take.new.more.entries ++ c.take.new.moved.items)) (listed c.self.inside.more.entries ++ c.self.inside.moved.items) c.take.ensures.counted in
-    (omega (arith, l, c.self.invariant.0), omega (arith, c.self.invariant.1, c.take.ensures.room))
+    let ps = c.self.inside.places.items in
+    let os = c.self.inside.others.items in
+    let i = c.in-Some.number in
+    let a = c.index_mut.result.now in
+    let s = c.in-Some.ensures.found.0 in
+    let within : i < length ps = omega (arith, c.in-Some.ensures.found.1, c.len.ensures) in
+    let b : PlaceCounts g.row.T.Denot = record { place = a.place; times = c.remove.new.self } in
+    let own = ap slot (own_place ps os c.self.invariant.0 c.args.place.now i a s within c.index_mut.ensures.value) ∙ s in
+    (still_placed ps os c.self.invariant.0 i b within own, others_stay ps os c.self.invariant.0 i b c.self.invariant.1)
+
+pub position-number-requires : goal.position-number-requires
+position-number-requires g c =
+    let ps = c.self.inside.places.items in
+    let os = c.self.inside.others.items in
+    let x : Counted g.row.T.Denot = record { place = c.args.place.now; time = c.args.t.now } in
+    let far : (i : ℕ) → slot x.place ≡ Some i → length ps ≤ i = (λ i s. let past = c.in_default.ensures.missing refl i s in omega (arith, past, c.len.ensures)) in
+    subst (λ xs. Contains xs x) (sym c.as_slice.ensures.value) (in_others ps os c.self.invariant.0 x far (subst (λ xs. Contains xs x) (sym c.self.view_is) c.requires))
+
+pub invariant_of-self-in_default : goal.invariant_of-self-in_default
+invariant_of-self-in_default g c =
+    let ps = c.self.inside.places.items in
+    let os = c.self.inside.others.items in
+    let number = c.position-number.result in
+    let left = others_less (length ps) os number c.self.invariant.1 in
+    (c.self.invariant.0, subst (λ xs. AreOthers (length ps) xs) (sym c.remove-in_default.ensures.items) left)
+
+pub returns-in-Some : goal.returns-in-Some
+returns-in-Some g c test =
+    let ps = c.self.inside.places.items in
+    let os = c.self.inside.others.items in
+    let i = c.in-Some.number in
+    let a = c.index_mut.result.now in
+    let s = c.in-Some.ensures.found.0 in
+    let within : i < length ps = omega (arith, c.in-Some.ensures.found.1, c.len.ensures) in
+    let b : PlaceCounts g.row.T.Denot = record { place = a.place; times = c.remove.new.self } in
+    let same = own_place ps os c.self.invariant.0 c.args.place.now i a s within c.index_mut.ensures.value in
+    changed (c.args.t.now ∷ []) [] c.args.place.now ps i a b os within c.index_mut.ensures.value same same c.remove.ensures test
+    ∙ ap (λ xs. length (filter test xs)) c.self.view_is
+
+pub returns-in_default : goal.returns-in_default
+returns-in_default g c test =
+    let ps = c.self.inside.places.items in
+    let os = c.self.inside.others.items in
+    let x : Counted g.row.T.Denot = record { place = c.args.place.now; time = c.args.t.now } in
+    let number = c.position-number.result in
+    let inside = subst (λ xs. number < length xs) c.as_slice.ensures.value c.position-number.ensures.within in
+    let there = subst (λ xs. slice_index_or xs number x ≡ x) c.as_slice.ensures.value c.position-number.ensures.there in
+    let less : SameCounts (x ∷ remove os number) os = removed os number x inside (sym there) in
+    ap (λ xs. length (filter test (x ∷ (items_in ps ++ xs)))) c.remove-in_default.ensures.items
+    ∙ (sym (carried (items_in ps) os (remove os number) x (λ p. sym (less p)) test)
+    ∙ ap (λ xs. length (filter test xs)) c.self.view_is)

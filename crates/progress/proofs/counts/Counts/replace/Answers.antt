@@ -1,66 +1,89 @@
-use Rattle.std.proofs.Common.{◌≡◌, ◌<◌, ◌∷◌, ◌++◌, [], length, ap, sym, ◌∙◌, append_assoc, arith, rules}
-use Rattle.std.specs.List.{filter}
-use Rattle.std.proofs.lemmas.List.{length-append}
-use Rattle.progress.specs.Counting.{listed}
-use Rattle.progress.proofs.CountLemmas.{exchanged, more_alike, pushed}
-use Rattle.progress.proofs.CountingLemmas.{behind, same_length}
+use Rattle.std.proofs.Common.{◌≡◌, ℕ, ◌<◌, ◌≤◌, Some, refl, [], ◌∷◌, ◌++◌, length, ap, sym, subst, ◌∙◌, append_assoc, arith}
+use Rattle.std.specs.List.{filter, remove}
+use Rattle.std.specs.Prelude.{Contains, slice_index_or}
+use Rattle.progress.specs.declared.place.Place.{Place}
+use Rattle.progress.specs.declared.counted.Counted.{Counted}
+use Rattle.progress.specs.declared.counts.PlaceCounts.{PlaceCounts}
+use Rattle.progress.specs.Placing.{AreOthers, items_in, slot}
+use Rattle.progress.specs.Tallies.{SameCounts}
+use Rattle.progress.proofs.CountLemmas.{exchanged, more_alike, pushed, removed}
+use Rattle.progress.proofs.CountingLemmas.{carried}
+use Rattle.progress.proofs.PlacingLemmas.{changed, in_its_place, in_others, others_less, others_more, others_stay, own_place, still_placed}
 use Rattle.progress.proofs.counts.Counts.replace.Goals as goal
 
-pub put-requires : goal.put-requires
-put-requires g c =
-    let l = same_length (c.args.item.now ∷ (listed c.take.new.more.entries ++ c.take.new.moved.items)) (listed c.self.inside.more.entries ++ c.self.inside.moved.items) c.take.ensures.counted in
-    let both = length-append (listed c.take.new.more.entries) c.take.new.moved.items in
-    let few : c.self.inside.len < 18446744073709551616 = first_of (search rules, omega arith) in
-    omega (arith, few, l, both, c.self.invariant.0)
-
-pub push_reserved-requires : goal.push_reserved-requires
-push_reserved-requires g c =
-    let l = same_length (c.args.item.now ∷ (listed c.take.new.more.entries ++ c.take.new.moved.items)) (listed c.self.inside.more.entries ++ c.self.inside.moved.items) c.take.ensures.counted in
-    let both = length-append (listed c.take.new.more.entries) c.take.new.moved.items in
-    omega (arith, l, both, c.self.invariant.0, c.self.invariant.1, c.take.ensures.room, c.take.new.moved.ok.0)
+pub replace-requires : goal.replace-requires
+replace-requires g c =
+    let ps = c.self.inside.places.items in
+    let os = c.self.inside.others.items in
+    let i = c.in-Some.number in
+    let a = c.index_mut.result.now in
+    let s = c.in-Some.ensures.found.0 in
+    let within : i < length ps = omega (arith, c.in-Some.ensures.found.1, c.len.ensures) in
+    let x : Counted g.row.T.Denot = record { place = c.args.place.now; time = c.args.t.now } in
+    let there = in_its_place ps os c.self.invariant.0 c.self.invariant.1 x i a s within (subst (λ xs. Contains xs x) (sym c.self.view_is) c.requires) in
+    subst (λ (p : PlaceCounts g.row.T.Denot). Contains p.times c.args.t.now) (sym c.index_mut.ensures.value) there
 
 pub invariant_of-self : goal.invariant_of-self
 invariant_of-self g c =
-    let l = same_length (c.args.item.now ∷ (listed c.take.new.more.entries ++ c.take.new.moved.items)) (listed c.self.inside.more.entries ++ c.self.inside.moved.items) c.take.ensures.counted in
-    let both = length-append (listed c.take.new.more.entries) c.take.new.moved.items in
-    let now = length-append (listed c.put.new.more.entries) c.push_reserved.new.self.items in
-    let last = ap length c.push_reserved.ensures.items ∙ length-append c.take.new.moved.items (c.in-Err.later ∷ []) in
-    let same = ap (λ es. length (listed es)) c.in-Err.ensures.unchanged in
-    (omega (arith, l, both, now, last, same, c.self.invariant.0), omega (arith, c.self.invariant.1, c.take.ensures.room, c.push_reserved.ensures.capacity))
+    let ps = c.self.inside.places.items in
+    let os = c.self.inside.others.items in
+    let i = c.in-Some.number in
+    let a = c.index_mut.result.now in
+    let s = c.in-Some.ensures.found.0 in
+    let within : i < length ps = omega (arith, c.in-Some.ensures.found.1, c.len.ensures) in
+    let b : PlaceCounts g.row.T.Denot = record { place = a.place; times = c.replace.new.self } in
+    let own = ap slot (own_place ps os c.self.invariant.0 c.args.place.now i a s within c.index_mut.ensures.value) ∙ s in
+    (still_placed ps os c.self.invariant.0 i b within own, others_stay ps os c.self.invariant.0 i b c.self.invariant.1)
+
+pub position-number-requires : goal.position-number-requires
+position-number-requires g c =
+    let ps = c.self.inside.places.items in
+    let os = c.self.inside.others.items in
+    let x : Counted g.row.T.Denot = record { place = c.args.place.now; time = c.args.t.now } in
+    let far : (i : ℕ) → slot x.place ≡ Some i → length ps ≤ i = (λ i s. let past = c.in_default.ensures.missing refl i s in omega (arith, past, c.len.ensures)) in
+    subst (λ xs. Contains xs x) (sym c.as_slice.ensures.value) (in_others ps os c.self.invariant.0 x far (subst (λ xs. Contains xs x) (sym c.self.view_is) c.requires))
 
 pub invariant_of-self-in_default : goal.invariant_of-self-in_default
 invariant_of-self-in_default g c =
-    let l = same_length (c.args.item.now ∷ (listed c.take.new.more.entries ++ c.take.new.moved.items)) (listed c.self.inside.more.entries ++ c.self.inside.moved.items) c.take.ensures.counted in
-    let both = length-append (listed c.take.new.more.entries) c.take.new.moved.items in
-    let now = length-append (listed c.put.new.more.entries) c.take.new.moved.items in
-    let more = same_length (listed c.put.new.more.entries) (c.args.later ∷ listed c.take.new.more.entries) c.in_default.ensures.counted in
-    (omega (arith, l, both, now, more, c.self.invariant.0), omega (arith, c.self.invariant.1, c.take.ensures.room))
+    let ps = c.self.inside.places.items in
+    let os = c.self.inside.others.items in
+    let number = c.position-number.result in
+    let left = subst (λ xs. AreOthers (length ps) xs) (sym c.remove.ensures.items) (others_less (length ps) os number c.self.invariant.1) in
+    let y : Counted g.row.T.Denot = record { place = c.copy-place.result; time = c.args.later } in
+    let far : (i : ℕ) → slot y.place ≡ Some i → length ps ≤ i = (λ i s. let past = c.in_default.ensures.missing refl i (ap slot (sym c.copy-place.ensures) ∙ s) in omega (arith, past, c.len.ensures)) in
+    (c.self.invariant.0, subst (λ xs. AreOthers (length ps) xs) (sym c.push_reserved.ensures.items) (others_more (length ps) c.remove.new.self.items y left far))
 
-pub returns-in-Err : goal.returns-in-Err
-returns-in-Err g c test =
-    let x = c.args.item.now in
-    let later = c.args.later in
-    let left = listed c.take.new.more.entries in
-    let moved = c.take.new.moved.items in
-    let old = listed c.self.inside.more.entries ++ c.self.inside.moved.items in
-    let last : c.push_reserved.new.self.items ≡ moved ++ later ∷ [] = c.push_reserved.ensures.items ∙ ap (λ z. moved ++ z ∷ []) c.in-Err.ensures.back in
-    let seen : old ≡ c.args.self.now = c.self.view_is in
-    (λ i. length (filter test (x ∷ (listed (c.in-Err.ensures.unchanged i) ++ last i))))
-    ∙ (ap (λ ys. length (filter test (x ∷ ys))) (sym (append_assoc left moved (later ∷ [])))
-    ∙ (more_alike ((left ++ moved) ++ later ∷ []) (later ∷ (left ++ moved)) x (pushed (left ++ moved) later) test
-    ∙ (exchanged (left ++ moved) x later test
-    ∙ (more_alike (x ∷ (left ++ moved)) old later c.take.ensures.counted test
-    ∙ ap (λ ys. length (filter test (later ∷ ys))) seen))))
+pub returns-in-Some : goal.returns-in-Some
+returns-in-Some g c test =
+    let ps = c.self.inside.places.items in
+    let os = c.self.inside.others.items in
+    let i = c.in-Some.number in
+    let a = c.index_mut.result.now in
+    let s = c.in-Some.ensures.found.0 in
+    let within : i < length ps = omega (arith, c.in-Some.ensures.found.1, c.len.ensures) in
+    let b : PlaceCounts g.row.T.Denot = record { place = a.place; times = c.replace.new.self } in
+    let same = own_place ps os c.self.invariant.0 c.args.place.now i a s within c.index_mut.ensures.value in
+    let y : Counted g.row.T.Denot = record { place = c.args.place.now; time = c.args.later } in
+    changed (c.args.t.now ∷ []) (c.args.later ∷ []) c.args.place.now ps i a b os within c.index_mut.ensures.value same same c.replace.ensures test
+    ∙ ap (λ xs. length (filter test (y ∷ xs))) c.self.view_is
 
 pub returns-in_default : goal.returns-in_default
 returns-in_default g c test =
-    let x = c.args.item.now in
-    let later = c.args.later in
-    let left = listed c.take.new.more.entries in
-    let moved = c.take.new.moved.items in
-    let old = listed c.self.inside.more.entries ++ c.self.inside.moved.items in
-    let seen : old ≡ c.args.self.now = c.self.view_is in
-    more_alike (listed c.put.new.more.entries ++ moved) (later ∷ (left ++ moved)) x (behind (listed c.put.new.more.entries) (later ∷ left) moved c.in_default.ensures.counted) test
-    ∙ (exchanged (left ++ moved) x later test
-    ∙ (more_alike (x ∷ (left ++ moved)) old later c.take.ensures.counted test
-    ∙ ap (λ ys. length (filter test (later ∷ ys))) seen))
+    let ps = c.self.inside.places.items in
+    let os = c.self.inside.others.items in
+    let x : Counted g.row.T.Denot = record { place = c.args.place.now; time = c.args.t.now } in
+    let number = c.position-number.result in
+    let inside = subst (λ xs. number < length xs) c.as_slice.ensures.value c.position-number.ensures.within in
+    let there = subst (λ xs. slice_index_or xs number x ≡ x) c.as_slice.ensures.value c.position-number.ensures.there in
+    let less : SameCounts (x ∷ remove os number) os = removed os number x inside (sym there) in
+    let placed = items_in ps in
+    let rest = remove os number in
+    let y : Counted g.row.T.Denot = record { place = c.args.place.now; time = c.args.later } in
+    let at = λ (p : Place). let z : Counted g.row.T.Denot = record { place = p; time = c.args.later } in z in
+    let last : c.push_reserved.new.self.items ≡ rest ++ y ∷ [] = c.push_reserved.ensures.items ∙ (λ k. c.remove.ensures.items k ++ at (c.copy-place.ensures k) ∷ []) in
+    ap (λ xs. length (filter test (x ∷ (placed ++ xs)))) last
+    ∙ (ap (λ xs. length (filter test (x ∷ xs))) (sym (append_assoc placed rest (y ∷ [])))
+    ∙ (more_alike ((placed ++ rest) ++ y ∷ []) (y ∷ (placed ++ rest)) x (pushed (placed ++ rest) y) test
+    ∙ (exchanged (placed ++ rest) x y test
+    ∙ (more_alike (x ∷ (placed ++ rest)) (placed ++ os) y (λ u. sym (carried placed os rest x (λ p. sym (less p)) u)) test
+    ∙ ap (λ xs. length (filter test (y ∷ xs))) c.self.view_is))))

@@ -11,18 +11,16 @@ use Rattle.progress.proofs.tally.Tally.downgrade.Goals as goal
 pub replace-requires : goal.replace-requires
 replace-requires g c =
     let seen = ap (λ (s : TallyState g.row.T.Denot). s.items) c.self.view_is in
-    let item = λ (p : Place). let x : Counted g.row.T.Denot = record { place = p; time = c.capability.inside.time } in x in
-    subst (λ xs. Contains xs (item c.copy.result)) (sym seen)
-    (subst (λ p. Contains c.args.self.now.items (item p)) (sym c.copy.ensures) (subst (λ x. Contains c.args.self.now.items x) (sym c.capability.view_is) c.requires.counted))
+    let x : Counted g.row.T.Denot = record { place = c.capability.inside.place; time = c.capability.inside.time } in
+    subst (λ xs. Contains xs x) (sym seen) (subst (λ y. Contains c.args.self.now.items y) (sym c.capability.view_is) c.requires.counted)
 
 pub returns-clause-counted : goal.returns-clause-counted
 returns-clause-counted g c test =
     let seen = ap (λ (s : TallyState g.row.T.Denot). s.items) c.self.view_is in
     let left = c.replace.new.self in
-    let item = λ (p : Place). let x : Counted g.row.T.Denot = record { place = p; time = c.capability.inside.time } in x in
-    let moved = λ (p : Place). let x : Counted g.row.T.Denot = record { place = p; time = c.args.later } in x in
-    ap (λ (w : Counted g.row.T.Denot). length (filter test (w ∷ left))) (sym c.capability.view_is ∙ ap item (sym c.copy.ensures))
-    ∙ (c.replace.ensures test ∙ (λ i. length (filter test (moved (c.copy-2.ensures i) ∷ seen i))))
+    let moved : Counted g.row.T.Denot = record { place = c.capability.inside.place; time = c.args.later } in
+    ap (λ (w : Counted g.row.T.Denot). length (filter test (w ∷ left))) (sym c.capability.view_is)
+    ∙ (c.replace.ensures test ∙ (λ i. length (filter test (moved ∷ seen i))))
 
 pub returns-clause-below : goal.returns-clause-below
 returns-clause-below g c =
@@ -45,7 +43,7 @@ invariant_of-self g c =
     let place = c.capability.inside.place in
     let onward = subst (λ (x : Counted g.row.T.Denot). IsTrue (below x.time c.args.later)) (sym c.capability.view_is) c.requires.later in
     let there : Contains items (item place) = subst (λ xs. Contains xs (item place)) (sym seen) (subst (λ x. Contains c.args.self.now.items x) (sym c.capability.view_is) c.requires.counted) in
-    let same : SameCounts (item place ∷ left) (moved place ∷ items) = (λ test. ap (λ p. length (filter test (item p ∷ left))) (sym c.copy.ensures) ∙ (c.replace.ensures test ∙ ap (λ p. length (filter test (moved p ∷ items))) c.copy-2.ensures)) in
+    let same : SameCounts (item place ∷ left) (moved place ∷ items) = c.replace.ensures in
     record {
       plan = c.self.invariant.plan;
       len = c.forget_in_all.ensures.len ∙ c.self.invariant.len;

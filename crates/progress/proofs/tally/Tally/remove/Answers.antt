@@ -11,14 +11,12 @@ use Rattle.progress.proofs.tally.Tally.remove.Goals as goal
 pub remove-requires : goal.remove-requires
 remove-requires g c =
     let seen = ap (λ (s : TallyState g.row.T.Denot). s.items) c.self.view_is in
-    let item = λ (p : Place). let x : Counted g.row.T.Denot = record { place = p; time = c.args.t.now } in x in
-    subst (λ xs. Contains xs (item c.copy.result)) (sym seen) (subst (λ p. Contains c.args.self.now.items (item p)) (sym c.copy.ensures) c.requires)
+    let x : Counted g.row.T.Denot = record { place = c.args.place.now; time = c.args.t.now } in
+    subst (λ xs. Contains xs x) (sym seen) c.requires
 
 pub returns-clause-counted : goal.returns-clause-counted
 returns-clause-counted g c test =
-    let seen = ap (λ (s : TallyState g.row.T.Denot). s.items) c.self.view_is in
-    ap (λ (p : Place). let x : Counted g.row.T.Denot = record { place = p; time = c.args.t.now } in length (filter test (x ∷ c.remove.new.self))) (sym c.copy.ensures)
-    ∙ (c.remove.ensures test ∙ ap (λ xs. length (filter test xs)) seen)
+    c.remove.ensures test ∙ ap (λ xs. length (filter test xs)) (ap (λ (s : TallyState g.row.T.Denot). s.items) c.self.view_is)
 
 pub returns-clause-below : goal.returns-clause-below
 returns-clause-below g c =
@@ -33,7 +31,7 @@ invariant_of-self g c =
     let ks = c.self.inside.kept.items in
     let left = c.remove.new.self in
     let x : Counted g.row.T.Denot = record { place = c.args.place.now; time = c.args.t.now } in
-    let counted : SameCounts (x ∷ left) c.self.inside.items = (λ test. ap (λ (p : Place). let x : Counted g.row.T.Denot = record { place = p; time = c.args.t.now } in length (filter test (x ∷ left))) (sym c.copy.ensures) ∙ c.remove.ensures test) in
+    let counted : SameCounts (x ∷ left) c.self.inside.items = c.remove.ensures in
     record {
       plan = c.self.invariant.plan;
       len = c.forget_in_all.ensures.len ∙ c.self.invariant.len;

@@ -4,19 +4,19 @@ use Rattle.std.specs.List.{filter}
 use Rattle.std.specs.Map.{lookup, set_value}
 use Rattle.progress.specs.Counting.{listed}
 use Rattle.progress.proofs.CountingLemmas.{entered, fits, same_value, written}
-use Rattle.progress.proofs.TieLemmas.{counted_cmp, tied_one}
-use Rattle.progress.proofs.counts.put.Goals as goal
+use Rattle.progress.proofs.TieLemmas.{tied_one}
+use Rattle.progress.proofs.time_counts.put.Goals as goal
 
 pub overflow_add-number : goal.overflow_add-number
 overflow_add-number g c =
-    let look : lookup (is_at (counted_cmp g.T.Ord.cmp c.args.item)) c.args.more.now.entries ≡ Some c.in-Some.number.now = sym c.in-Some.ensures.value in
-    let l = fits (is_at (counted_cmp g.T.Ord.cmp c.args.item)) c.args.item c.args.more.now.entries c.in-Some.number.now look in
+    let look : lookup (is_at (g.T.Ord.cmp c.args.t)) c.args.more.now.entries ≡ Some c.in-Some.number.now = sym c.in-Some.ensures.value in
+    let l = fits (is_at (g.T.Ord.cmp c.args.t)) c.args.t c.args.more.now.entries c.in-Some.number.now look in
     omega (arith, l, c.requires)
 
 pub returns-in-Some-clause-counted : goal.returns-in-Some-clause-counted
 returns-in-Some-clause-counted g c test =
-    let x = c.args.item in
-    let at = is_at (counted_cmp g.T.Ord.cmp x) in
+    let x = c.args.t in
+    let at = is_at (g.T.Ord.cmp x) in
     let es = c.args.more.now.entries in
     let v = c.in-Some.number.now in
     let look : lookup at es ≡ Some v = sym c.in-Some.ensures.value in
@@ -28,8 +28,8 @@ returns-in-Some-clause-counted g c test =
 
 pub returns-in-Ok-clause-counted : goal.returns-in-Ok-clause-counted
 returns-in-Ok-clause-counted g c test =
-    let x = c.args.item in
-    let cmp = counted_cmp g.T.Ord.cmp in
+    let x = c.args.t in
+    let cmp = g.T.Ord.cmp in
     let es = c.args.more.now.entries in
     let look : lookup (is_at (cmp x)) es ≡ None = sym c.in_default.ensures.value in
     let after : c.insert.new.self.entries ≡ insert_entry cmp c.get_mut.follows.lender-at-none.entries x 0 = c.in-Ok.ensures.entries in

@@ -5,21 +5,21 @@ use Rattle.std.specs.Map.{lookup, remove_entry, set_value}
 use Rattle.antichain.proofs.Lists.{among_contains}
 use Rattle.progress.specs.Counting.{listed}
 use Rattle.progress.proofs.CountingLemmas.{dropped, missing, same_value, written}
-use Rattle.progress.proofs.TieLemmas.{counted_cmp, one_tied, tied_one}
-use Rattle.progress.proofs.counts.take_listed.Goals as goal
+use Rattle.progress.proofs.TieLemmas.{one_tied, tied_one}
+use Rattle.progress.proofs.time_counts.take_listed.Goals as goal
 
 pub returns-in_default-clause-missing : goal.returns-in_default-clause-missing
 returns-in_default-clause-missing g c e there =
-    let x = c.args.item.now in
-    let at = is_at (counted_cmp g.T.Ord.cmp x) in
+    let x = c.args.t.now in
+    let at = is_at (g.T.Ord.cmp x) in
     let es = c.args.more.now.entries in
     let look : lookup at es ≡ None = sym c.in_default.ensures.value in
     missing at x es (one_tied g.T.Ord.cmp g.met.T.Ord.total x) look (among_contains x (listed es) there)
 
 pub returns-then-number-gt0-clause-counted : goal.returns-then-number-gt0-clause-counted
 returns-then-number-gt0-clause-counted g c _ test =
-    let x = c.args.item.now in
-    let at = is_at (counted_cmp g.T.Ord.cmp x) in
+    let x = c.args.t.now in
+    let at = is_at (g.T.Ord.cmp x) in
     let es = c.args.more.now.entries in
     let v = c.in-Some.number.now in
     let look : lookup at es ≡ Some v = sym c.in-Some.ensures.value in
@@ -32,8 +32,8 @@ returns-then-number-gt0-clause-counted g c _ test =
 
 pub returns-clause-counted : goal.returns-clause-counted
 returns-clause-counted g c _ test =
-    let x = c.args.item.now in
-    let at = is_at (counted_cmp g.T.Ord.cmp x) in
+    let x = c.args.t.now in
+    let at = is_at (g.T.Ord.cmp x) in
     let es = c.args.more.now.entries in
     let v = c.in-Some.number.now in
     let none = c.if-number-gt0.false in
