@@ -1,15 +1,15 @@
 -- A loop that goes over those nodes alone that somebody asked about. It changes what a loop over all
 -- nodes would, since each other node is marked, and what is kept of a marked node stays as it is.
-use Rattle.std.proofs.Common.{◌≡◌, ℕ, zero, suc, ◌+◌, ◌<◌, ◌≤◌, Bool, true, false, ◌||◌, eqb, List, [], ◌∷◌, ◌++◌, length, take, refl, ap, sym, ◌∙◌, subst, arith, inl, ⊎_elim}
+use Rattle.std.proofs.Common.{◌≡◌, ℕ, zero, suc, ◌+◌, ◌<◌, ◌≤◌, Bool, true, false, ◌||◌, eqb, List, [], ◌∷◌, length, take, refl, ap, sym, ◌∙◌, subst, arith, inl, ⊎_elim}
 use Rattle.std.specs.List.{list_any}
 use Rattle.std.specs.Prelude.{slice_index_or, slice_set}
-use Rattle.std.proofs.lemmas.Bool.{cases_Bool, cases_lt, eq-eqb, eqb-true, or_cases, or_from, or_left, or_parts, or_right, false≢true, true≢false}
-use Rattle.std.proofs.lemmas.List.{get_or_append_left, get_or_past, get_or_push, get_or_read, length_push, take_all, take-append-le}
-use Rattle.std.proofs.lemmas.List.Folds.{list_any-append, list_any_more}
+use Rattle.std.proofs.lemmas.Bool.{cases_Bool, eq-eqb, eqb-true, or_cases, or_from, or_parts, false≢true, true≢false}
+use Rattle.std.proofs.lemmas.List.{get_or_past, get_or_read}
+use Rattle.std.proofs.lemmas.List.Folds.{list_any_more}
 use Rattle.plan.specs.declared.node.Node.{Node}
 use Rattle.progress.specs.declared.kept.Kept.{Kept}
 use Rattle.progress.specs.declared.place.Place.{Place}
-use Rattle.progress.specs.Kept.{AreAsked, HaveChanged, HaveChangedAt, IsForgotten, IsInserted, IsMarked, IsSpared, is_asked}
+use Rattle.progress.specs.Kept.{AreAsked, HaveChanged, HaveChangedAt, IsForgotten, IsInserted, IsSpared, is_asked}
 use Rattle.progress.proofs.ChangeLemmas.{same_or_not, set_here, set_there, set_length}
 
 -- the first elements pass no test that none of the list passes
@@ -26,14 +26,6 @@ other_than : (asked : List ℕ) (n i : ℕ) → is_asked asked i ≡ true → is
 other_than asked n i there missing e = true≢false (sym there ∙ (sym (ap (λ j. is_asked asked j) e) ∙ missing))
 
 module _ {A : Type 0} (R : ℕ → A → A → Type 0) where
-  -- at the start of the loop nothing has changed
-  pub at_none : (asked : List ℕ) (old : List A) → HaveChangedAt R (take 0 asked) old old
-  at_none asked old = record {
-    len = refl;
-    changed = λ n d l e. absurd (false≢true e);
-    same = λ n d e. refl;
-  }
-
   -- the next one has changed, which did not before
   pub at_more : (asked : List ℕ) (old new : List A) (i a : ℕ) (v y : A) → i < length asked → slice_index_or asked i a ≡ a → is_asked (take i asked) a ≡ false → a < length new → v ≡ slice_index_or new a v → R a v y → HaveChangedAt R (take i asked) old new → HaveChangedAt R (take (i + 1) asked) old (slice_set new a y)
   at_more asked old new i a v y l at once within here r h = record {
@@ -56,10 +48,6 @@ module _ {A : Type 0} (R : ℕ → A → A → Type 0) where
 
       before : (n : ℕ) → (n ≡ a → ⊥) → (is_asked (take i asked) n || eqb a n) ≡ true → is_asked (take i asked) n ≡ true
       before n f e = ⊎_elim (λ b. b) (λ b. absurd (f (sym (eqb-true a n b)))) (or_cases (is_asked (take i asked) n) (eqb a n) e)
-
-  -- at the end of the loop all of them have changed
-  pub at_end : (asked : List ℕ) (old new : List A) (i : ℕ) → length asked ≤ i → HaveChangedAt R (take i asked) old new → HaveChangedAt R asked old new
-  at_end asked old new i l h = subst (λ xs. HaveChangedAt R xs old new) (take_all i asked l) h
 
   -- a loop that is left early has changed all if what stays the same counts as changed
   pub at_rest : ((n : ℕ) (a : A) → R n a a) → (asked : List ℕ) (old new : List A) (i : ℕ) → HaveChangedAt R (take i asked) old new → HaveChangedAt R asked old new
@@ -95,15 +83,7 @@ module _ {T : Type 0} where
       (subst (λ n. n < length new) at (subst (λ z. slice_index_or asked i a < z) (sym h.len) (all.within i a l)))
       here (subst (λ n. R n v y) (sym e) r) h
 
-  -- the other nodes are marked still
-  pub still_asked : (R : ℕ → Kept T → Kept T → Type 0) (asked : List ℕ) (old new : List (Kept T)) → AreAsked asked old → HaveChangedAt R asked old new → AreAsked asked new
-  still_asked R asked old new a h = record {
-    once = a.once;
-    within = λ i d l. subst (λ z. slice_index_or asked i d < z) (sym h.len) (a.within i d l);
-    others = λ n d l e. ap (λ k. k.marked) (h.same n d e) ∙ a.others n d (subst (λ z. n < z) h.len l) e;
-  }
-
-  -- so they are if one that somebody asked about is found anew
+  -- the other nodes are marked still if one that somebody asked about is found anew
   pub asked_set : (asked : List ℕ) (ks : List (Kept T)) (i : ℕ) (y : Kept T) → is_asked asked i ≡ true → AreAsked asked ks → AreAsked asked (slice_set ks i y)
   asked_set asked ks i y there a = record {
     once = a.once;
@@ -121,52 +101,10 @@ module _ {T : Type 0} where
     others = λ n d l e. all n d l;
   }
 
-  -- a node more
-  pub asked_more : (asked : List ℕ) (ks : List (Kept T)) (node : ℕ) → node < length ks → is_asked asked node ≡ false → AreAsked asked ks → AreAsked (asked ++ node ∷ []) ks
-  asked_more asked ks node l missing a = record {
-    once = λ i d m.
-        ⊎_elim
-        (λ b.
-        ap (λ xs. is_asked xs (slice_index_or (asked ++ node ∷ []) i d)) (take-append-le i asked (node ∷ []) (omega (arith, b)))
-        ∙ (ap (λ n. is_asked (take i asked) n) (get_or_append_left asked (node ∷ []) d i b) ∙ a.once i d b))
-        (λ b.
-        let last : length asked ≡ i = omega (arith, b, m, long) in
-        ap (λ xs. is_asked xs (slice_index_or (asked ++ node ∷ []) i d)) (take-append-le i asked (node ∷ []) (omega (arith, last)) ∙ take_all i asked (omega (arith, last)))
-        ∙ (ap (λ n. is_asked asked n) (get_or_push asked node d i last) ∙ missing))
-        (cases_lt i (length asked));
-    within = λ i d m.
-        ⊎_elim
-        (λ b. subst (λ n. n < length ks) (sym (get_or_append_left asked (node ∷ []) d i b)) (a.within i d b))
-        (λ b. subst (λ n. n < length ks) (sym (get_or_push asked node d i (omega (arith, b, m, long)))) l)
-        (cases_lt i (length asked));
-    others = λ n d m e.
-        a.others n d m (or_parts (is_asked asked n) (is_asked (node ∷ []) n) (sym (list_any-append (λ b. eqb b n) asked (node ∷ [])) ∙ e)).0;
-  }
-    where
-      long : length (asked ++ node ∷ []) ≡ length asked + 1
-      long = length_push asked node
-
--- the node that was put among them is there
-pub asked_last : (asked : List ℕ) (node : ℕ) → is_asked (asked ++ node ∷ []) node ≡ true
-asked_last asked node =
-    list_any-append (λ b. eqb b node) asked (node ∷ [])
-    ∙ or_right (is_asked asked node) (is_asked (node ∷ []) node) (or_left (eqb node node) false (eq-eqb node node refl))
-
--- a node that is not marked is there already
-pub asked_if_unmarked : {T : Type 0} (asked : List ℕ) (ks : List (Kept T)) (n : ℕ) (d : Kept T) → n < length ks → (slice_index_or ks n d).marked ≡ false → AreAsked asked ks → is_asked asked n ≡ true
-asked_if_unmarked asked ks n d l unmarked a =
-    ⊎_elim
-    (λ b. b)
-    (λ b. absurd (false≢true (sym unmarked ∙ a.others n d l b)))
-    (cases_Bool (is_asked asked n))
-
 module _ {T : Type 0} (nodes : List Node) (place : Place) where
   -- what the calls make of a marked node that stays as it is
   pub spared_still : (n : ℕ) (k : Kept T) → IsSpared nodes place n k k
   spared_still n k = record { others = λ _. refl; mark = refl }
-
-  pub marked_still : (n : ℕ) (k : Kept T) → k.marked ≡ true → IsMarked nodes place n k k
-  marked_still n k e = record { others = λ _. refl; below = λ _. e }
 
   module _ (below : T → T → Bool) (t : T) where
     pub inserted_still : (n : ℕ) (k : Kept T) → k.marked ≡ true → IsInserted below nodes place t n k k

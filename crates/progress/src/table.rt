@@ -7,7 +7,7 @@
 //! questions are about few: the inputs of what runs, and what is read from outside. A node is put
 //! among them at the first question about it, before it is unmarked. It stays among them, since who
 //! asks once asks again.
-ghost use Rattle.std.specs.Prelude.{◌≡◌, ◌<◌, ◌&&◌, ℕ, true, false, not, eqb, IsTrue, IfErr, IfOk, OnErr, OnOk, length, slice_index_or};
+ghost use Rattle.std.specs.Prelude.{◌≡◌, ◌<◌, ◌&&◌, ℕ, true, not, eqb, IfErr, IfOk, OnErr, OnOk, length};
 ghost use Rattle.lattice.specs.Frontiers.{is_beyond};
 ghost use Rattle.antichain.specs.Antichains.{SameElements, least};
 ghost use Rattle.update.specs.declared.refusal.Refusal.TheVariants.{OutOfMemory};
