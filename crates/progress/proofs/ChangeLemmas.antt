@@ -1,8 +1,6 @@
--- A loop that changes the elements of a list one by one.
-use Rattle.std.proofs.Common.{◌≡◌, ℕ, zero, suc, ◌+◌, ◌<◌, ◌≤◌, List, [], ◌∷◌, length, refl, ap, sym, ◌∙◌, subst, arith, ◌⊎◌, inl, inr, ⊎_elim}
+-- Elements of a list that are replaced one by one.
+use Rattle.std.proofs.Common.{◌≡◌, ℕ, zero, suc, ◌<◌, List, [], ◌∷◌, length, refl, ap, sym, subst, arith, ◌⊎◌, inl, inr, ⊎_elim}
 use Rattle.std.specs.Prelude.{slice_index_or, slice_set}
-use Rattle.std.proofs.lemmas.Bool.{cases_lt}
-use Rattle.std.proofs.lemmas.List.{get_or_read}
 use Rattle.progress.specs.Kept.{HaveChanged}
 
 pub same_or_not : (n i : ℕ) → (n ≡ i) ⊎ (n ≡ i → ⊥)
@@ -39,46 +37,6 @@ module _ {A : Type 0} where
       (same_or_not n i)
 
 module _ {A : Type 0} (R : ℕ → A → A → Type 0) where
-  pub changed_none : (old : List A) → HaveChanged R old old 0
-  changed_none old = record {
-    len = refl;
-    changed = λ n d l m. absurd (omega (arith, l));
-    same = λ n d l. refl;
-  }
-
-  -- one element more has changed
-  pub changed_more : (old new : List A) (i : ℕ) (v y : A) → HaveChanged R old new i → i < length new → v ≡ slice_index_or new i v → R i v y → HaveChanged R old (slice_set new i y) (i + 1)
-  changed_more old new i v y h l here r = record {
-    len = set_length new i y ∙ h.len;
-    changed = λ n d a b.
-        ⊎_elim
-        (λ e.
-        subst (λ j. R j (slice_index_or old j d) (slice_index_or (slice_set new i y) j d)) (sym e)
-        (subst (R i (slice_index_or old i d)) (sym (set_here new i y d l))
-        (subst (λ w. R i w y) (get_or_read new i v l here d ∙ h.same i d (omega arith)) r)))
-        (λ f. subst (R n (slice_index_or old n d)) (sym (set_there new i n y d f)) (h.changed n d (less n i a f) b))
-        (same_or_not n i);
-    same = λ n d a. set_there new i n y d (λ e. omega (arith, e, a)) ∙ h.same n d (omega (arith, a));
-  }
-    where
-      less : (n i : ℕ) → n < i + 1 → (n ≡ i → ⊥) → n < i
-      less n i a f = ⊎_elim (λ b. b) (λ b. absurd (f (omega (arith, a, b)))) (cases_lt n i)
-
-  -- at the end of the loop all have changed
-  pub changed_end : (old new : List A) (i : ℕ) → HaveChanged R old new i → i ≡ length old → HaveChanged R old new (length old)
-  changed_end old new i h e = subst (HaveChanged R old new) e h
-
-  -- a loop that is left early has changed all if what stays the same counts as changed
-  pub changed_rest : ((n : ℕ) (a : A) → R n a a) → (old new : List A) (i : ℕ) → i ≤ length old → HaveChanged R old new i → HaveChanged R old new (length old)
-  changed_rest same old new i l h = record {
-    len = h.len;
-    changed = λ n d a b.
-        ⊎_elim
-        (λ m. h.changed n d m b)
-        (λ m. subst (R n (slice_index_or old n d)) (sym (h.same n d m)) (same n (slice_index_or old n d)))
-        (cases_lt n i);
-    same = λ n d a. h.same n d (omega (arith, a, l));
-  }
-
+  -- what was done to each element, if all have changed
   pub changed_all : (old new : List A) → HaveChanged R old new (length old) → (n : ℕ) (d : A) → n < length new → R n (slice_index_or old n d) (slice_index_or new n d)
   changed_all old new h n d l = let m = subst (λ z. n < z) h.len l in h.changed n d m m

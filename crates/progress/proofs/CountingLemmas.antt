@@ -9,7 +9,6 @@ use Rattle.std.specs.declared.cmp.Ordering.{Ordering}
 use Rattle.std.specs.declared.cmp.Ordering.TheVariants.{Less, Equal, Greater}
 use Rattle.std.proofs.lemmas.Bool.{true≢false}
 use Rattle.std.proofs.lemmas.List.{length-append, length-replicate}
-use Rattle.std.proofs.lemmas.List.Folds.{list_any-append}
 use Rattle.lattice.specs.Frontiers.{is_beyond}
 use Rattle.antichain.proofs.Lists.{Among}
 use Rattle.progress.specs.Counting.{CountAlike, listed}

@@ -8,6 +8,7 @@ pub mod FrontierLemmas
 pub mod PortLemmas
 pub mod KeptLemmas
 pub mod ChangeLemmas
+pub mod AskedLemmas
 pub mod MarkLemmas
 pub mod ScopeLemmas
 pub mod CurrentLemmas

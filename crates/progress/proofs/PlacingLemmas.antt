@@ -1,5 +1,5 @@
 -- Counts that are kept place by place: what becomes of the items when the times at one place change.
-use Rattle.std.proofs.Common.{◌≡◌, ℕ, zero, suc, ◌+◌, ◌*◌, ◌<◌, ◌≤◌, Bool, true, false, cond, ◌||◌, List, [], ◌∷◌, ◌++◌, Some, None, length, map, refl, ap, sym, subst, ◌∙◌, ◌⊎◌, inl, inr, ⊎_elim, arith}
+use Rattle.std.proofs.Common.{◌≡◌, ℕ, zero, suc, ◌+◌, ◌*◌, ◌<◌, ◌≤◌, Bool, true, false, cond, ◌||◌, List, [], ◌∷◌, ◌++◌, Some, None, length, refl, ap, sym, subst, ◌∙◌, inl, inr, ⊎_elim, arith}
 use Rattle.std.specs.List.{filter, list_any, remove}
 use Rattle.std.specs.Prelude.{Contains, slice_index_or, slice_set, nat_lt}
 use Rattle.std.proofs.lemmas.Bool.{ltb-true}
@@ -181,9 +181,9 @@ module _ {T : Type 0} where
     in_its_place others x i d s l there =
         ⊎_elim
         (λ h. let at = standing ps x h in
-          let own = placed at.number d at.within in
-          let e = some_exact at.number i (sym own ∙ (ap slot (sym (at.place d)) ∙ s)) in
-          contains_among x.time (slice_index_or ps i d).times (subst (λ n. Among x.time (slice_index_or ps n d).times) e (at.time d)))
+        let own = placed at.number d at.within in
+        let e = some_exact at.number i (sym own ∙ (ap slot (sym (at.place d)) ∙ s)) in
+        contains_among x.time (slice_index_or ps i d).times (subst (λ n. Among x.time (slice_index_or ps n d).times) e (at.time d)))
         (λ o. let far = others x (contains_among x os o) i s in absurd (omega (arith, far, l)))
         (among_both (items_in ps) os x (among_contains x (items_in ps ++ os) there))
 
@@ -192,11 +192,11 @@ module _ {T : Type 0} where
     in_others x far there =
         ⊎_elim
         (λ h. let at = standing ps x h in
-          let d : PlaceCounts T = record { place = x.place; times = [] } in
-          let own = placed at.number d at.within in
-          let beyond = far at.number (ap slot (at.place d) ∙ own) in
-          let w = at.within in
-          absurd (omega (arith, beyond, w)))
+        let d : PlaceCounts T = record { place = x.place; times = [] } in
+        let own = placed at.number d at.within in
+        let beyond = far at.number (ap slot (at.place d) ∙ own) in
+        let w = at.within in
+        absurd (omega (arith, beyond, w)))
         (λ o. contains_among x os o)
         (among_both (items_in ps) os x (among_contains x (items_in ps ++ os) there))
 

@@ -1,5 +1,6 @@
 -- The frontiers that a tally keeps of each node, and what the calls of a tally make of them.
-use Rattle.std.specs.Prelude.{◌≡◌, ◌<◌, ◌≤◌, ◌⊎◌, ℕ, Bool, true, false, IsTrue, List, ◌∷◌, map, length, slice_index_or}
+use Rattle.std.specs.Prelude.{◌≡◌, ◌<◌, ◌≤◌, ◌⊎◌, ℕ, Bool, true, false, eqb, IsTrue, List, ◌∷◌, map, length, slice_index_or, take}
+use Rattle.std.specs.List.{list_any}
 use Rattle.lattice.specs.Frontiers.{is_beyond}
 use Rattle.plan.specs.Ancestors.{reaches}
 use Rattle.plan.specs.Rules.{IsPlan}
@@ -21,6 +22,22 @@ pub record HaveChanged {A : Type 0} (R : ℕ → A → A → Type 0) (old new : 
   pub len : length new ≡ length old
   pub changed : (n : ℕ) (d : A) → n < number → n < length old → R n (slice_index_or old n d) (slice_index_or new n d)
   pub same : (n : ℕ) (d : A) → number ≤ n → slice_index_or new n d ≡ slice_index_or old n d
+
+-- somebody asked about node n
+abbrev pub is_asked : List ℕ → ℕ → Bool
+is_asked asked n = list_any (λ a. eqb a n) asked
+
+-- the elements of these numbers have changed as R says, each by its number; the others are the same
+pub record HaveChangedAt {A : Type 0} (R : ℕ → A → A → Type 0) (asked : List ℕ) (old new : List A) : Type 0 where
+  pub len : length new ≡ length old
+  pub changed : (n : ℕ) (d : A) → n < length old → is_asked asked n ≡ true → R n (slice_index_or old n d) (slice_index_or new n d)
+  pub same : (n : ℕ) (d : A) → is_asked asked n ≡ false → slice_index_or new n d ≡ slice_index_or old n d
+
+-- the numbers are of nodes, none is there twice, and each node that nobody asked about is marked
+pub record AreAsked {T : Type 0} (asked : List ℕ) (ks : List (Kept T)) : Type 0 where
+  pub once : (i d : ℕ) → i < length asked → is_asked (take i asked) (slice_index_or asked i d) ≡ false
+  pub within : (i d : ℕ) → i < length asked → slice_index_or asked i d < length ks
+  pub others : (n : ℕ) (d : Kept T) → n < length ks → is_asked asked n ≡ false → (slice_index_or ks n d).marked ≡ true
 
 module _ {T : Type 0} (nodes : List Node) (place : Place) where
   -- only a node that counts the place may have changed, and not its mark

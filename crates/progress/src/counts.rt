@@ -237,12 +237,7 @@ fn insert_placed<T: Lattice>(
 }
 
 // Whether some time at a place that counts for a frontier is at or before this one.
-fn is_any_placed<T: Lattice>(
-    graph: &Graph,
-    scope: &Scope,
-    places: &[PlaceCounts<T>],
-    t: &T,
-) -> bool
+fn is_any_placed<T: Lattice>(graph: &Graph, scope: &Scope, places: &[PlaceCounts<T>], t: &T) -> bool
     requires { scope_node scope.now < length graph.now }
     ensures { result ≡ is_beyond T.below
         (times_where (is_in_scope graph.now scope.now) (items_in places.now)) t.now }

@@ -123,7 +123,10 @@ impl<T: Lattice> Kept<T> {
         requires { node < length graph.now }
         ensures { IsForgotten T.below graph.now place.now t.now node self.old self.new }
     {
-        if is_reached(graph, node, place) && self.has_element(graph, node, place, t) {
+        if !self.marked
+            && is_reached(graph, node, place)
+            && self.has_element(graph, node, place, t)
+        {
             self.marked = true;
         }
     }

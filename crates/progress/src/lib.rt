@@ -18,7 +18,8 @@
 //! Otherwise some element is before the time, what is counted there is still counted, and the
 //! frontier is what it was. So a time that is an element marks the node, and the next question finds
 //! its frontiers anew; any other time costs nothing more. [`Tally::rebuilt`] counts how often a node
-//! was found anew. At first all nodes are marked, so a node that nobody asks about is never found.
+//! was found anew. At first all nodes are marked, so a node that nobody asks about is never found, and
+//! it costs an event nothing: events go over the nodes alone that somebody asked about.
 //!
 //! Of what is counted, a contract says only how often each item occurs, and nothing of the order.
 //! [`counts_determine_frontiers`] proves that no frontier depends on more than that. So the times of

@@ -13,10 +13,9 @@ ghost use Rattle.progress.specs.Scopes.{scope_node, is_in_scope};
 use crate::capability::Capability;
 use crate::counts::Counts;
 use crate::graph::Graph;
-use crate::kept::Kept;
 use crate::place::Place;
 use crate::scope::Scope;
-use crate::table::{all_marked, forget_in_all, insert_in_all, mark_below};
+use crate::table::Table;
 use antichain::Antichain;
 use lattice::Lattice;
 use plan::{NodeId, Plan};
@@ -32,8 +31,7 @@ use update::Refusal;
 pub struct Tally<T: Lattice> {
     graph: Graph,
     items: Counts<T>,
-    // By node.
-    kept: Vec<Kept<T>>,
+    table: Table<T>,
     rebuilt: u64,
 }
 
@@ -46,11 +44,11 @@ impl<T: Lattice> Model for Tally<T> {
     ghost view = { λ t. record {
       nodes = t.graph;
       items = t.items;
-      marked = marks_of t.kept.items;
+      marked = marks_of t.table;
       rebuilt = t.rebuilt;
     } };
 
-    ghost invariant = { λ t. IsTally T.below t.graph t.items t.kept.items };
+    ghost invariant = { λ t. IsTally T.below t.graph t.items t.table };
 }
 
 impl<T: Lattice> Tally<T> {
@@ -67,11 +65,11 @@ impl<T: Lattice> Tally<T> {
     {
         let graph = Graph::of(alloc, plan)?;
         let items = Counts::new(alloc, graph.len())?;
-        let kept = all_marked(alloc, graph.len())?;
+        let table = Table::new(alloc, graph.len())?;
         Ok(Tally {
             graph,
             items,
-            kept,
+            table,
             rebuilt: 0,
         })
     }
@@ -96,8 +94,8 @@ impl<T: Lattice> Tally<T> {
     /// `OutOfMemory`, and then nothing is counted. The time is inserted into what is kept of the
     /// nodes that count the place. If that is refused, these nodes are marked.
     ///
-    /// Cost: logarithmic in the different items that are counted; constant for each node of the plan,
-    /// and linear in what is kept of those that count the place.
+    /// Cost: logarithmic in the different times that are counted at the place; constant for each node
+    /// that somebody asked about, and linear in what is kept of those that are not marked.
     pub fn add(&mut self, place: Place, t: T) -> Result<(), Refusal>
         ensures counted { OnOk result
             (SameCounts self.new.items (record { place = place; time = t } ∷ self.old.items)) }
@@ -109,8 +107,8 @@ impl<T: Lattice> Tally<T> {
             (AreMarksBelow self.old.nodes place self.old.marked self.new.marked) }
         ensures rebuilt { self.new.rebuilt ≡ self.old.rebuilt }
     {
-        if let Err(refusal) = count(&mut self.kept, &mut self.items, &self.graph, &place, t) {
-            mark_below(&mut self.kept, &self.graph, &place);
+        if let Err(refusal) = count(&mut self.table, &mut self.items, &self.graph, &place, t) {
+            self.table.mark_below(&self.graph, &place);
             return Err(refusal);
         }
         Ok(())
@@ -130,7 +128,7 @@ impl<T: Lattice> Tally<T> {
         ensures rebuilt { self.new.rebuilt ≡ self.old.rebuilt }
     {
         self.items.remove(place, t);
-        forget_in_all(&mut self.kept, &self.graph, place, t);
+        self.table.forget(&self.graph, place, t);
     }
 
     /// Counts a time at a place, and answers the capability for it. Refused only with
@@ -175,7 +173,7 @@ impl<T: Lattice> Tally<T> {
     {
         let Capability { place, time } = capability;
         self.items.replace(&place, &time, later);
-        forget_in_all(&mut self.kept, &self.graph, &place, &time);
+        self.table.forget(&self.graph, &place, &time);
         Capability { place, time: later }
     }
 
@@ -286,9 +284,8 @@ impl<T: Lattice> Tally<T> {
             ≡ rebuilt_after (is_marked self.old.marked node) self.old.rebuilt) }
         ensures not_rebuilt { OnErr result (self.new.rebuilt ≡ self.old.rebuilt) }
     {
-        let number = node.number();
-        let was_marked = self.kept[number].is_marked();
-        self.kept[number].refresh(&self.graph, node, &self.items)?;
+        let was_marked = self.table.is_marked(node);
+        self.table.refresh(&self.graph, node, &self.items)?;
         self.rebuilt = rebuilt_after(was_marked, self.rebuilt);
         Ok(())
     }
@@ -343,9 +340,8 @@ impl<T: Lattice> Tally<T> {
             self.old.rebuilt) }
         ensures not_rebuilt { OnErr result (self.new.rebuilt ≡ self.old.rebuilt) }
     {
-        let number = scope.node().number();
-        let was_marked = self.kept[number].is_marked();
-        let found = self.kept[number].answer(&self.graph, scope, &self.items)?;
+        let was_marked = self.table.is_marked(scope.node());
+        let found = self.table.answer(&self.graph, scope, &self.items)?;
         self.rebuilt = rebuilt_after(was_marked, self.rebuilt);
         Ok(found)
     }
@@ -356,8 +352,7 @@ impl<T: Lattice> Tally<T> {
         ensures { result ≡ has_passed T.below (least T.below
             (times_where (is_in_scope self.now.nodes scope.now) self.now.items)) t.now }
     {
-        let number = scope.node().number();
-        self.kept[number].has_passed(&self.graph, scope, &self.items, t)
+        self.table.has_passed(&self.graph, scope, &self.items, t)
     }
 }
 
@@ -374,23 +369,23 @@ fn rebuilt_after(was_marked: bool, rebuilt: u64) -> u64
 // Counts a time at a place. Refused only with `OutOfMemory`; then some of the nodes that count the
 // place may have the time and others not, so all of them must be marked.
 fn count<T: Lattice>(
-    kept: &mut Vec<Kept<T>>,
+    table: &mut Table<T>,
     items: &mut Counts<T>,
     graph: &Graph,
     place: &Place,
     t: T,
 ) -> Result<(), Refusal>
-    requires { length kept.old.items ≡ length graph.now }
+    requires { length table.old ≡ length graph.now }
     ensures counted { OnOk result (SameCounts items.new
         (record { place = place.now; time = t } ∷ items.old)) }
     ensures inserted { OnOk result (HaveChanged (IsInserted T.below graph.now place.now t)
-        kept.old.items kept.new.items (length kept.old.items)) }
-    ensures spared { HaveChanged (IsSpared graph.now place.now) kept.old.items kept.new.items
-        (length kept.old.items) }
+        table.old table.new (length table.old)) }
+    ensures spared { HaveChanged (IsSpared graph.now place.now) table.old table.new
+        (length table.old) }
     ensures refused { IfErr result (λ refusal. refusal ≡ OutOfMemory) }
     ensures unchanged { OnErr result (items.new ≡ items.old) }
 {
-    insert_in_all(kept, graph, place, t)?;
+    table.insert(graph, place, t)?;
     items.add(place, t)?;
     Ok(())
 }

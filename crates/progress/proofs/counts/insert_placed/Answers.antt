@@ -1,4 +1,4 @@
-use Rattle.std.proofs.Common.{◌≡◌, ◌+◌, Bool, true, false, cond, ◌∷◌, ◌||◌, drop, refl, ap, sym, ◌∙◌, arith}
+use Rattle.std.proofs.Common.{◌≡◌, ◌+◌, Bool, true, false, cond, ◌∷◌, ◌||◌, drop, ap, sym, ◌∙◌, arith}
 use Rattle.std.proofs.Common.{Vec}
 use Rattle.std.proofs.lemmas.Grind.{common_steps}
 use Rattle.std.specs.declared.alloc.Global.{Global}

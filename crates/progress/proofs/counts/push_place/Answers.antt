@@ -1,4 +1,4 @@
-use Rattle.std.proofs.Common.{◌≡◌, refl, ap, ◌∙◌}
+use Rattle.std.proofs.Common.{ap, ◌∙◌}
 use Rattle.progress.specs.declared.counts.PlaceCounts.{PlaceCounts}
 use Rattle.progress.specs.Placing.{items_in}
 use Rattle.progress.proofs.PlacingLemmas.{nothing_more}

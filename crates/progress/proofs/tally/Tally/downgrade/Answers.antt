@@ -24,19 +24,19 @@ returns-clause-counted g c test =
 
 pub returns-clause-below : goal.returns-clause-below
 returns-clause-below g c =
-    let new = c.forget_in_all.new.kept.items in
+    let new = c.forget.new.self in
     subst (λ (x : Counted g.row.T.Denot). AreMarksBelow c.args.self.now.nodes x.place c.args.self.now.marked (marks_of new)) c.capability.view_is
     (subst (λ (s : TallyState g.row.T.Denot). AreMarksBelow s.nodes c.capability.inside.place s.marked (marks_of new)) c.self.view_is
-    (forgotten_marks g.T.PartialOrder.below c.self.inside.graph c.capability.inside.place c.capability.inside.time c.self.inside.kept.items new c.forget_in_all.ensures))
+    (forgotten_marks g.T.PartialOrder.below c.self.inside.graph c.capability.inside.place c.capability.inside.time c.self.inside.table new c.forget.ensures))
 
 pub invariant_of-self : goal.invariant_of-self
 invariant_of-self g c =
     let below = g.T.PartialOrder.below in
     let nodes = c.self.inside.graph in
     let items = c.self.inside.items in
-    let ks = c.self.inside.kept.items in
+    let ks = c.self.inside.table in
     let left = c.replace.new.self in
-    let new = c.forget_in_all.new.kept.items in
+    let new = c.forget.new.self in
     let seen = ap (λ (s : TallyState g.row.T.Denot). s.items) c.self.view_is in
     let item = λ (p : Place). let x : Counted g.row.T.Denot = record { place = p; time = c.capability.inside.time } in x in
     let moved = λ (p : Place). let x : Counted g.row.T.Denot = record { place = p; time = c.args.later } in x in
@@ -46,6 +46,6 @@ invariant_of-self g c =
     let same : SameCounts (item place ∷ left) (moved place ∷ items) = c.replace.ensures in
     record {
       plan = c.self.invariant.plan;
-      len = c.forget_in_all.ensures.len ∙ c.self.invariant.len;
-      current = moved_current below nodes place c.capability.inside.time ks new c.forget_in_all.ensures c.args.later items left there onward same c.self.invariant.current;
+      len = c.forget.ensures.len ∙ c.self.invariant.len;
+      current = moved_current below nodes place c.capability.inside.time ks new c.forget.ensures c.args.later items left there onward same c.self.invariant.current;
     }

@@ -1,0 +1,7 @@
+use Rattle.std.proofs.Common.{take}
+use Rattle.progress.specs.Kept.{HaveChangedAt, IsForgotten}
+use Rattle.progress.proofs.table.forget_in_each.Given as goal
+
+-- the nodes so far have changed
+abbrev pub invariant-loop-number : goal.invariant-loop-number
+invariant-loop-number g l = HaveChangedAt (IsForgotten g.T.PartialOrder.below l.graph l.place l.t) (take l.number l.asked) l.fn.kept.items l.kept.items
