@@ -25,14 +25,14 @@ use Rattle.operator_laws.specs.Arranging.{IsArranging}
 use Rattle.operator.specs.Arrangements.{ArrangementState, IsWithReader, upper_of}
 use Rattle.operator_laws.specs.Reducing.{IsReducing}
 use Rattle.operator.specs.Reductions.{ReducingView, HasRoom}
-use Rattle.worker.specs.Desks.{DeskState, ReadsAt, HasHold, IsDeskAt, IsDesk, with_arrangement, hold_at, boundary_at}
+use Rattle.relays.specs.Desks.{DeskState, ReadsAt, HasHold, IsDeskAt, IsDesk, with_arrangement, hold_at, boundary_at}
 use Rattle.worker.specs.Openings.{on_one_worker, IsFirstArrangement, IsFirstReduction, IsFirstJoin, HasOwnHolds, IsFirstAt, IsLaidOut}
-use Rattle.worker.specs.Relays.{IsReadyAt}
+use Rattle.relays.specs.Relays.{IsReadyAt}
 use Rattle.operator_laws.proofs.GatheringLemmas.{first_gathering}
 use Rattle.operator_laws.proofs.ArrangingLemmas.{first_arranging}
 use Rattle.operator_laws.proofs.ReducingLemmas.{first_reducing}
-use Rattle.worker.proofs.ReadAtLemmas.{join_sources}
-use Rattle.worker.proofs.DeskLemmas.{get_set, get_own}
+use Rattle.relays.proofs.ReadAtLemmas.{join_sources}
+use Rattle.relays.proofs.DeskLemmas.{get_set, get_own}
 
 -- ---- entries of lists that grow
 

@@ -20,9 +20,9 @@ use Rattle.shared_board.specs.declared.event.Doing.{Doing}
 use Rattle.operator.specs.Arrangements.{ArrangementState}
 use Rattle.operator.specs.Joins.{JoiningView}
 use Rattle.operator.specs.Reductions.{ReducingView}
-use Rattle.worker.specs.Desks.{DeskState, IsDesk, IsDeskAt}
+use Rattle.relays.specs.Desks.{DeskState, IsDesk, IsDeskAt}
 use Rattle.shared_board.specs.Found.{dataflow_of}
-use Rattle.worker.specs.Relays.{IsCalm, IsRunning, IsSameActor, IsSettledTo, IsStopped}
+use Rattle.relays.specs.Relays.{IsCalm, IsRunning, IsSameActor, IsSettledTo, IsStopped}
 use Rattle.shared_board.specs.Tenures.{state_left}
 
 module _ {T : Type 0} (below : T → T → Bool) (joined : T → T → T) (minimum : T) (p : Dataflow) (w : State T) (d : DeskState T) (desk : IsDesk below joined minimum p w 0 d) where

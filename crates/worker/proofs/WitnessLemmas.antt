@@ -28,12 +28,12 @@ use Rattle.operator.specs.Reductions.{ReducingView, state_key}
 use Rattle.operator.proofs.ReductionLemmas.{stand_in_nothing}
 use Rattle.shared_board.specs.declared.event.Doing.{Doing}
 use Rattle.shared_board.specs.Tenures.{IsActor, IsFirst, doing, terms_for}
-use Rattle.worker.specs.Desks.{DeskState}
+use Rattle.relays.specs.Desks.{DeskState}
 use Rattle.worker.specs.Openings.{on_one_worker, IsFirstArrangement, IsFirstReduction, IsFirstJoin, HasOwnHolds, IsLaidOut}
-use Rattle.worker.specs.Relays.{IsReadyAt, IsRunning}
+use Rattle.relays.specs.Relays.{IsReadyAt, IsRunning}
 use Rattle.worker.proofs.OpenLemmas.{none_laid_out, laid_out_more, left_there, right_there, laid_last, own_holds, opened_ready}
-use Rattle.worker.proofs.ReadAtLemmas.{join_sources}
-use Rattle.worker.proofs.StepLemmas.{first_running}
+use Rattle.relays.proofs.ReadAtLemmas.{join_sources}
+use Rattle.relays.proofs.StepLemmas.{first_running}
 
 -- ---- each arrangement has a hold of its own
 

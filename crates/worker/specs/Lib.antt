@@ -1,4 +1,4 @@
--- The definitions of a worker: its desk, and how far its pass has come.
+-- The definitions of a worker: how its desk is laid out, and those of the crates below.
 pub use Rattle.lattice.specs.Frontiers
 pub use Rattle.operator_laws.specs.Gathering
 pub use Rattle.operator_laws.specs.Arranging
@@ -11,8 +11,8 @@ pub use Rattle.operator.specs.Reductions
 pub use Rattle.shared_board.specs.Tenures
 pub use Rattle.shared_board.specs.Found
 pub use Rattle.shared_board.specs.Large
-pub mod Passes
-pub mod Desks
-pub mod Relays
+pub use Rattle.relays.specs.Passes
+pub use Rattle.relays.specs.Desks
+pub use Rattle.relays.specs.Relays
+pub use Rattle.relays.specs.Between
 pub mod Openings
-pub mod Between

@@ -10,7 +10,7 @@ use Rattle.histories.specs.Histories.Dataflows.{Dataflow}
 use Rattle.operator.specs.Arrangements.{ArrangementState}
 use Rattle.operator.specs.Joins.{JoiningView}
 use Rattle.operator.specs.Reductions.{ReducingView, IsReduced, pending_of}
-use Rattle.worker.specs.Desks.{DeskState, ReadsAt, HasHold, AreSharing, hold_at}
+use Rattle.relays.specs.Desks.{DeskState, ReadsAt, HasHold, AreSharing, hold_at}
 
 -- the plan, run by one worker
 abbrev pub on_one_worker : List Node → Dataflow

@@ -15,7 +15,7 @@ ghost use Rattle.operator.specs.Arrangements.{ArrangementState, IsWithReader};
 ghost use Rattle.operator.specs.Joins.{JoiningView};
 ghost use Rattle.operator.specs.Reductions.{ReducingView};
 ghost use Rattle.worker.specs.Openings.{IsFirstArrangement, IsFirstJoin, IsFirstReduction, HasOwnHolds, IsLaidOut, on_one_worker};
-ghost use Rattle.worker.specs.Relays.{IsReadyAt};
+ghost use Rattle.relays.specs.Relays.{IsReadyAt};
 
 use antichain::Antichain;
 use lattice::Minimum;
@@ -38,7 +38,7 @@ pub struct Desk<T: Minimum> {
 
 impl<T: Minimum> Model for Desk<T> {
     ghost use Rattle.std.specs.Prelude.{◌≡◌, ◌∷◌, []};
-    ghost use Rattle.worker.specs.Desks.{DeskState};
+    ghost use Rattle.relays.specs.Desks.{DeskState};
 
     ghost Value = { DeskState T };
 

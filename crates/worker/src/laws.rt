@@ -10,9 +10,9 @@ ghost use Rattle.histories.specs.Histories.States.{State};
 ghost use Rattle.histories.specs.Histories.{initial_state};
 ghost use Rattle.shared_board.specs.Tenures.{IsActor, IsFirst, Terms, terms_for};
 ghost use Rattle.shared_board.specs.declared.event.Doing.{Doing};
-ghost use Rattle.worker.specs.Between.{DoClientsLead};
-ghost use Rattle.worker.specs.Desks.{DeskState};
-ghost use Rattle.worker.specs.Relays.{IsReadyAt, IsRunning};
+ghost use Rattle.relays.specs.Between.{DoClientsLead};
+ghost use Rattle.relays.specs.Desks.{DeskState};
+ghost use Rattle.relays.specs.Relays.{IsReadyAt, IsRunning};
 
 use lattice::Minimum;
 

@@ -2,8 +2,9 @@
 //!
 //! A worker takes bundles, computes, and gives. Crate `operator` has what it keeps at one node and
 //! computes there. `shared_board` has the board that it shares with clients through a hub.
-//! `operator_laws` says which gives are allowed. Here the three come together, and their names are
-//! handed on, so that a caller imports this crate alone.
+//! `operator_laws` says which gives are allowed. `relays` brings the three together for one node.
+//! Here are all nodes: the desk, and the pass over it. The names of the crates below are handed on,
+//! so that a caller imports this crate alone.
 //!
 //! [`relay`] is the only worker of a board. It passes once over all nodes, and if no client changed
 //! anything meanwhile, then all is quiet afterwards. What the worker keeps between two passes is a
@@ -18,7 +19,8 @@
 
 mod desk;
 mod laws;
-mod relays;
+mod pass;
+mod relay;
 
 pub use desk::Desk;
 pub use laws::{a_worker_can_run, clients_leave_it_ready, the_first_pass_may_begin};
@@ -33,7 +35,7 @@ pub use operator_laws::{
     reduced_takes, reducing_begins, sealed_splits, takes_at_one_node, turning_leaves_it,
     waiting_bundles_are_stamped, waits_in_any_order, workers_are_apart, working_begins,
 };
-pub use relays::relay;
+pub use relay::relay;
 pub use shared_board::{
     Actor, BitemporalBoards, BoardProtocol, Boards, Doing, SharedBoard,
     gives_depend_on_their_worker, one_client_makes_all_changes, open,

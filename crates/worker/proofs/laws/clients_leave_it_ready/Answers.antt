@@ -1,4 +1,4 @@
-use Rattle.worker.proofs.BetweenLemmas.{ready_found}
+use Rattle.relays.proofs.BetweenLemmas.{ready_found}
 use Rattle.worker.proofs.laws.clients_leave_it_ready.Goals as goal
 
 pub returns : goal.returns

@@ -1,4 +1,4 @@
-use Rattle.worker.proofs.StepLemmas.{first_running}
+use Rattle.relays.proofs.StepLemmas.{first_running}
 use Rattle.worker.proofs.laws.the_first_pass_may_begin.Goals as goal
 
 pub returns : goal.returns

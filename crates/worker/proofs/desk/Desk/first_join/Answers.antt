@@ -3,7 +3,7 @@ use Rattle.plan.specs.Nodes.{node_at, key_width}
 use Rattle.plan.specs.Widths.{width_of}
 use Rattle.operator.specs.Joins.{JoiningView, IsFitting}
 use Rattle.worker.specs.Openings.{IsLaidOut}
-use Rattle.worker.proofs.ResultLemmas.{if_ok_by, on_ok_always}
+use Rattle.relays.proofs.ResultLemmas.{if_ok_by, on_ok_always}
 use Rattle.worker.proofs.OpenLemmas.{join_fits, left_within, right_within, left_there, right_there, laid_last, own_holds}
 use Rattle.worker.proofs.desk.Desk.first_join.Goals as goal
 

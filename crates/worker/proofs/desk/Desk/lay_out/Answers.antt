@@ -1,6 +1,6 @@
 use Rattle.std.proofs.Common.{suc, sym, subst}
 use Rattle.worker.specs.Openings.{IsLaidOut}
-use Rattle.worker.proofs.ResultLemmas.{on_ok_by}
+use Rattle.relays.proofs.ResultLemmas.{on_ok_by}
 use Rattle.worker.proofs.OpenLemmas.{laid_out_more}
 use Rattle.worker.proofs.desk.Desk.lay_out.Goals as goal
 
