@@ -20,7 +20,7 @@
 mod desk;
 mod laws;
 mod pass;
-mod relay;
+mod visit;
 
 pub use desk::Desk;
 pub use laws::{a_worker_can_run, clients_leave_it_ready, the_first_pass_may_begin};
@@ -35,7 +35,7 @@ pub use operator_laws::{
     reduced_takes, reducing_begins, sealed_splits, takes_at_one_node, turning_leaves_it,
     waiting_bundles_are_stamped, waits_in_any_order, workers_are_apart, working_begins,
 };
-pub use relay::relay;
+pub use pass::relay;
 pub use shared_board::{
     Actor, BitemporalBoards, BoardProtocol, Boards, Doing, SharedBoard,
     gives_depend_on_their_worker, one_client_makes_all_changes, open,

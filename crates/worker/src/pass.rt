@@ -1,165 +1,66 @@
-//! One node of a pass: all that waits there is taken, and what its input frontier has passed is
-//! given.
-ghost use Rattle.std.specs.Prelude.{◌≡◌, ◌<◌, ℕ, suc, IfErr, OnOk, length};
-ghost use Rattle.plan.specs.declared.node.Kind.{Kind};
-ghost use Rattle.plan.specs.declared.node.Node.TheVariants.{Arrange, Join, Reduce};
-ghost use Rattle.histories.specs.Histories.Dataflows.{node_of};
+//! One worker at a hub, and clients: the worker carries on what is in flight.
+//!
+//! It visits the nodes once, in the order of their numbers. The readers of a node have greater
+//! numbers, so nothing is sent to a node that was already visited. At an arrange node all that the
+//! input frontier has passed is given in one piece. So a join has at most one bundle waiting at
+//! each port when the pass comes to it, and afterwards it has taken all that its sources gave.
+//!
+//! Clients may act between any two steps. What they feed waits at an input, and if the pass was
+//! there already, then it waits for the next pass. All else that a step found before they acted is
+//! as right after it (`steps`).
+ghost use Rattle.std.specs.Prelude.{◌≡◌, IfErr, OnOk};
+ghost use Rattle.histories.specs.Histories.Readings.{IsQuiet};
 ghost use Rattle.shared_board.specs.Found.{dataflow_of};
-ghost use Rattle.relays.specs.Relays.{IsCalm, IsRunning, IsSameActor, IsSettledTo, IsStopped};
+ghost use Rattle.relays.specs.Relays.{IsCalm, IsRunning, IsSameActor, IsStopped};
 ghost use Rattle.shared_board.specs.Tenures.{state_left};
 
 use crate::desk::Desk;
+use crate::visit::relay_node;
 use lattice::Minimum;
 use machine::Routing;
-use plan::{Node, NodeId, Plan};
-use relays::{arrangement_at, relay_arranged, relay_joined, relay_plain, relay_reduced};
+use plan::{NodeId, Plan};
 use shared_board::{Actor, BoardProtocol};
 use std::alloc::Global;
 use std::sync::Wait;
 use update::Refusal;
 
-// Visits an arrange node.
-fn visit_arranged<T: Minimum, P: BoardProtocol<T>, R: Wait>(
-    alloc: Global,
-    rt: &R,
-    routing: &Routing,
-    worker: &mut Actor<T, P>,
-    desk: &mut Desk<T>,
-    node: NodeId,
-) -> Result<(), Refusal>
-    requires routing { routing.now ≡ dataflow_of worker.old }
-    requires within { node < length (dataflow_of worker.old).nodes }
-    requires arrange { (source : ℕ) × (key : ℕ)
-        × (node_of (dataflow_of worker.old) node ≡ Arrange source key) }
-    requires running { IsRunning T.below T.joined T.least worker.old desk.old node }
-    ensures runs { OnOk result (IsRunning T.below T.joined T.least worker.new desk.new (suc node)) }
-    ensures stopped { IfErr result (IsStopped T.below T.least T.cmp worker.new) }
-    ensures settled { IsCalm worker.old worker.new
-        → IsSettledTo T.below (dataflow_of worker.old)
-        (state_left T.below T.least worker.old) node
-        → OnOk result (IsSettledTo T.below (dataflow_of worker.old)
-        (state_left T.below T.least worker.new) (suc node)) }
-    ensures same { IsSameActor worker.old worker.new }
-{
-    match &mut desk.arrangements[node.number()] {
-        Some(arrangement) => {
-            relay_arranged(alloc, rt, &desk.start, routing, worker, arrangement, node)
-        }
-        None => Ok(()),
-    }
-}
-
-// Visits a reduction, which reads `source`.
-fn visit_reduced<T: Minimum, P: BoardProtocol<T>, R: Wait>(
-    alloc: Global,
-    rt: &R,
-    routing: &Routing,
-    worker: &mut Actor<T, P>,
-    desk: &mut Desk<T>,
-    node: NodeId,
-    source: NodeId,
-) -> Result<(), Refusal>
-    requires routing { routing.now ≡ dataflow_of worker.old }
-    requires within { node < length (dataflow_of worker.old).nodes }
-    requires reduce { (kind : Kind)
-        × (node_of (dataflow_of worker.old) node ≡ Reduce kind source) }
-    requires running { IsRunning T.below T.joined T.least worker.old desk.old node }
-    ensures runs { OnOk result (IsRunning T.below T.joined T.least worker.new desk.new (suc node)) }
-    ensures stopped { IfErr result (IsStopped T.below T.least T.cmp worker.new) }
-    ensures settled { IsCalm worker.old worker.new
-        → IsSettledTo T.below (dataflow_of worker.old)
-        (state_left T.below T.least worker.old) node
-        → OnOk result (IsSettledTo T.below (dataflow_of worker.old)
-        (state_left T.below T.least worker.new) (suc node)) }
-    ensures same { IsSameActor worker.old worker.new }
-{
-    worker.known();
-    let start = &desk.start;
-    let read = arrangement_at(&desk.arrangements, source);
-    match &mut desk.reductions[node.number()] {
-        Some(reducing) => { relay_reduced(alloc, rt, start, routing, worker, reducing, read, node) }
-        None => Ok(()),
-    }
-}
-
-// Visits a join of `left` and `right`.
-fn visit_joined<T: Minimum, P: BoardProtocol<T>, R: Wait>(
-    alloc: Global,
-    rt: &R,
-    routing: &Routing,
-    worker: &mut Actor<T, P>,
-    desk: &mut Desk<T>,
-    node: NodeId,
-    left: NodeId,
-    right: NodeId,
-) -> Result<(), Refusal>
-    requires routing { routing.now ≡ dataflow_of worker.old }
-    requires within { node < length (dataflow_of worker.old).nodes }
-    requires join { node_of (dataflow_of worker.old) node ≡ Join left right }
-    requires running { IsRunning T.below T.joined T.least worker.old desk.old node }
-    ensures runs { OnOk result (IsRunning T.below T.joined T.least worker.new desk.new (suc node)) }
-    ensures stopped { IfErr result (IsStopped T.below T.least T.cmp worker.new) }
-    ensures settled { IsCalm worker.old worker.new
-        → IsSettledTo T.below (dataflow_of worker.old)
-        (state_left T.below T.least worker.old) node
-        → OnOk result (IsSettledTo T.below (dataflow_of worker.old)
-        (state_left T.below T.least worker.new) (suc node)) }
-    ensures same { IsSameActor worker.old worker.new }
-{
-    let start = &desk.start;
-    let arrangements = &mut desk.arrangements;
-    match &mut desk.joins[node.number()] {
-        Some(joining) => relay_joined(
-            alloc,
-            rt,
-            start,
-            routing,
-            worker,
-            arrangements,
-            joining,
-            node,
-            left,
-            right,
-        ),
-        None => Ok(()),
-    }
-}
-
-/// Takes all that waits at a node, and gives all that its input frontier has passed there.
-/// Afterwards the pass has come to the next node. `plan` is that of the board.
-pub(crate) fn relay_node<T: Minimum, P: BoardProtocol<T>, R: Wait>(
+/// One pass of the only worker of a board: it carries on through the plan what was in flight when
+/// it came to each node. If no client changed anything meanwhile, then all is quiet afterwards. A
+/// client asks by `is_quiet`. The plan and the routing are those of the board.
+///
+/// - [`Refusal::Overflow`] only if, with the changes that the worker has seen, some node has no
+///   bound below 2^63.
+/// - [`Refusal::OutOfMemory`] only if memory was refused.
+///
+/// After a refusal the desk is of no further use.
+///
+/// Each step waits until the board is at home. The pass does not end while clients feed an input
+/// faster than the worker takes.
+///
+/// Cost: linear in the nodes, plus what each node costs. A linear node costs its updates, and n log
+/// n of them where it is a `concat` of two sources. An arrange node sorts what has passed, and
+/// merges batches. A join costs n log n in the pairs that it makes, also in those that cancel. A
+/// reduction costs what crate `reduce` says.
+pub fn relay<T: Minimum, P: BoardProtocol<T>, R: Wait>(
     alloc: Global,
     rt: &R,
     plan: &Plan,
     routing: &Routing,
     worker: &mut Actor<T, P>,
     desk: &mut Desk<T>,
-    node: NodeId,
 ) -> Result<(), Refusal>
     requires plan { plan.now ≡ (dataflow_of worker.old).nodes }
     requires routing { routing.now ≡ dataflow_of worker.old }
-    requires within { node < length (dataflow_of worker.old).nodes }
-    requires running { IsRunning T.below T.joined T.least worker.old desk.old node }
-    ensures runs { OnOk result (IsRunning T.below T.joined T.least worker.new desk.new (suc node)) }
+    requires ready { IsRunning T.below T.joined T.least worker.old desk.old 0 }
+    ensures relayed { OnOk result (IsRunning T.below T.joined T.least worker.new desk.new 0) }
+    ensures quiet { IsCalm worker.old worker.new → OnOk result
+        (IsQuiet T.below (dataflow_of worker.old) (state_left T.below T.least worker.new)) }
     ensures stopped { IfErr result (IsStopped T.below T.least T.cmp worker.new) }
-    ensures settled { IsCalm worker.old worker.new
-        → IsSettledTo T.below (dataflow_of worker.old)
-        (state_left T.below T.least worker.old) node
-        → OnOk result (IsSettledTo T.below (dataflow_of worker.old)
-        (state_left T.below T.least worker.new) (suc node)) }
     ensures same { IsSameActor worker.old worker.new }
 {
-    match plan.node(node) {
-        Node::Arrange { .. } => visit_arranged(alloc, rt, routing, worker, desk, node),
-        Node::Reduce { source, .. } => {
-            let source = *source;
-            visit_reduced(alloc, rt, routing, worker, desk, node, source)
-        }
-        Node::Join { left, right } => {
-            let left = *left;
-            let right = *right;
-            visit_joined(alloc, rt, routing, worker, desk, node, left, right)
-        }
-        operator => relay_plain(alloc, rt, routing, worker, operator, node),
+    for n in 0..plan.len() {
+        relay_node(alloc, rt, plan, routing, worker, desk, NodeId::new(n))?;
     }
+    worker.known();
+    Ok(())
 }

@@ -7,7 +7,7 @@ use Rattle.shared_board.specs.Tenures.{Terms, events, state_left}
 use Rattle.relays.proofs.NodeLemmas.{ready_at_end}
 use Rattle.relays.proofs.RunningLemmas.{same_actor, same_later, calm_first, calm_then}
 use Rattle.relays.proofs.SettledLemmas.{settled_first, quiet_at_end}
-use Rattle.worker.proofs.relay.relay.Goals as goal
+use Rattle.worker.proofs.pass.relay.Goals as goal
 
 pub loop-n-init : goal.loop-n-init
 loop-n-init g c = record {

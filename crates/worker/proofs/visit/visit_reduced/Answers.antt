@@ -4,8 +4,8 @@ use Rattle.relays.specs.Desks.{DeskState, with_reduction}
 use Rattle.shared_board.specs.Found.{dataflow_of}
 use Rattle.shared_board.specs.Tenures.{state_left}
 use Rattle.worker.proofs.VisitLemmas.{reduction_there, source_there, entry_at, entry_some, seen_runs, seen_same, seen_settled, seen_stops}
-use Rattle.worker.proofs.pass.visit_reduced.Goals.{in-Some, in-None}
-use Rattle.worker.proofs.pass.visit_reduced.Goals as goal
+use Rattle.worker.proofs.visit.visit_reduced.Goals.{in-Some, in-None}
+use Rattle.worker.proofs.visit.visit_reduced.Goals as goal
 
 pub arrangement_at-read-requires : goal.arrangement_at-read-requires
 arrangement_at-read-requires g c =

@@ -1,7 +1,7 @@
 use Rattle.shared_board.specs.Found.{dataflow_of}
 use Rattle.relays.specs.Relays.{IsCalm, IsRunning, IsSameActor, IsSettledTo}
 use Rattle.shared_board.specs.Tenures.{state_left}
-use Rattle.worker.proofs.relay.relay.Given as goal
+use Rattle.worker.proofs.pass.relay.Given as goal
 
 -- the pass has come to the node of the loop, and if no client changed anything then all before that
 -- node is settled

@@ -5,8 +5,8 @@ use Rattle.shared_board.specs.Found.{dataflow_of}
 use Rattle.shared_board.specs.Tenures.{state_left}
 use Rattle.relays.proofs.NodeLemmas.{with_both}
 use Rattle.worker.proofs.VisitLemmas.{join_there, entry_at, entry_some, seen_runs, seen_same, seen_settled, seen_stops}
-use Rattle.worker.proofs.pass.visit_joined.Goals.{in-Some, in-None}
-use Rattle.worker.proofs.pass.visit_joined.Goals as goal
+use Rattle.worker.proofs.visit.visit_joined.Goals.{in-Some, in-None}
+use Rattle.worker.proofs.visit.visit_joined.Goals as goal
 
 pub index_mut-requires : goal.index_mut-requires
 index_mut-requires g c =

@@ -4,8 +4,8 @@ use Rattle.relays.specs.Desks.{DeskState, with_arrangement}
 use Rattle.shared_board.specs.Found.{dataflow_of}
 use Rattle.shared_board.specs.Tenures.{state_left}
 use Rattle.worker.proofs.VisitLemmas.{arrangement_there, entry_at, entry_some, seen_runs, seen_same, seen_settled, seen_stops}
-use Rattle.worker.proofs.pass.visit_arranged.Goals.{in-Some, in-None}
-use Rattle.worker.proofs.pass.visit_arranged.Goals as goal
+use Rattle.worker.proofs.visit.visit_arranged.Goals.{in-Some, in-None}
+use Rattle.worker.proofs.visit.visit_arranged.Goals as goal
 
 pub index_mut-requires : goal.index_mut-requires
 index_mut-requires g c =
