@@ -3,7 +3,7 @@ use Rattle.lattice.specs.Bitimes.{bitime_below, bitime_join}
 use Rattle.lattice.specs.Naturals.{nat_order}
 use Rattle.lattice.specs.Pairs.{make_pair, pair_order}
 use Rattle.worker.specs.Tenures.{Terms, terms_for, terms_in}
-use Rattle.worker.proofs.StepLemmas.{first_running}
+use Rattle.relays.proofs.StepLemmas.{first_running}
 use Rattle.script.proofs.sole_worker.SoleWorker.new.Goals as goal
 
 pub invariant_of-result : goal.invariant_of-result
