@@ -34,7 +34,7 @@ relay-requires g c =
         sym (ap (λ (t : Terms). t.dataflow.nodes) terms),
         (
           c.in_ok-routing.ensures.routing ∙ sym (ap (λ (t : Terms). t.dataflow) terms),
-          c.the_first_pass_may_begin.ensures (terms_for c.in_ok-plan.plan 1 1) refl c.in_ok-worker.worker c.in_ok-desk.desk c.known.ensures first c.in_ok-desk.ensures.ready,
+          c.the_first_pass_may_begin.ensures (terms_for c.in_ok-plan.plan 1 1) refl c.in_ok-worker.field-0.worker c.in_ok-desk.desk c.known.ensures first c.in_ok-desk.ensures.ready,
         ),
       ),
     )
