@@ -28,12 +28,14 @@
 //!
 //! A [`Capability`] is the right to give updates at a place at a time or later. The tally counts
 //! it as long as it lives. It cannot be dropped: it goes back to the tally, or is given anew at a
-//! later time. So a worker cannot forget a time that it holds.
+//! later time. So a worker cannot forget a time that it holds. [`Capabilities`] are all that an owner
+//! holds at one place, as one such value.
 //!
 //! The code knows no workers, no bundles and no updates. The functions with empty bodies, such as
 //! [`ports_make_the_input_frontier`], state the laws that a board needs.
 #![tactic(auto)]
 
+mod capabilities;
 mod capability;
 mod counted;
 mod counts;
@@ -49,6 +51,7 @@ mod table;
 mod tally;
 mod time_counts;
 
+pub use capabilities::Capabilities;
 pub use capability::Capability;
 pub use counted::Counted;
 pub use graph::Graph;

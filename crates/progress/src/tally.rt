@@ -267,7 +267,7 @@ impl<T: Lattice> Tally<T> {
     }
 
     /// Finds anew what is kept of a node if the node is marked, and unmarks it, as a question for one
-    /// of its frontiers does. Whoever asks about many times calls this first, since
+    /// of its frontiers does. A caller that asks about many times calls this first, since
     /// [`Tally::has_passed`] leaves a mark. Refused only with `OutOfMemory`, and then the mark is what
     /// it was.
     ///
