@@ -1,5 +1,6 @@
 -- What the code of stations and inputs reads and writes is what the definitions say.
 pub mod LotLemmas
+pub mod GivingLemmas
 pub mod PutLemmas
 pub mod SurveyLemmas
 pub mod QueueLemmas

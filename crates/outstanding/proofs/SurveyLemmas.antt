@@ -30,43 +30,6 @@ module _ {X : Type 0} (p : X → Bool) (xs : List X) (i : ℕ) where
       sym (sym so_far ∙ (here ∙ ap (λ b. b && list_all p (drop (i + 1) xs)) h))
 
 module _ {T : Type 0} where
-  -- ---- what is read at a station
-
-  -- the lots of a node are those of its stations
-  lots_at : (stations : List (List (Station T))) (n : ℕ) → get_or (lots stations) n [] ≡ map lot (get_or stations n [])
-  lots_at [] n = refl
-  lots_at (row ∷ stations) zero = refl
-  lots_at (row ∷ stations) (suc n) = lots_at stations n
-
-  module _ (stations : List (List (Station T))) (site : Site) (number : ℕ) (row : List (Station T)) (s : Station T) (e : row ≡ get_or stations site.node []) (d : s ≡ get_or row site.worker s) (waits : number < length (queue_of (lots stations) site)) where
-    here : get_or (lots stations) site.node [] ≡ map lot row
-    here = lots_at stations site.node ∙ ap (map lot) (sym e)
-
-    -- the station that was read has the lot of its node and worker
-    lot_read : lot_of (lots stations) site.node site.worker ≡ lot s
-    lot_read =
-        ap (λ (all : List (Lot T)). get_or all site.worker no_lot) here
-        ∙ read row site.worker (subst (λ (all : List (Lot T)). site.worker < length all) here
-        (worker_within site.port site.worker number (get_or (lots stations) site.node []) (waits_in_row (lots stations) site number (get_or (lots stations) site.node []) refl waits))) d
-      where
-        read : (xs : List (Station T)) (k : ℕ) → k < length (map lot xs) → s ≡ get_or xs k s → get_or (map lot xs) k no_lot ≡ lot s
-        read [] k l h = absurd (omega (arith, l))
-        read (x ∷ xs) zero l h = ap lot (sym h)
-        read (x ∷ xs) (suc k) l h = read xs k (omega (arith, l)) h
-
-    -- the stamp that was read is that of the bundle of the number
-    pub stamp_read : {X E : Type 0} (r : Result X E) (old new : List T) → OnOk r (IfSome (slice_get (loads_at site.port (lot s)) number) (λ load. new ≡ old ++ load.stamp)) → OnOk r (IfSome (slice_get (queue_of (lots stations) site) number) (λ bundle. new ≡ old ++ bundle.stamp))
-    stamp_read (Err refusal) old new h = tt
-    stamp_read (Ok x) old new h =
-        subst (λ (o : Option (Bundle T)). IfSome o (λ bundle. new ≡ old ++ bundle.stamp))
-        (sym (slice_get-map (bundle_at site) (loads_at site.port (lot_of (lots stations) site.node site.worker)) number))
-        (mapped (slice_get (loads_at site.port (lot_of (lots stations) site.node site.worker)) number)
-        (subst (λ (l : Lot T). IfSome (slice_get (loads_at site.port l) number) (λ load. new ≡ old ++ load.stamp)) (sym lot_read) h))
-      where
-        mapped : (o : Option (Load T)) → IfSome o (λ load. new ≡ old ++ load.stamp) → IfSome (option_map (bundle_at site) o) (λ bundle. new ≡ old ++ bundle.stamp)
-        mapped None k = tt
-        mapped (Some load) k = k
-
   -- ---- whether anything waits
 
   -- nothing waits at any port if nothing waits at the first two, since a node has no others

@@ -116,6 +116,10 @@ module _ {T : Type 0} where
   abbrev pub held_from : ℕ → ℕ → List T → List (List (Lot T)) → List (List (Lot T))
   held_from n k ts stations = with_lot n k (λ lot. record lot { held = ts }) stations
 
+  -- the times that the workers of a node hold, worker by worker
+  abbrev pub held_by_all : List (Lot T) → List T
+  held_by_all row = flat_map (λ lot. lot.held) row
+
   -- the bundles that wait at a place
   abbrev pub queue_of : List (List (Lot T)) → Site → List (Bundle T)
   queue_of stations site =

@@ -12,7 +12,7 @@ use Rattle.outstanding.specs.Loads.{Lot}
 module _ {T : Type 0} where
   -- what lies at a station
   abbrev pub lot : Station T → Lot T
-  lot s = record { left = s.left.loads; right = s.right.loads; held = s.held.items }
+  lot s = record { left = s.left.loads; right = s.right.loads; held = s.held }
 
   -- what lies at all stations, by node and by worker
   abbrev pub lots : List (List (Station T)) → List (List (Lot T))

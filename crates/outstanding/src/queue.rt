@@ -3,15 +3,18 @@
 //! Each place has a queue of its own, so a bundle is put and taken without a look at any other. A
 //! change that was fed waits as it is, with no block of memory of its own, since a million changes
 //! may wait.
-ghost use Rattle.std.specs.Prelude.{◌≡◌, ◌<◌, ◌≤◌, ◌+◌, ◌++◌, List, [], ◌∷◌, Some, IfErr, IfOk, IfSome, OnErr, OnOk, length, slice_get};
+ghost use Rattle.std.specs.Prelude.{◌≡◌, ◌<◌, ◌≤◌, ◌+◌, ◌++◌, List, [], ◌∷◌, Some, IfErr, IfOk, OnErr, OnOk, length, slice_get};
 ghost use Rattle.std.specs.List.{remove};
 ghost use Rattle.update.specs.declared.refusal.Refusal.TheVariants.{OutOfMemory};
 ghost use Rattle.update.specs.declared.change.Update.{Update};
+ghost use Rattle.progress.specs.Several.{items_at};
+ghost use Rattle.progress.specs.Tallies.{SameCounts};
 ghost use Rattle.outstanding.specs.declared.queue.Parcel.TheVariants.{Sent};
 ghost use Rattle.outstanding.specs.Loads.{load_of};
 
 use columns::UpdateList;
 use lattice::Minimum;
+use progress::{Capabilities, Place, Tally};
 use std::alloc::Global;
 use std::collections::VecDeque;
 use std::marker::Model;
@@ -70,18 +73,6 @@ impl<T: Minimum> Queue<T> {
         self.parcels.len()
     }
 
-    /// Appends the stamp of the load of a number, from 0. Refused only with `OutOfMemory`.
-    ///
-    /// Cost: linear in the stamp.
-    pub fn push_stamp(&self, number: usize, all: &mut Vec<T>) -> Result<(), Refusal>
-        requires { number < length self.now.loads }
-        ensures more { OnOk result (IfSome (slice_get self.now.loads number)
-            (λ load. all.new.items ≡ all.old.items ++ load.stamp)) }
-        ensures refused { IfErr result (λ refusal. refusal ≡ OutOfMemory) }
-    {
-        self.parcels[number].push_stamp(all)
-    }
-
     /// Appends a parcel, and gives up any reserved room. Refused only with `OutOfMemory`; then the
     /// loads stay as they are.
     ///
@@ -129,29 +120,35 @@ impl<T: Minimum> Queue<T> {
         self.reserved = 0;
     }
 
-    /// Takes the load of a number, from 0, out of the queue, and appends its stamp to `held`.
-    /// Refused only with `OutOfMemory`; then nothing changes. It may allocate since a change gets
-    /// lists of its own only now, and since `held` may have to grow.
+    /// Takes the load of a number, from 0, out of the queue. Its stamp is held from then on at a place,
+    /// and counted there. Refused only with `OutOfMemory`; then nothing changes, and no item is counted
+    /// more or less often than before. It may allocate since a change gets lists of its own only now.
     ///
-    /// Cost: linear in the stamp, and in the number of loads before it or behind it, whichever is
-    /// smaller.
+    /// Cost: that of [`Capabilities::hold_more`] for the stamp, and linear in the number of loads before
+    /// it or behind it, whichever is smaller.
     pub fn take(
         &mut self,
         number: usize,
-        held: &mut Vec<T>,
+        held: &mut Capabilities<T>,
+        tally: &mut Tally<T>,
+        place: &Place,
     ) -> Result<(UpdateList<T>, Times<T>), Refusal>
         requires { number < length self.old.loads }
         ensures load { IfOk result (λ load. slice_get self.old.loads number
             ≡ Some (record { updates = load.0; stamp = load.1 })) }
         ensures rest { OnOk result (self.new.loads ≡ remove self.old.loads number) }
-        ensures held { IfOk result (λ load. held.new.items ≡ held.old.items ++ load.1) }
+        ensures held { IfOk result (λ load. held.new ≡ held.old ++ load.1) }
+        ensures counted { IfOk result (λ load.
+            SameCounts tally.new.items (items_at place.now load.1 ++ tally.old.items)) }
+        ensures nodes { tally.new.nodes ≡ tally.old.nodes }
         ensures refused { IfErr result (λ refusal. refusal ≡ OutOfMemory) }
         ensures unchanged { OnErr result (self.new.loads ≡ self.old.loads) }
-        ensures kept { OnErr result (held.new.items ≡ held.old.items) }
+        ensures kept { OnErr result (held.new ≡ held.old) }
+        ensures uncounted { OnErr result (SameCounts tally.new.items tally.old.items) }
     {
         let alloc = *self.parcels.allocator();
         self.parcels[number].unpack(alloc)?;
-        self.parcels[number].push_stamp(held)?;
+        self.parcels[number].hold_stamp(held, tally, place)?;
         match self.parcels.remove(number).unwrap() {
             Parcel::Sent(updates, stamp) => Ok((updates, stamp)),
             Parcel::Change(_update) => unreachable!(),
@@ -200,16 +197,26 @@ impl<T: Minimum> Parcel<T> {
         Ok(())
     }
 
-    // Appends the stamp. Refused only with `OutOfMemory`, and then nothing changes.
-    fn push_stamp(&self, all: &mut Vec<T>) -> Result<(), Refusal>
-        ensures more { OnOk result (all.new.items ≡ all.old.items ++ (load_of self.now).stamp) }
+    // Holds the stamp of what a worker sent. Refused only with `OutOfMemory`, and then nothing changes.
+    fn hold_stamp(
+        &self,
+        held: &mut Capabilities<T>,
+        tally: &mut Tally<T>,
+        place: &Place,
+    ) -> Result<(), Refusal>
+        requires { (updates : List (Update T)) × ((stamp : List T)
+            × (self.now ≡ Sent updates stamp)) }
+        ensures held { OnOk result (held.new ≡ held.old ++ (load_of self.now).stamp) }
+        ensures counted { OnOk result (SameCounts tally.new.items
+            (items_at place.now (load_of self.now).stamp ++ tally.old.items)) }
+        ensures nodes { tally.new.nodes ≡ tally.old.nodes }
         ensures refused { IfErr result (λ refusal. refusal ≡ OutOfMemory) }
-        ensures unchanged { OnErr result (all.new.items ≡ all.old.items) }
+        ensures kept { OnErr result (held.new ≡ held.old) }
+        ensures uncounted { OnErr result (SameCounts tally.new.items tally.old.items) }
     {
         match self {
-            Parcel::Change(update) => all.push(update.time)?,
-            Parcel::Sent(_updates, stamp) => all.extend_from_slice(stamp.as_slice())?,
+            Parcel::Sent(_updates, stamp) => held.hold_more(tally, place, stamp.as_slice()),
+            Parcel::Change(_update) => unreachable!(),
         }
-        Ok(())
     }
 }

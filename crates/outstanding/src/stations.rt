@@ -3,11 +3,18 @@
 //!
 //! A place is found by its numbers, so an event there costs the same however much waits anywhere
 //! else.
-ghost use Rattle.std.specs.Prelude.{◌≡◌, ◌<◌, ◌&&◌, ℕ, suc, eqb, false, Some, IfErr, IfOk, IfSome, OnErr, OnOk, length, slice_get, map, replicate};
+//!
+//! What a worker holds are capabilities, which a tally counts. They cannot be dropped, so neither can a
+//! station, nor what has stations: [`Stations::give_back`] ends them.
+ghost use Rattle.std.specs.Prelude.{◌≡◌, ◌<◌, ◌&&◌, ◌++◌, ℕ, [], suc, eqb, false, Some, IfErr, IfOk, IfSome, OnErr, OnOk, length, slice_get, get_or, map, replicate};
 ghost use Rattle.std.specs.List.{All};
 ghost use Rattle.update.specs.declared.refusal.Refusal.TheVariants.{OutOfMemory};
+ghost use Rattle.progress.specs.declared.place.Place.TheVariants.{Held};
+ghost use Rattle.progress.specs.Several.{items_at, AreCounted};
+ghost use Rattle.progress.specs.Tallies.{SameCounts};
 ghost use Rattle.histories.specs.declared.event.Site.{Site};
-ghost use Rattle.outstanding.specs.Loads.{load_of, no_lot, loads_at, with_load_at, without_load_at, lot_in, at_worker, first_stations, put_at, put_all, taken_from, held_from, queue_of};
+ghost use Rattle.histories.specs.Histories.Outstanding.{items_held};
+ghost use Rattle.outstanding.specs.Loads.{load_of, no_lot, loads_at, with_load_at, without_load_at, lot_in, lot_of, at_worker, first_stations, put_at, put_all, taken_from, held_from, held_by_all, queue_of, all_held};
 ghost use Rattle.histories.specs.Histories.States.{same_place};
 ghost use Rattle.outstanding.specs.Stations.{lot, lots, has_room, IsReleased, RowHasRoom, HasRoom, HasReleased, HasRoomFor};
 
@@ -16,24 +23,19 @@ use columns::UpdateList;
 use histories::{Bundle, Site};
 use lattice::Minimum;
 use plan::NodeId;
+use progress::{Capabilities, Place, Tally};
 use std::alloc::Global;
 use std::marker::Model;
 use update::{Refusal, Times};
 
-// A worker that held at most this many times at a node keeps the list's memory when it holds none
-// any more. A longer list is freed.
-const MAX_KEPT: usize = 64;
-
 /// What lies at a node for a worker.
-#[derive(Drop)]
 pub struct Station<T> {
     pub(crate) left: Queue<T>,
     pub(crate) right: Queue<T>,
-    pub(crate) held: Vec<T>,
+    pub(crate) held: Capabilities<T>,
 }
 
 /// The stations of a node, by worker. A contract sees the list of them.
-#[derive(Drop)]
 pub struct Row<T> {
     pub(crate) by_worker: Vec<Station<T>>,
 }
@@ -55,7 +57,7 @@ impl<T: Minimum> Station<T> {
         Station {
             left: Queue::new(alloc),
             right: Queue::new(alloc),
-            held: Vec::new(alloc),
+            held: Capabilities::none(alloc),
         }
     }
 
@@ -113,35 +115,60 @@ impl<T: Minimum> Station<T> {
         }
     }
 
-    // Takes the load of a number from a port. The worker then holds its stamp.
-    fn take(&mut self, port: usize, number: usize) -> Result<(UpdateList<T>, Times<T>), Refusal>
+    // Takes the load of a number from a port. The worker then holds its stamp at this place.
+    fn take(
+        &mut self,
+        port: usize,
+        number: usize,
+        tally: &mut Tally<T>,
+        place: &Place,
+    ) -> Result<(UpdateList<T>, Times<T>), Refusal>
         requires { number < length (loads_at port (lot self.old)) }
         ensures load { IfOk result (λ load. slice_get (loads_at port (lot self.old)) number
             ≡ Some (record { updates = load.0; stamp = load.1 })) }
         ensures taken { IfOk result (λ load.
             lot self.new ≡ without_load_at port number load.1 (lot self.old)) }
+        ensures counted { IfOk result (λ load.
+            SameCounts tally.new.items (items_at place.now load.1 ++ tally.old.items)) }
+        ensures nodes { tally.new.nodes ≡ tally.old.nodes }
         ensures refused { IfErr result (λ refusal. refusal ≡ OutOfMemory) }
         ensures unchanged { OnErr result (lot self.new ≡ lot self.old) }
+        ensures uncounted { OnErr result (SameCounts tally.new.items tally.old.items) }
     {
         match port {
-            0 => self.left.take(number, &mut self.held),
-            1 => self.right.take(number, &mut self.held),
+            0 => self.left.take(number, &mut self.held, tally, place),
+            1 => self.right.take(number, &mut self.held, tally, place),
             _ => unreachable!(),
         }
     }
 
-    // The worker holds these times from now on, and no other. If there are none, a short list keeps
-    // its memory, since the next stamp goes there. Queues that were emptied give theirs back.
-    fn hold(&mut self, times: Times<T>)
-        ensures { lot self.new ≡ record (lot self.old) { held = times } }
+    // The worker holds these from now on at this place, and gives back what it held. Queues that were
+    // emptied give their memory back.
+    fn exchange(&mut self, tally: &mut Tally<T>, place: &Place, held: Capabilities<T>)
+        requires { AreCounted tally.old.items (items_at place.now (lot self.old).held) }
+        ensures held { lot self.new ≡ record (lot self.old) { held = held } }
+        ensures counted { SameCounts (items_at place.now (lot self.old).held ++ tally.new.items)
+            tally.old.items }
+        ensures nodes { tally.new.nodes ≡ tally.old.nodes }
     {
         self.left.shrink();
         self.right.shrink();
-        if times.as_slice().is_empty() && self.held.len() <= MAX_KEPT {
-            self.held.clear();
-        } else {
-            self.held = times.into_vec();
-        }
+        self.held.exchange(tally, place, held);
+    }
+
+    // Ends the station. The worker gives back what it held.
+    fn give_back(self, tally: &mut Tally<T>, place: &Place)
+        requires { AreCounted tally.old.items (items_at place.now (lot self).held) }
+        ensures counted { SameCounts (items_at place.now (lot self).held ++ tally.new.items)
+            tally.old.items }
+        ensures nodes { tally.new.nodes ≡ tally.old.nodes }
+    {
+        let Station {
+            left: _left,
+            right: _right,
+            held,
+        } = self;
+        let _times = held.give_back(tally, place);
     }
 }
 
@@ -153,7 +180,7 @@ impl<T: Minimum> Row<T> {
     {
         let mut by_worker = Vec::with_capacity(alloc, workers)?;
         for _worker in 0..workers {
-            by_worker.push(Station::new(alloc))?;
+            by_worker.push_reserved(Station::new(alloc));
         }
         Ok(Row { by_worker })
     }
@@ -213,12 +240,14 @@ impl<T: Minimum> Row<T> {
         }
     }
 
-    // Takes the load of a number from a worker's port. The worker then holds its stamp.
+    // Takes the load of a number from a worker's port. The worker then holds its stamp at this place.
     fn take(
         &mut self,
         worker: usize,
         port: usize,
         number: usize,
+        tally: &mut Tally<T>,
+        place: &Place,
     ) -> Result<(UpdateList<T>, Times<T>), Refusal>
         requires { number < length (loads_at port (lot_in (map lot self.old) worker)) }
         ensures load { IfOk result (λ load.
@@ -226,26 +255,54 @@ impl<T: Minimum> Row<T> {
             ≡ Some (record { updates = load.0; stamp = load.1 })) }
         ensures taken { IfOk result (λ load. map lot self.new
             ≡ at_worker worker (without_load_at port number load.1) (map lot self.old)) }
+        ensures counted { IfOk result (λ load.
+            SameCounts tally.new.items (items_at place.now load.1 ++ tally.old.items)) }
+        ensures nodes { tally.new.nodes ≡ tally.old.nodes }
         ensures refused { IfErr result (λ refusal. refusal ≡ OutOfMemory) }
         ensures unchanged { OnErr result (map lot self.new ≡ map lot self.old) }
+        ensures uncounted { OnErr result (SameCounts tally.new.items tally.old.items) }
     {
-        self.by_worker[worker].take(port, number)
+        self.by_worker[worker].take(port, number, tally, place)
     }
 
-    // A worker holds these times from now on, and no other. Nothing changes if there is no such
-    // worker.
-    fn hold(&mut self, worker: usize, times: Times<T>)
-        ensures { map lot self.new
-            ≡ at_worker worker (λ l. record l { held = times }) (map lot self.old) }
+    // A worker holds these from now on at this place, and gives back what it held.
+    fn exchange(
+        &mut self,
+        worker: usize,
+        tally: &mut Tally<T>,
+        place: &Place,
+        held: Capabilities<T>,
+    )
+        requires staffed { worker < length self.old }
+        requires counted { AreCounted tally.old.items
+            (items_at place.now (lot_in (map lot self.old) worker).held) }
+        ensures held { map lot self.new
+            ≡ at_worker worker (λ l. record l { held = held }) (map lot self.old) }
+        ensures counted { SameCounts
+            (items_at place.now (lot_in (map lot self.old) worker).held ++ tally.new.items)
+            tally.old.items }
+        ensures nodes { tally.new.nodes ≡ tally.old.nodes }
     {
-        if worker < self.by_worker.len() {
-            self.by_worker[worker].hold(times);
+        self.by_worker[worker].exchange(tally, place, held);
+    }
+
+    // Ends the stations of a node. The workers give back what they held.
+    fn give_back(self, tally: &mut Tally<T>, place: &Place)
+        requires { AreCounted tally.old.items (items_at place.now (held_by_all (map lot self))) }
+        ensures counted { SameCounts (items_at place.now (held_by_all (map lot self))
+            ++ tally.new.items) tally.old.items }
+        ensures nodes { tally.new.nodes ≡ tally.old.nodes }
+    {
+        let Row { mut by_worker } = self;
+        while let Some(station) = by_worker.pop() {
+            station.give_back(tally, place);
         }
+        by_worker.destroy_empty();
     }
 }
 
-/// The stations of all nodes. A contract sees the lists of them, by node and by worker.
-#[derive(Drop)]
+/// The stations of all nodes. A contract sees the lists of them, by node and by worker. They must be
+/// ended, by `give_back`.
 pub struct Stations<T> {
     pub(crate) by_node: Vec<Row<T>>,
 }
@@ -261,18 +318,51 @@ impl<T> Model for Stations<T> {
 
 impl<T: Minimum> Stations<T> {
     /// The stations of this many nodes and workers, at which nothing lies. Refused only with
-    /// `OutOfMemory`.
+    /// `OutOfMemory`. Then those that were made are ended, for which the tally is needed: it counts the
+    /// same before and after.
     ///
     /// Cost: linear in the stations.
-    pub fn first(alloc: Global, nodes: usize, workers: usize) -> Result<Stations<T>, Refusal>
+    pub fn first(
+        alloc: Global,
+        nodes: usize,
+        workers: usize,
+        tally: &mut Tally<T>,
+    ) -> Result<Stations<T>, Refusal>
         ensures first { IfOk result (λ stations. lots stations ≡ first_stations nodes workers) }
         ensures refused { IfErr result (λ refusal. refusal ≡ OutOfMemory) }
+        ensures counted { SameCounts tally.new.items tally.old.items }
+        ensures nodes { tally.new.nodes ≡ tally.old.nodes }
     {
         let mut by_node = Vec::with_capacity(alloc, nodes)?;
         for _node in 0..nodes {
-            by_node.push(Row::first(alloc, workers)?)?;
+            match Row::first(alloc, workers) {
+                Ok(row) => by_node.push_reserved(row),
+                Err(refusal) => {
+                    Stations { by_node }.give_back(tally);
+                    return Err(refusal);
+                }
+            }
         }
         Ok(Stations { by_node })
+    }
+
+    /// Ends the stations. All workers give back what they hold, which must be counted. What waits is
+    /// dropped. Takes no memory.
+    ///
+    /// Cost: linear in the stations and in what lies there, and that of
+    /// [`Capabilities::give_back`] for each of them.
+    pub fn give_back(self, tally: &mut Tally<T>)
+        requires { AreCounted tally.old.items (items_held (all_held (lots self))) }
+        ensures counted { SameCounts (items_held (all_held (lots self)) ++ tally.new.items)
+            tally.old.items }
+        ensures nodes { tally.new.nodes ≡ tally.old.nodes }
+    {
+        let Stations { mut by_node } = self;
+        while let Some(row) = by_node.pop() {
+            let node = NodeId::new(by_node.len());
+            row.give_back(tally, &Place::Held { node });
+        }
+        by_node.destroy_empty();
     }
 
     /// Puts a change, or what a worker sent, at a place; drops it if there is no such place.
@@ -380,23 +470,34 @@ impl<T: Minimum> Stations<T> {
         }
     }
 
-    /// Takes the bundle of a number, from 0, from its place. The worker then holds its stamp there.
-    /// Refused only with `OutOfMemory`, and then nothing changes.
+    /// Takes the bundle of a number, from 0, from its place. The worker then holds its stamp at the
+    /// node, and the tally counts it there. Refused only with `OutOfMemory`. Then nothing changes, and
+    /// no item is counted more or less often than before.
     ///
-    /// Cost: linear in the stamp, and in the number of bundles before it or behind it, whichever is
-    /// smaller.
-    pub fn take(&mut self, site: &Site, number: usize) -> Result<Bundle<T>, Refusal>
+    /// Cost: that of [`Capabilities::hold_more`] for the stamp, and linear in the number of bundles
+    /// before it or behind it, whichever is smaller.
+    pub fn take(
+        &mut self,
+        site: &Site,
+        number: usize,
+        tally: &mut Tally<T>,
+    ) -> Result<Bundle<T>, Refusal>
         requires { number < length (queue_of (lots self.old) site.now) }
         ensures waited { IfOk result (λ bundle.
             slice_get (queue_of (lots self.old) site.now) number ≡ Some bundle) }
         ensures place { IfOk result (λ bundle. bundle.place ≡ site.now) }
         ensures taken { IfOk result (λ bundle.
             lots self.new ≡ taken_from number bundle (lots self.old)) }
+        ensures counted { IfOk result (λ bundle. SameCounts tally.new.items
+            (items_at (Held site.now.node) bundle.stamp ++ tally.old.items)) }
+        ensures nodes { tally.new.nodes ≡ tally.old.nodes }
         ensures refused { IfErr result (λ refusal. refusal ≡ OutOfMemory) }
         ensures unchanged { OnErr result (lots self.new ≡ lots self.old) }
+        ensures uncounted { OnErr result (SameCounts tally.new.items tally.old.items) }
     {
+        let held = Place::Held { node: site.node };
         let row = &mut self.by_node[site.node.number()];
-        let (updates, stamp) = row.take(site.worker, site.port, number)?;
+        let (updates, stamp) = row.take(site.worker, site.port, number, tally, &held)?;
         Ok(Bundle {
             place: *site,
             updates,
@@ -404,14 +505,27 @@ impl<T: Minimum> Stations<T> {
         })
     }
 
-    /// A worker holds these times at a node from now on, and no other. Nothing changes if there is
-    /// no such node. Takes no memory.
-    pub fn hold(&mut self, node: NodeId, worker: usize, times: Times<T>)
-        ensures { lots self.new ≡ held_from node worker times (lots self.old) }
+    /// A worker holds these at a node from now on, and gives back what it held there, which must be
+    /// counted. Takes no memory.
+    ///
+    /// Cost: that of [`Capabilities::exchange`].
+    pub fn exchange(
+        &mut self,
+        node: NodeId,
+        worker: usize,
+        tally: &mut Tally<T>,
+        held: Capabilities<T>,
+    )
+        requires staffed { worker < length (get_or (lots self.old) node []) }
+        requires counted { AreCounted tally.old.items
+            (items_at (Held node) (lot_of (lots self.old) node worker).held) }
+        ensures held { lots self.new ≡ held_from node worker held (lots self.old) }
+        ensures counted { SameCounts
+            (items_at (Held node) (lot_of (lots self.old) node worker).held ++ tally.new.items)
+            tally.old.items }
+        ensures nodes { tally.new.nodes ≡ tally.old.nodes }
     {
-        let node = node.number();
-        if node < self.by_node.len() {
-            self.by_node[node].hold(worker, times);
-        }
+        let row = &mut self.by_node[node.number()];
+        row.exchange(worker, tally, &Place::Held { node }, held);
     }
 }

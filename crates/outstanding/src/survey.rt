@@ -1,8 +1,7 @@
 //! What is read at the stations of a board without changing them: what waits at a place, and what is
 //! held at a node.
-ghost use Rattle.std.specs.Prelude.{◌≡◌, ◌<◌, ◌++◌, ℕ, [], None, IfErr, IfSome, OnOk, length, get_or, map, slice_get};
+ghost use Rattle.std.specs.Prelude.{◌≡◌, ◌<◌, ◌++◌, ℕ, [], None, IfSome, length, get_or, map};
 ghost use Rattle.std.specs.List.{list_all};
-ghost use Rattle.update.specs.declared.refusal.Refusal.TheVariants.{OutOfMemory};
 ghost use Rattle.histories.specs.Histories.States.{place};
 ghost use Rattle.outstanding.specs.Loads.{is_none, has_place, loads_at, lot_of, queue_of, all_bundles};
 ghost use Rattle.outstanding.specs.Stations.{lot, lots};
@@ -11,7 +10,6 @@ use crate::stations::{Row, Station, Stations};
 use histories::Site;
 use lattice::Minimum;
 use plan::NodeId;
-use update::Refusal;
 
 impl<T: Minimum> Station<T> {
     // The number of loads that wait at a port.
@@ -22,20 +20,6 @@ impl<T: Minimum> Station<T> {
             0 => self.left.len(),
             1 => self.right.len(),
             _ => 0,
-        }
-    }
-
-    // Appends the stamp of the load of a number at a port.
-    fn push_stamp(&self, port: usize, number: usize, all: &mut Vec<T>) -> Result<(), Refusal>
-        requires { number < length (loads_at port (lot self.now)) }
-        ensures more { OnOk result (IfSome (slice_get (loads_at port (lot self.now)) number)
-            (λ load. all.new.items ≡ all.old.items ++ load.stamp)) }
-        ensures refused { IfErr result (λ refusal. refusal ≡ OutOfMemory) }
-    {
-        match port {
-            0 => self.left.push_stamp(number, all),
-            1 => self.right.push_stamp(number, all),
-            _ => unreachable!(),
         }
     }
 
@@ -81,20 +65,6 @@ impl<T: Minimum> Stations<T> {
         site.worker < self.row(site.node).len() && site.port < 2
     }
 
-    /// Appends the stamp of the bundle of a number, from 0, at a place. Refused only with
-    /// `OutOfMemory`.
-    ///
-    /// Cost: linear in the stamp.
-    pub fn push_stamp(&self, site: &Site, number: usize, all: &mut Vec<T>) -> Result<(), Refusal>
-        requires { number < length (queue_of (lots self.now) site.now) }
-        ensures more { OnOk result (IfSome (slice_get (queue_of (lots self.now) site.now) number)
-            (λ bundle. all.new.items ≡ all.old.items ++ bundle.stamp)) }
-        ensures refused { IfErr result (λ refusal. refusal ≡ OutOfMemory) }
-    {
-        let row = self.row(site.node);
-        row[site.worker].push_stamp(site.port, number, all)
-    }
-
     /// The number of bundles that wait at a place. Takes no memory.
     pub fn waiting(&self, site: &Site) -> usize
         ensures { result ≡ length (queue_of (lots self.now) site.now) }
@@ -130,7 +100,7 @@ impl<T: Minimum> Stations<T> {
     {
         let row = self.row(node);
         if worker < row.len() {
-            row[worker].held.as_slice()
+            row[worker].held.times()
         } else {
             &[]
         }

@@ -13,11 +13,11 @@ returns-in_err-unpack-clause-unchanged g c =
     let within : c.args.number < length items = seen_within load_of items items refl c.args.number c.args.number refl (subst (λ (q : QueueState g.row.T.Denot). c.args.number < length q.loads) (sym c.self.view_is) c.requires) in
     on_err_plain c.from_residual.result (none_put items items refl c.args.number c.args.number refl c.index_mut.result.now c.unpack.new.self within c.index_mut.ensures.value load_of c.unpack.ensures.unchanged ∙ ap (λ (q : QueueState g.row.T.Denot). q.loads) c.self.view_is)
 
-pub returns-in_err-push_stamp-clause-unchanged : goal.returns-in_err-push_stamp-clause-unchanged
-returns-in_err-push_stamp-clause-unchanged g c =
+pub returns-in_err-hold_stamp-clause-unchanged : goal.returns-in_err-hold_stamp-clause-unchanged
+returns-in_err-hold_stamp-clause-unchanged g c =
     let items = c.self.inside.parcels.items in
     let within : c.args.number < length items = seen_within load_of items items refl c.args.number c.args.number refl (subst (λ (q : QueueState g.row.T.Denot). c.args.number < length q.loads) (sym c.self.view_is) c.requires) in
-    on_err_plain c.from_residual-in_err-push_stamp.result (none_put items items refl c.args.number c.args.number refl c.index_mut.result.now c.unpack.new.self within c.index_mut.ensures.value load_of c.unpack.ensures.unchanged ∙ ap (λ (q : QueueState g.row.T.Denot). q.loads) c.self.view_is)
+    on_err_plain c.from_residual-in_err-hold_stamp.result (none_put items items refl c.args.number c.args.number refl c.index_mut.result.now c.unpack.new.self within c.index_mut.ensures.value load_of c.unpack.ensures.unchanged ∙ ap (λ (q : QueueState g.row.T.Denot). q.loads) c.self.view_is)
 
 pub returns-clause-load : goal.returns-clause-load
 returns-clause-load g c =
