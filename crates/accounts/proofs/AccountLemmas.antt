@@ -21,22 +21,12 @@ use Rattle.histories.specs.Histories.{held_entries, open_entries}
 use Rattle.histories.specs.Histories.Outstanding.{items_in_flight, items_held}
 use Rattle.outstanding.specs.Inputs.{front_at}
 use Rattle.outstanding.specs.Loads.{Load, Lot, no_lot, load_in, bundle_at, loads_at, with_load_at, without_load_at, lot_in, lot_of, with_lot, first_stations, put_at, put_all, taken_from, held_from, queue_of, has_place, bundles_of, bundles_in, held_in}
+use Rattle.outstanding.proofs.GivingLemmas.{map_flat, map_twice, kept_at, first_lot}
 use Rattle.outstanding.proofs.LotLemmas.{flat_flat, flat_empty, apart, no_and}
 use Rattle.outstanding.proofs.PlacingLemmas.{lot_at, as_many, as_wide, set_past}
 use Rattle.outstanding.proofs.StationLemmas.{node_within}
 use Rattle.accounts.specs.Accounts.{AccountState, items_waiting, items_kept, items_left, items_on, placed, items_sent}
 use Rattle.accounts.proofs.CountLemmas.{count, count_both, one_changed}
-
--- ---- lists
-
-module _ {X Y : Type 0} where
-  map_flat : {Z : Type 0} (f : Y → Z) (g : X → List Y) (xs : List X) → map f (flat_map g xs) ≡ flat_map (λ x. map f (g x)) xs
-  map_flat f g [] = refl
-  map_flat f g (x ∷ xs) = map-append f (g x) (flat_map g xs) ∙ ap (λ ys. map f (g x) ++ ys) (map_flat f g xs)
-
-  map_twice : {Z : Type 0} (f : Y → Z) (g : X → Y) (xs : List X) → map f (map g xs) ≡ map (λ x. f (g x)) xs
-  map_twice f g [] = refl
-  map_twice f g (x ∷ xs) = ap (λ ys. f (g x) ∷ ys) (map_twice f g xs)
 
 -- ---- one lot changes
 
@@ -117,10 +107,6 @@ module _ {T : Type 0} where
         omega (arith, a, b, c)
 
   -- ---- the items of one lot
-
-  -- what a lot holds, as items
-  kept_at : (n k : ℕ) (ts : List T) → items_held (held_entries n k ts) ≡ items_at (Held n) ts
-  kept_at n k ts = map_twice (λ m. record { place = Held m.node; time = m.time }) (λ t. record { node = n; worker = k; time = t }) ts
 
   -- what waits at a port, as items
   abbrev at_port : ℕ → ℕ → List (Load T) → List (Counted T)
@@ -367,19 +353,6 @@ module _ {T : Type 0} where
 -- ---- before anything has happened
 
 module _ {T : Type 0} where
-  first_lot : (nodes workers n k : ℕ) → lot_of (first_stations {T = T} nodes workers) n k ≡ no_lot
-  first_lot nodes workers n k = at nodes n
-    where
-      in_row : (w j : ℕ) → get_or (replicate w (no_lot {T = T})) j no_lot ≡ no_lot
-      in_row zero j = refl
-      in_row (suc w) zero = refl
-      in_row (suc w) (suc j) = in_row w j
-
-      at : (z m : ℕ) → get_or (get_or (replicate z (replicate workers (no_lot {T = T}))) m []) k no_lot ≡ no_lot
-      at zero m = refl
-      at (suc z) zero = in_row workers k
-      at (suc z) (suc m) = at z m
-
   nothing_at : (has : ℕ → ℕ → Lot T → List (Counted T)) → ((n k : ℕ) → has n k no_lot ≡ []) → (test : Counted T → Bool) (nodes workers : ℕ) → at_all test has (first_stations nodes workers) ≡ []
   nothing_at has none test nodes workers =
       flat_empty (at_node test has (first_stations nodes workers)) (numbers_below (length (first_stations {T = T} nodes workers)))

@@ -68,6 +68,19 @@ module _ {T : Type 0} where
   pub recounted : (a : AccountState T) (old new : List (Counted T)) → IsCounted a old → SameCounts new old → IsCounted a new
   recounted a old new h same = record { plan = h.plan; stations = h.stations; inputs = h.inputs; counts = λ test. same test ∙ h.counts test }
 
+  -- what is held is counted
+  pub kept_is_counted : (a : AccountState T) (counted : List (Counted T)) → IsCounted a counted → AreCounted counted (items_kept a.stations)
+  kept_is_counted a counted h = record {
+    rest = items_waiting a.stations ++ items_left (length a.nodes) a.inputs;
+    counts = λ test.
+        let left = items_left (length a.nodes) a.inputs in
+        let b = h.counts test in
+        let c = in_three test a in
+        let d = count_both test (items_kept a.stations) (items_waiting a.stations ++ left) in
+        let e = count_both test (items_waiting a.stations) left in
+        omega (arith, b, c, d, e);
+  }
+
   -- ---- nothing has happened yet
 
   pub counted_first : (nodes : List Node) (workers : ℕ) (inputs : List (List T)) (counted : List (Counted T)) → IsPlan nodes → length inputs ≡ length nodes → SameCounts counted (items_left (length nodes) inputs)
@@ -194,7 +207,7 @@ module _ {T : Type 0} where
   -- ---- a worker gives
 
   -- putting bundles changes nothing held, wherever they go
-  held_stays : (sent : List (Bundle T)) (stations : List (List (Lot T))) (n k : ℕ) → (lot_of (put_all sent stations) n k).held ≡ (lot_of stations n k).held
+  pub held_stays : (sent : List (Bundle T)) (stations : List (List (Lot T))) (n k : ℕ) → (lot_of (put_all sent stations) n k).held ≡ (lot_of stations n k).held
   held_stays [] stations n k = refl
   held_stays (b ∷ bs) stations n k = held_stays bs (put_at b.place (load_in b) stations) n k ∙ step (has_place stations b.place) refl
     where
@@ -253,10 +266,6 @@ module _ {T : Type 0} where
     }
 
   -- ---- as the code meets it
-
-  -- a stamp that was copied into an empty list
-  pub stamp_is : (o : Option (Bundle T)) (b : Bundle T) (old new : List T) → IfSome o (λ x. new ≡ old ++ x.stamp) → o ≡ Some b → old ≡ [] → new ≡ b.stamp
-  stamp_is o b old new h e z = subst (λ (x : Option (Bundle T)). IfSome x (λ y. new ≡ old ++ y.stamp)) e h ∙ ap (λ xs. xs ++ b.stamp) z
 
   -- what a take counts off is counted, and then the tally counts what is outstanding
   pub taken_counted : (a : AccountState T) (site : Site) (number : ℕ) (b : Bundle T) → b.place ≡ site → number < length (queue_of a.stations site) → slice_get (queue_of a.stations site) number ≡ Some b

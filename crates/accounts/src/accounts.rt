@@ -22,14 +22,10 @@ use update::Refusal;
 
 /// What is outstanding in a dataflow, and the tally that counts it. A contract sees the nodes of the
 /// plan, what lies at the stations, and the frontiers of the inputs, as an `AccountState`.
-#[derive(Drop)]
 pub struct Accounts<T: Minimum> {
     pub(crate) tally: Tally<T>,
     pub(crate) stations: Stations<T>,
     pub(crate) inputs: InputFrontiers<T>,
-    // Where a take copies a stamp to, so that it can be counted before the bundle leaves its queue.
-    // The list keeps its memory.
-    pub(crate) stamp: Vec<T>,
 }
 
 impl<T: Minimum> Model for Accounts<T> {
@@ -51,6 +47,18 @@ impl<T: Minimum> Model for Accounts<T> {
     }) a.tally.items };
 }
 
+// What the workers hold are capabilities, so it goes back to the tally first.
+impl<T: Minimum> Drop for Accounts<T> {
+    fn drop(self) {
+        let Accounts {
+            mut tally,
+            stations,
+            inputs: _inputs,
+        } = self;
+        stations.give_back(&mut tally);
+    }
+}
+
 impl<T: Minimum> Accounts<T> {
     /// The accounts of a plan on so many workers, before anything has happened: nothing waits or is
     /// held, and each input stands at the least time. Refused only with `OutOfMemory`.
@@ -65,15 +73,15 @@ impl<T: Minimum> Accounts<T> {
         }) }
         ensures refused { IfErr result (λ refusal. refusal ≡ OutOfMemory) }
     {
-        let stations = Stations::first(alloc, plan.len(), workers)?;
         let inputs = InputFrontiers::first(alloc, &plan)?;
         let mut tally = Tally::new(alloc, plan)?;
         count_inputs(&mut tally, &inputs)?;
+        let nodes = tally.plan().len();
+        let stations = Stations::first(alloc, nodes, workers, &mut tally)?;
         Ok(Accounts {
             tally,
             stations,
             inputs,
-            stamp: Vec::new(alloc),
         })
     }
 
@@ -131,8 +139,8 @@ impl<T: Minimum> Accounts<T> {
         self.tally.input_frontier_of(node)
     }
 
-    /// Finds anew what the tally keeps of a node, if something moved it. Whoever asks about many times
-    /// calls this first. Refused only with `OutOfMemory`.
+    /// Finds anew what the tally keeps of a node, if something moved it. A caller that asks about many
+    /// times calls this first. Refused only with `OutOfMemory`.
     ///
     /// Cost: that of [`Tally::refresh`].
     pub fn refresh(&mut self, node: NodeId) -> Result<(), Refusal>

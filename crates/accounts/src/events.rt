@@ -57,21 +57,10 @@ impl<T: Minimum> Accounts<T> {
         ensures refused { IfErr result (λ refusal. refusal ≡ OutOfMemory) }
         ensures unchanged { OnErr result (self.new ≡ self.old) }
     {
-        let held = Place::Held { node: site.node };
-        self.stamp.clear();
-        self.stations.push_stamp(site, number, &mut self.stamp)?;
-        self.tally.add_all(&held, self.stamp.as_slice())?;
-        match self.stations.take(site, number) {
-            Ok(bundle) => {
-                self.tally
-                    .remove_all(&port_of(site), bundle.stamp.as_slice());
-                Ok(bundle)
-            }
-            Err(refusal) => {
-                self.tally.remove_all(&held, self.stamp.as_slice());
-                Err(refusal)
-            }
-        }
+        let bundle = self.stations.take(site, number, &mut self.tally)?;
+        self.tally
+            .remove_all(&port_of(site), bundle.stamp.as_slice());
+        Ok(bundle)
     }
 
     /// Moves an input's frontier forward to these times; with no times the input is closed. Refused

@@ -1,7 +1,7 @@
 //! What a worker gives. First all of it is counted and room is made, which may be refused; then
-//! everything moves, which needs no memory.
-ghost use Rattle.std.specs.Prelude.{◌≡◌, ◌++◌, ◌<◌, [], IfErr, OnErr, OnOk, get_or, length};
-ghost use Rattle.update.specs.declared.refusal.Refusal.TheVariants.{OutOfMemory};
+//! everything moves, which needs no memory. The times that the worker is to hold are capabilities as
+//! soon as they are counted, so none of the two ways out can forget them.
+ghost use Rattle.std.specs.Prelude.{◌≡◌, ◌++◌, ◌<◌, [], IfErr, IfOk, OnErr, OnOk, get_or, length};
 ghost use Rattle.progress.specs.Several.{AreCounted};
 ghost use Rattle.progress.specs.Tallies.{SameCounts};
 ghost use Rattle.outstanding.specs.Loads.{held_from, put_all};
@@ -14,8 +14,8 @@ use crate::count::{add_sent, remove_sent};
 use crate::cut_emission::CutEmission;
 use lattice::Minimum;
 use outstanding::Stations;
-use progress::{Place, Tally};
-use update::{Refusal, Times};
+use progress::{Capabilities, Place, Tally};
+use update::Times;
 use views::View;
 
 /// The arguments of a `give` that ran out of memory, returned unchanged.
@@ -41,10 +41,11 @@ impl<T: Minimum> Accounts<T> {
         ensures returned { IfErr result (λ r. r ≡ record { cut = cut; held = held }) }
         ensures unchanged { OnErr result (self.new ≡ self.old) }
     {
-        if let Err(_refused) = announce(&mut self.tally, &mut self.stations, &cut, &held) {
-            return Err(Ungiven { cut, held });
-        }
-        settle(&mut self.tally, &mut self.stations, cut, held);
+        let next = match announce(&mut self.tally, &mut self.stations, &cut, held) {
+            Ok(next) => next,
+            Err(held) => return Err(Ungiven { cut, held }),
+        };
+        settle(&mut self.tally, &mut self.stations, cut, next);
         Ok(())
     }
 
@@ -68,82 +69,84 @@ impl<T: Minimum> Accounts<T> {
         ensures unchanged { OnErr result (self.new ≡ self.old) }
         ensures same { OnErr result (view.new ≡ view.old) }
     {
-        if let Err(_refused) = announce(&mut self.tally, &mut self.stations, &cut, &held) {
-            return Err(Ungiven { cut, held });
-        }
+        let next = match announce(&mut self.tally, &mut self.stations, &cut, held) {
+            Ok(next) => next,
+            Err(held) => return Err(Ungiven { cut, held }),
+        };
         if let Err(_refused) = cut.captured_by(view) {
-            withdraw(&mut self.tally, &mut self.stations, &cut, &held);
+            let held = withdraw(&mut self.tally, &mut self.stations, &cut, next);
             return Err(Ungiven { cut, held });
         }
-        settle(&mut self.tally, &mut self.stations, cut, held);
+        settle(&mut self.tally, &mut self.stations, cut, next);
         Ok(())
     }
 }
 
 // The part of a give that may be refused: it counts what is sent and what will be held, and reserves
-// room for the bundles. If it was refused, then it has taken back what it did.
+// room for the bundles. If it was refused, then it has taken back what it did, and the times come back.
 fn announce<T: Minimum>(
     tally: &mut Tally<T>,
     stations: &mut Stations<T>,
     cut: &CutEmission<T>,
-    held: &Times<T>,
-) -> Result<(), Refusal>
+    held: Times<T>,
+) -> Result<Capabilities<T>, Times<T>>
+    ensures held { IfOk result (λ next. next ≡ held) }
     ensures counted { OnOk result (SameCounts tally.new.items
-        (items_given (lots stations.old) cut.now.given held.now cut.now.sent ++ tally.old.items)) }
+        (items_given (lots stations.old) cut.now.given held cut.now.sent ++ tally.old.items)) }
     ensures room { OnOk result (HasRoomFor cut.now.sent stations.new) }
     ensures stations { lots stations.new ≡ lots stations.old }
     ensures nodes { tally.new.nodes ≡ tally.old.nodes }
+    ensures returned { IfErr result (λ back. back ≡ held) }
     ensures unchanged { OnErr result (SameCounts tally.new.items tally.old.items) }
-    ensures refused { IfErr result (λ refusal. refusal ≡ OutOfMemory) }
 {
-    count_given(tally, stations, cut, held)?;
-    if let Err(refusal) = stations.reserve(cut.sent()) {
-        withdraw(tally, stations, cut, held);
-        return Err(refusal);
+    let next = count_given(tally, stations, cut, held)?;
+    if let Err(_refused) = stations.reserve(cut.sent()) {
+        return Err(withdraw(tally, stations, cut, next));
     }
-    Ok(())
+    Ok(next)
 }
 
-// Counts what is sent and what will be held.
+// Counts what is sent and what will be held. If it was refused, then the times come back.
 fn count_given<T: Minimum>(
     tally: &mut Tally<T>,
     stations: &Stations<T>,
     cut: &CutEmission<T>,
-    held: &Times<T>,
-) -> Result<(), Refusal>
+    held: Times<T>,
+) -> Result<Capabilities<T>, Times<T>>
+    ensures held { IfOk result (λ next. next ≡ held) }
     ensures counted { OnOk result (SameCounts tally.new.items
-        (items_given (lots stations.now) cut.now.given held.now cut.now.sent ++ tally.old.items)) }
+        (items_given (lots stations.now) cut.now.given held cut.now.sent ++ tally.old.items)) }
     ensures nodes { tally.new.nodes ≡ tally.old.nodes }
+    ensures returned { IfErr result (λ back. back ≡ held) }
     ensures unchanged { OnErr result (SameCounts tally.new.items tally.old.items) }
-    ensures refused { IfErr result (λ refusal. refusal ≡ OutOfMemory) }
 {
     let place = Place::Held { node: cut.node() };
-    tally.add_all(&place, held.as_slice())?;
-    if let Err(refusal) = add_sent(tally, stations, cut.sent()) {
-        tally.remove_all(&place, held.as_slice());
-        return Err(refusal);
+    let next = Capabilities::hold(tally, &place, held)?;
+    if let Err(_refused) = add_sent(tally, stations, cut.sent()) {
+        return Err(next.give_back(tally, &place));
     }
-    Ok(())
+    Ok(next)
 }
 
-// Takes back what `announce` did. Takes no memory.
+// Takes back what `announce` did, and answers the times. Takes no memory.
 fn withdraw<T: Minimum>(
     tally: &mut Tally<T>,
     stations: &mut Stations<T>,
     cut: &CutEmission<T>,
-    held: &Times<T>,
-)
+    held: Capabilities<T>,
+) -> Times<T>
     requires { AreCounted tally.old.items
-        (items_given (lots stations.old) cut.now.given held.now cut.now.sent) }
+        (items_given (lots stations.old) cut.now.given held cut.now.sent) }
+    ensures times { result ≡ held }
     ensures counted { SameCounts
-        (items_given (lots stations.old) cut.now.given held.now cut.now.sent ++ tally.new.items)
+        (items_given (lots stations.old) cut.now.given held cut.now.sent ++ tally.new.items)
         tally.old.items }
     ensures stations { lots stations.new ≡ lots stations.old }
     ensures nodes { tally.new.nodes ≡ tally.old.nodes }
 {
     remove_sent(tally, stations, cut.sent());
-    tally.remove_all(&Place::Held { node: cut.node() }, held.as_slice());
     stations.release(cut.sent());
+    held.give_back(tally, &Place::Held { node: cut.node() })
 }
 
 // Moves what was announced, and counts off what the worker held before. Takes no memory.
@@ -151,9 +154,11 @@ fn settle<T: Minimum>(
     tally: &mut Tally<T>,
     stations: &mut Stations<T>,
     cut: CutEmission<T>,
-    held: Times<T>,
+    held: Capabilities<T>,
 )
     requires room { HasRoomFor cut.sent stations.old }
+    requires staffed { cut.given.worker
+        < length (get_or (lots stations.old) cut.given.node []) }
     requires held { AreCounted tally.old.items
         (items_held_by (lots stations.old) cut.given.node cut.given.worker) }
     ensures stations { lots stations.new
@@ -165,7 +170,6 @@ fn settle<T: Minimum>(
 {
     let node = cut.node();
     let worker = cut.worker();
-    tally.remove_all(&Place::Held { node }, stations.held(node, worker));
     stations.put_all(cut.into_sent());
-    stations.hold(node, worker, held);
+    stations.exchange(node, worker, tally, held);
 }

@@ -7,6 +7,11 @@
 //! as often as it lies there, and nothing else. So a question for a frontier is one call of the
 //! tally. As long as nothing moved the node's frontier, it costs the same however much waits.
 //!
+//! What workers hold are capabilities, one value for each worker and node
+//! ([`Capabilities`](progress::Capabilities)). They cannot be dropped, so a body that forgets a held time
+//! does not compile. They lie here and not with the workers: a worker that computes has no board, and
+//! only a tally can end a capability. When accounts are dropped, they give all of them back.
+//!
 //! Counts come first: what an event adds is counted before anything moves, and what it takes away is
 //! counted off last. Only counting more, and reserving room, may be refused for want of memory. An
 //! event that was refused takes back what it counted, which needs none. So every event happens whole
@@ -17,9 +22,9 @@
 //! be refused.
 //!
 //! A board makes [`Accounts::first`]. For a client it calls `put`, `advance` and `close`, for a
-//! worker `take`, and `give` or, at a view, `give_to`. Whoever wants to know how far a node has come
-//! asks `frontier`, `input_frontier`, `has_passed` or `input_has_passed`, and calls `refresh` before
-//! many such questions about one node. `stations`, `inputs` and `plan` show what lies there.
+//! worker `take`, and `give` or, at a view, `give_to`. To know how far a node has come, ask `frontier`,
+//! `input_frontier`, `has_passed` or `input_has_passed`, and call `refresh` before many such questions
+//! about one node. `stations`, `inputs` and `plan` show what lies there.
 //!
 //! The crate knows no hands, no rights and no history. The board of `machine` is built on it.
 #![tactic(auto)]

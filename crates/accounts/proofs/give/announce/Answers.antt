@@ -9,13 +9,17 @@ use Rattle.accounts.proofs.give.announce.Goals as goal
 
 pub withdraw-requires : goal.withdraw-requires
 withdraw-requires g c =
+    let cut = c.args.cut.now in
     let mid = c.count_given.new.tally.items in
-    subst (λ (all : List (List (Lot g.row.T.Denot))). AreCounted mid (items_given all c.args.cut.now.given c.args.held.now c.args.cut.now.sent)) (sym c.reserve.ensures.unchanged)
-    (just_added (items_given (lots c.args.stations.now) c.args.cut.now.given c.args.held.now c.args.cut.now.sent) c.args.tally.now.items mid c.in_ok-count_given.ensures.counted)
+    subst (λ ts. AreCounted mid (items_given (lots c.reserve.new.self) cut.given ts cut.sent)) (sym c.in_ok-next.ensures.held)
+    (subst (λ (all : List (List (Lot g.row.T.Denot))). AreCounted mid (items_given all cut.given c.args.held cut.sent)) (sym c.reserve.ensures.unchanged)
+    (just_added (items_given (lots c.args.stations.now) cut.given c.args.held cut.sent) c.args.tally.now.items mid c.in_ok-next.ensures.counted))
 
 pub returns-in-Err-clause-unchanged : goal.returns-in-Err-clause-unchanged
 returns-in-Err-clause-unchanged g c =
+    let cut = c.args.cut.now in
     let mid = c.count_given.new.tally.items in
     let new = c.withdraw.new.tally.items in
-    let removed = subst (λ (all : List (List (Lot g.row.T.Denot))). SameCounts (items_given all c.args.cut.now.given c.args.held.now c.args.cut.now.sent ++ new) mid) c.reserve.ensures.unchanged c.withdraw.ensures.counted in
-    taken_back (items_given (lots c.args.stations.now) c.args.cut.now.given c.args.held.now c.args.cut.now.sent) c.args.tally.now.items mid new c.in_ok-count_given.ensures.counted removed
+    let removed = subst (λ ts. SameCounts (items_given (lots c.args.stations.now) cut.given ts cut.sent ++ new) mid) c.in_ok-next.ensures.held
+    (subst (λ (all : List (List (Lot g.row.T.Denot))). SameCounts (items_given all cut.given c.in_ok-next.next cut.sent ++ new) mid) c.reserve.ensures.unchanged c.withdraw.ensures.counted) in
+    taken_back (items_given (lots c.args.stations.now) cut.given c.args.held cut.sent) c.args.tally.now.items mid new c.in_ok-next.ensures.counted removed

@@ -16,7 +16,7 @@ settle-requires-clause-held g c =
     let within = subst (λ (x : AccountState g.row.T.Denot). given.node < length x.stations) (sym c.self.view_is) c.requires.within in
     let staffed = subst (λ (x : AccountState g.row.T.Denot). given.worker < length (get_or x.stations given.node [])) (sym c.self.view_is) c.requires.staffed in
     subst (λ (all : List (List (Lot g.row.T.Denot))). AreCounted mid (items_held_by all given.node given.worker)) (sym c.announce.ensures.stations)
-    (held_is_counted a given c.args.held c.args.cut.sent within staffed items mid c.self.invariant c.in_default.ensures.counted)
+    (held_is_counted a given c.args.held c.args.cut.sent within staffed items mid c.self.invariant c.in-Ok.ensures.counted)
 
 pub invariant_of-self-2 : goal.invariant_of-self-2
 invariant_of-self-2 g c =
@@ -28,7 +28,8 @@ invariant_of-self-2 g c =
     let within = subst (λ (x : AccountState g.row.T.Denot). given.node < length x.stations) (sym c.self.view_is) c.requires.within in
     let staffed = subst (λ (x : AccountState g.row.T.Denot). given.worker < length (get_or x.stations given.node [])) (sym c.self.view_is) c.requires.staffed in
     let removed = subst (λ (all : List (List (Lot g.row.T.Denot))). SameCounts (items_held_by all given.node given.worker ++ new) mid) c.announce.ensures.stations c.settle.ensures.counted in
-    let moved = c.settle.ensures.stations ∙ ap (λ all. held_from given.node given.worker c.args.held (put_all c.args.cut.sent all)) c.announce.ensures.stations in
+    let moved = c.settle.ensures.stations
+    ∙ ap₂ (λ ts all. held_from given.node given.worker ts (put_all c.args.cut.sent all)) c.in-Ok.ensures.held c.announce.ensures.stations in
     subst (λ (x : AccountState g.row.T.Denot). IsCounted x new)
     (ap₂ (λ nodes stations. record { nodes = nodes; stations = stations; inputs = c.self.inside.inputs }) (sym (c.settle.ensures.nodes ∙ c.announce.ensures.nodes)) (sym moved))
-    (counted_give a given c.args.held c.args.cut.sent within staffed items mid c.self.invariant c.in_default.ensures.counted new removed)
+    (counted_give a given c.args.held c.args.cut.sent within staffed items mid c.self.invariant c.in-Ok.ensures.counted new removed)

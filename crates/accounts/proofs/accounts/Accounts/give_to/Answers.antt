@@ -8,24 +8,26 @@ use Rattle.accounts.specs.CutEmissions.{CutState}
 use Rattle.accounts.proofs.EventLemmas.{held_is_counted, counted_give, just_added, taken_back, recounted}
 use Rattle.accounts.proofs.accounts.Accounts.give_to.Goals as goal
 
-pub withdraw-requires : goal.withdraw-requires
-withdraw-requires g c =
+pub withdraw-held-requires : goal.withdraw-held-requires
+withdraw-held-requires g c =
     let mid = c.announce.new.tally.items in
-    subst (λ (x : CutState g.row.T.Denot). AreCounted mid (items_given (lots c.announce.new.stations) x.given c.args.held x.sent)) (sym c.in-Err-captured_by.ensures.unchanged)
+    subst (λ (x : CutState g.row.T.Denot). AreCounted mid (items_given (lots c.announce.new.stations) x.given c.in-Ok.next x.sent)) (sym c.in-Err-captured_by.ensures.unchanged)
+    (subst (λ ts. AreCounted mid (items_given (lots c.announce.new.stations) c.args.cut.given ts c.args.cut.sent)) (sym c.in-Ok.ensures.held)
     (subst (λ (all : List (List (Lot g.row.T.Denot))). AreCounted mid (items_given all c.args.cut.given c.args.held c.args.cut.sent)) (sym c.announce.ensures.stations)
-    (just_added (items_given (lots c.self.inside.stations) c.args.cut.given c.args.held c.args.cut.sent) c.self.inside.tally.items mid c.in_default.ensures.counted))
+    (just_added (items_given (lots c.self.inside.stations) c.args.cut.given c.args.held c.args.cut.sent) c.self.inside.tally.items mid c.in-Ok.ensures.counted)))
 
 pub invariant_of-self-in-Err-captured_by : goal.invariant_of-self-in-Err-captured_by
 invariant_of-self-in-Err-captured_by g c =
     let items = c.self.inside.tally.items in
     let mid = c.announce.new.tally.items in
-    let new = c.withdraw.new.tally.items in
+    let new = c.withdraw-held.new.tally.items in
     let a : AccountState g.row.T.Denot = record { nodes = c.self.inside.tally.nodes; stations = lots c.self.inside.stations; inputs = c.self.inside.inputs } in
-    let uncut = subst (λ (x : CutState g.row.T.Denot). SameCounts (items_given (lots c.announce.new.stations) x.given c.args.held x.sent ++ new) mid) c.in-Err-captured_by.ensures.unchanged c.withdraw.ensures.counted in
-    let removed = subst (λ (all : List (List (Lot g.row.T.Denot))). SameCounts (items_given all c.args.cut.given c.args.held c.args.cut.sent ++ new) mid) c.announce.ensures.stations uncut in
+    let uncut = subst (λ (x : CutState g.row.T.Denot). SameCounts (items_given (lots c.announce.new.stations) x.given c.in-Ok.next x.sent ++ new) mid) c.in-Err-captured_by.ensures.unchanged c.withdraw-held.ensures.counted in
+    let same = subst (λ ts. SameCounts (items_given (lots c.announce.new.stations) c.args.cut.given ts c.args.cut.sent ++ new) mid) c.in-Ok.ensures.held uncut in
+    let removed = subst (λ (all : List (List (Lot g.row.T.Denot))). SameCounts (items_given all c.args.cut.given c.args.held c.args.cut.sent ++ new) mid) c.announce.ensures.stations same in
     subst (λ (x : AccountState g.row.T.Denot). IsCounted x new)
-    (ap₂ (λ nodes stations. record { nodes = nodes; stations = stations; inputs = c.self.inside.inputs }) (sym (c.withdraw.ensures.nodes ∙ c.announce.ensures.nodes)) (sym (c.withdraw.ensures.stations ∙ c.announce.ensures.stations)))
-    (recounted a items new c.self.invariant (taken_back (items_given (lots c.self.inside.stations) c.args.cut.given c.args.held c.args.cut.sent) items mid new c.in_default.ensures.counted removed))
+    (ap₂ (λ nodes stations. record { nodes = nodes; stations = stations; inputs = c.self.inside.inputs }) (sym (c.withdraw-held.ensures.nodes ∙ c.announce.ensures.nodes)) (sym (c.withdraw-held.ensures.stations ∙ c.announce.ensures.stations)))
+    (recounted a items new c.self.invariant (taken_back (items_given (lots c.self.inside.stations) c.args.cut.given c.args.held c.args.cut.sent) items mid new c.in-Ok.ensures.counted removed))
 
 pub settle-requires-clause-held : goal.settle-requires-clause-held
 settle-requires-clause-held g c =
@@ -38,7 +40,7 @@ settle-requires-clause-held g c =
     subst (λ xs. AreCounted mid xs)
     (ap (λ (all : List (List (Lot g.row.T.Denot))). items_held_by all given.node given.worker) (sym c.announce.ensures.stations)
     ∙ ap₂ (λ n k. items_held_by (lots c.announce.new.stations) n k) (sym c.captured_by.ensures.node) (sym c.captured_by.ensures.worker))
-    (held_is_counted a given c.args.held c.args.cut.sent within staffed items mid c.self.invariant c.in_default.ensures.counted)
+    (held_is_counted a given c.args.held c.args.cut.sent within staffed items mid c.self.invariant c.in-Ok.ensures.counted)
 
 pub invariant_of-self-2 : goal.invariant_of-self-2
 invariant_of-self-2 g c =
@@ -54,8 +56,9 @@ invariant_of-self-2 g c =
     ∙ ap (λ (all : List (List (Lot g.row.T.Denot))). items_held_by all given.node given.worker) c.announce.ensures.stations in
     let removed = subst (λ xs. SameCounts (xs ++ new) mid) held c.settle.ensures.counted in
     let moved = c.settle.ensures.stations
-    ∙ (ap₂ (λ n k. held_from n k c.args.held (put_all after.sent (lots c.announce.new.stations))) c.captured_by.ensures.node c.captured_by.ensures.worker
-    ∙ ap₂ (λ bs all. held_from given.node given.worker c.args.held (put_all bs all)) c.captured_by.ensures.sent c.announce.ensures.stations) in
+    ∙ (ap₂ (λ n k. held_from n k c.in-Ok.next (put_all after.sent (lots c.announce.new.stations))) c.captured_by.ensures.node c.captured_by.ensures.worker
+    ∙ (ap (λ ts. held_from given.node given.worker ts (put_all after.sent (lots c.announce.new.stations))) c.in-Ok.ensures.held
+    ∙ ap₂ (λ bs all. held_from given.node given.worker c.args.held (put_all bs all)) c.captured_by.ensures.sent c.announce.ensures.stations)) in
     subst (λ (x : AccountState g.row.T.Denot). IsCounted x new)
     (ap₂ (λ nodes stations. record { nodes = nodes; stations = stations; inputs = c.self.inside.inputs }) (sym (c.settle.ensures.nodes ∙ c.announce.ensures.nodes)) (sym moved))
-    (counted_give a given c.args.held c.args.cut.sent within staffed items mid c.self.invariant c.in_default.ensures.counted new removed)
+    (counted_give a given c.args.held c.args.cut.sent within staffed items mid c.self.invariant c.in-Ok.ensures.counted new removed)

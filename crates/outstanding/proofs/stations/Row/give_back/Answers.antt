@@ -23,10 +23,11 @@ loop-station-preserved g c =
     let place = c.args.place.now in
     let all = items_at place (held_by_all (map lot c.args.self)) in
     let rest = c.pop.new.self.items in
-    let split = ap (λ row. items_at place (held_by_all (map lot row))) c.in-Some.ensures.items ∙ held_last place rest c.in-Some.station in
-    (last_went all (items_at place (held_by_all (map lot rest))) (items_at place c.in-Some.station.held) c.args.tally.now.items i.tally.items
-    (subst (λ left. SameCounts (all ++ i.tally.items) (left ++ c.args.tally.now.items)) split i.invariant.0) c.give_back.new.tally.items c.give_back.ensures.counted,
-    c.give_back.ensures.nodes ∙ i.invariant.1)
+    let split = ap (λ row. items_at place (held_by_all (map lot row))) c.in-Some.ensures.items ∙ held_last place rest c.in-Some.station in (
+      last_went all (items_at place (held_by_all (map lot rest))) (items_at place c.in-Some.station.held) c.args.tally.now.items i.tally.items
+          (subst (λ left. SameCounts (all ++ i.tally.items) (left ++ c.args.tally.now.items)) split i.invariant.0) c.give_back.new.tally.items c.give_back.ensures.counted,
+      c.give_back.ensures.nodes ∙ i.invariant.1,
+    )
 
 pub returns-clause-counted : goal.returns-clause-counted
 returns-clause-counted g c =

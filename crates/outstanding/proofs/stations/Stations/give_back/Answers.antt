@@ -25,10 +25,11 @@ loop-row-preserved g c =
     let all = items_held (all_held (lots c.args.self)) in
     let rest = c.pop.new.self.items in
     let last = items_at (Held c.new-node.result) (held_by_all (map lot c.in-Some.row)) in
-    let split = ap (λ rows. items_held (all_held (lots rows))) c.in-Some.ensures.items ∙ row_last rest c.in-Some.row c.new-node.result (omega arith) in
-    (last_went all (items_held (all_held (lots rest))) last c.args.tally.now.items i.tally.items
-    (subst (λ left. SameCounts (all ++ i.tally.items) (left ++ c.args.tally.now.items)) split i.invariant.0) c.give_back.new.tally.items c.give_back.ensures.counted,
-    c.give_back.ensures.nodes ∙ i.invariant.1)
+    let split = ap (λ rows. items_held (all_held (lots rows))) c.in-Some.ensures.items ∙ row_last rest c.in-Some.row c.new-node.result (omega arith) in (
+      last_went all (items_held (all_held (lots rest))) last c.args.tally.now.items i.tally.items
+          (subst (λ left. SameCounts (all ++ i.tally.items) (left ++ c.args.tally.now.items)) split i.invariant.0) c.give_back.new.tally.items c.give_back.ensures.counted,
+      c.give_back.ensures.nodes ∙ i.invariant.1,
+    )
 
 pub returns-clause-counted : goal.returns-clause-counted
 returns-clause-counted g c =
