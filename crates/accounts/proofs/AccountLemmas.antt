@@ -1,6 +1,6 @@
 -- What each event makes of the counts of what is outstanding: it adds the items that come in, and
 -- takes away those that go out.
-use Rattle.std.proofs.Common.{◌≡◌, ℕ, zero, suc, ◌+◌, ◌<◌, ◌≤◌, Bool, true, false, cond, ◌&&◌, List, [], ◌∷◌, ◌++◌, Option, Some, None, map, length, get_or, set, replicate, slice_get, get_or-set_same, get_or-set_other, sym, refl, ap, ap₂, ◌∙◌, eqb, arith}
+use Rattle.std.proofs.Common.{◌≡◌, ℕ, zero, suc, ◌+◌, ◌<◌, ◌≤◌, Bool, true, false, cond, ◌&&◌, List, [], ◌∷◌, ◌++◌, Option, Some, None, map, length, get_or, set, slice_get, get_or-set_same, get_or-set_other, sym, refl, ap, ap₂, ◌∙◌, eqb, arith}
 use Rattle.std.specs.Prelude.{nat_lt}
 use Rattle.std.specs.List.{filter, flat_map, remove}
 use Rattle.std.proofs.lemmas.Bool.{and_from, eq-eqb, ltb-true, ltb-false, false≢true}

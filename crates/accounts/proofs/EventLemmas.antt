@@ -1,8 +1,7 @@
 -- After each event the tally counts again what is outstanding. Each lemma is given how often the
 -- items were counted on the way, and that what lay there before was counted.
-use Rattle.std.proofs.Common.{◌≡◌, ℕ, ◌<◌, Bool, true, false, List, [], ◌∷◌, ◌++◌, Option, Some, inl, length, get_or, set, replicate, slice_get, sym, refl, ap, ◌∙◌, subst, arith}
+use Rattle.std.proofs.Common.{◌≡◌, ℕ, ◌<◌, Bool, true, false, List, [], ◌∷◌, ◌++◌, Some, inl, length, get_or, set, replicate, slice_get, sym, refl, ap, ◌∙◌, subst, arith}
 use Rattle.std.specs.Prelude.{Contains}
-use Rattle.std.specs.Option.{IfSome}
 use Rattle.std.proofs.lemmas.List.{length-set, length-replicate}
 use Rattle.lattice.specs.Order.{PartialOrderLaws}
 use Rattle.antichain.proofs.Lists.{contains_among}

@@ -1,20 +1,14 @@
 -- What the loops of `survey.rt` have found so far at the stations, against what a contract sees of
 -- all stations.
-use Rattle.std.proofs.Common.{◌≡◌, ℕ, zero, suc, ◌+◌, ◌<◌, ◌≤◌, Bool, true, false, ◌&&◌, List, [], ◌∷◌, ◌++◌, map, length, get_or, drop, slice_get, Option, Some, None, Result, Ok, Err, sym, refl, ap, ◌∙◌, subst, eqb, arith}
-use Rattle.std.specs.Option.{IfSome, option_map}
-use Rattle.std.specs.Result.{OnOk}
-use Rattle.std.proofs.lemmas.Option.{slice_get-map}
+use Rattle.std.proofs.Common.{◌≡◌, ℕ, zero, suc, ◌+◌, ◌<◌, ◌≤◌, Bool, true, false, ◌&&◌, List, [], ◌∷◌, ◌++◌, map, length, get_or, drop, sym, refl, ap, ◌∙◌, eqb, arith}
 use Rattle.std.specs.List.{list_all}
 use Rattle.std.proofs.lemmas.List.{at_drop_all, drop_more}
 use Rattle.std.proofs.lemmas.List.Folds.{list_all-map}
 use Rattle.outstanding.specs.declared.stations.Station.{Station}
-use Rattle.histories.specs.declared.event.Site.{Site}
-use Rattle.histories.specs.declared.event.Bundle.{Bundle}
 use Rattle.histories.specs.Histories.States.{place}
-use Rattle.outstanding.specs.Loads.{is_none, Load, Lot, no_lot, bundle_at, loads_at, lot_of, queue_of, all_bundles}
+use Rattle.outstanding.specs.Loads.{is_none, Lot, queue_of, all_bundles}
 use Rattle.outstanding.specs.Stations.{lot, lots}
 use Rattle.outstanding.proofs.LotLemmas.{none_anywhere, apart}
-use Rattle.outstanding.proofs.StationLemmas.{waits_in_row, worker_within}
 
 -- ---- loops that go over a list until they find an element that passes a test
 

@@ -1,4 +1,4 @@
-use Rattle.std.proofs.Common.{◌≡◌, ◌<◌, ◌++◌, ◌∙◌, List, [], length, get_or, sym, subst, ap, ap₂}
+use Rattle.std.proofs.Common.{◌<◌, ◌++◌, ◌∙◌, List, [], length, get_or, sym, subst, ap, ap₂}
 use Rattle.progress.specs.Several.{items_at, AreCounted}
 use Rattle.progress.specs.Tallies.{SameCounts}
 use Rattle.progress.specs.declared.place.Place.TheVariants.{Held}

@@ -1,4 +1,4 @@
-use Rattle.std.proofs.Common.{◌<◌, ◌++◌, ◌∙◌, List, [], length, get_or, sym, subst, ap, ap₂}
+use Rattle.std.proofs.Common.{◌<◌, ◌++◌, ◌∙◌, List, [], length, get_or, sym, subst, ap₂}
 use Rattle.progress.specs.Several.{AreCounted}
 use Rattle.progress.specs.Tallies.{SameCounts}
 use Rattle.outstanding.specs.Loads.{Lot, held_from, put_all}

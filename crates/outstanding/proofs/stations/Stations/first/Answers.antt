@@ -1,9 +1,8 @@
-use Rattle.std.proofs.Common.{◌≡◌, ◌++◌, [], ap, sym, subst, refl, ◌∙◌}
+use Rattle.std.proofs.Common.{◌++◌, ap, sym, subst, refl, ◌∙◌}
 use Rattle.progress.specs.Several.{AreCounted}
 use Rattle.progress.specs.Tallies.{TallyState, SameCounts}
 use Rattle.histories.specs.Histories.Outstanding.{items_held}
 use Rattle.outstanding.specs.Loads.{all_held}
-use Rattle.outstanding.specs.Stations.{lots}
 use Rattle.outstanding.proofs.GivingLemmas.{nothing_held}
 use Rattle.outstanding.proofs.stations.Stations.first.Goals as goal
 

@@ -1,6 +1,6 @@
-use Rattle.std.proofs.Common.{◌≡◌, ◌++◌, ◌+◌, [], map, length, ap, sym, subst, ◌∙◌, arith}
+use Rattle.std.proofs.Common.{◌≡◌, ◌++◌, [], map, ap, subst, ◌∙◌, arith}
 use Rattle.std.proofs.lemmas.Grind.{common_steps}
-use Rattle.progress.specs.Several.{items_at, AreCounted}
+use Rattle.progress.specs.Several.{items_at}
 use Rattle.progress.specs.Tallies.{SameCounts}
 use Rattle.progress.specs.declared.place.Place.TheVariants.{Held}
 use Rattle.histories.specs.Histories.Outstanding.{items_held}
