@@ -27,6 +27,7 @@ use Rattle.relays.specs.Relays.{HasNone, HasSome}
 use Rattle.operator_laws.proofs.GatheringLemmas.{same_after, same_gathering}
 use Rattle.relays.proofs.PassLemmas.{due_from, taken_both}
 use Rattle.operator_laws.proofs.QueueLemmas.{queue_both}
+use Rattle.shared_board.proofs.WidthLemmas.{fed_wide}
 use Rattle.relays.proofs.ReadAtLemmas.{read_on}
 use Rattle.relays.proofs.DeskLemmas.{IsRightBut, same_desk, others_after}
 
@@ -91,8 +92,7 @@ module _ {T : Type 0} (below : T → T → Bool) (p : Dataflow) (q : IsDataflow 
         within = x.input.0;
         port = refl;
         worker = omega (arith, r, single);
-        wide = and_from (eqb (length f.update.row) (width_of p.nodes (unwrap_or (slice_get (sources (node_of p f.input)) 0) f.input))) true
-            (ap (λ z. eqb (length f.update.row) (width_of p.nodes (unwrap_or z f.input))) (input_reads_none (node_of p f.input) x.input.1 0) ∙ eq-eqb (length f.update.row) (width_of p.nodes f.input) x.width) refl;
+        wide = fed_wide below p w client f x;
       })
 
   all_due : (e : Event T) → is_of_client e ≡ true → IsAllowed below p w e → list_all (is_due p n) w.in_flight ≡ true → list_all (is_due p n) (next_state below p w e).in_flight ≡ true

@@ -18,7 +18,8 @@ use Rattle.histories.specs.Histories.States.{State, place, same_place, queue}
 use Rattle.histories.specs.Histories.{without, next_state, give_state}
 use Rattle.histories.proofs.HistoryLemmas.FlowLemmas.{among_left}
 use Rattle.operator_laws.proofs.QueueLemmas.{queue_both}
-use Rattle.relays.specs.Passes.{width_at, is_due, JoinsHaveTaken, IsAtNode}
+use Rattle.shared_board.specs.Widths.{width_at}
+use Rattle.relays.specs.Passes.{is_due, JoinsHaveTaken, IsAtNode}
 
 or-false : (b : Bool) → (b || false) ≡ b
 or-false true = refl

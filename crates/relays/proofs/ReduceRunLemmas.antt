@@ -290,8 +290,8 @@ module _ {T : Type 0} (below : T → T → Bool) (joined : T → T → T) (minim
           (λ i. reduced_width ((kind_kept ∙ here.kind_is) i) ((key_kept ∙ here.key) i) ((width_kept ∙ here.width) i))
           ∙ sym (width_by_sources flow.nodes actor.dataflow.plan n ∙ ap (λ node. width_from (key_width flow.nodes (node_of flow n)) node (width_of flow.nodes)) reduce)
 
-      wide : IsTrue (are_wide (width_of flow.nodes n) out)
-      wide =
+      pub answered_wide : IsTrue (are_wide (width_of flow.nodes n) out)
+      answered_wide =
           subst (λ x. IsTrue (are_wide x out)) output_is
           (and_parts (list_all (λ u. eqb (length u.row) (output_width s)) out) (list_all (λ u. eqb (length u.row) (output_width s)) emitted) (sym (list_all-append (λ (u : Update T). eqb (length u.row) (output_width s)) out emitted) ∙ reduced_then.answered)).0
 
@@ -301,7 +301,7 @@ module _ {T : Type 0} (below : T → T → Bool) (joined : T → T → T) (minim
         answered_may = subst (λ v. IsGive below flow v made held sent) (sym turn.left) (answer_may below joined minimum o flow actor.dataflow w 0 n turn.turn kind source reduce d ready.desk r own front same_front s kind_kept key_kept width_kept out reduced_then right_then passed later out_beyond rest_beyond held is_held sent is_cut)
 
         due_then : list_all (is_due flow (suc n)) sent ≡ true
-        due_then = sent_due flow actor.dataflow ready.free.at.alone made turn.turn.worker wide sent is_cut.whole is_cut.filled
+        due_then = sent_due flow actor.dataflow ready.free.at.alone made turn.turn.worker answered_wide sent is_cut.whole is_cut.filled
 
         -- the pass goes on to the next node, if nothing waits
         pub answered_ready : HasNone n w → IsReadyAt below joined minimum flow (next_state below flow (state_left below minimum k) (Give made held sent)) (with_reduction n s d) (suc n)
@@ -316,7 +316,7 @@ module _ {T : Type 0} (below : T → T → Bool) (joined : T → T → T) (minim
         -- nothing waits at the node, and what is held there could still receive input
         pub answered_settled : HasNone n w → IsSettledTo below flow w n → IsSettledTo below flow (next_state below flow (state_left below minimum k) (Give made held sent)) (suc n)
         answered_settled none settled =
-            let far = sent_later flow actor.dataflow ready.free.at.alone made turn.turn.worker wide sent is_cut.whole is_cut.filled in
+            let far = sent_later flow actor.dataflow ready.free.at.alone made turn.turn.worker answered_wide sent is_cut.whole is_cut.filled in
             let still =
             answer_held below joined minimum o flow actor.dataflow w 0 n turn.turn kind source reduce d ready.desk r own front same_front s kind_kept key_kept width_kept out reduced_then right_then passed later out_beyond rest_beyond held is_held sent is_cut in
             subst (λ v. IsSettledTo below flow (next_state below flow v (Give made held sent)) (suc n)) (sym turn.left)

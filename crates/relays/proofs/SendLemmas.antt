@@ -23,7 +23,8 @@ use Rattle.histories.specs.Histories.States.{same_place, updates_at}
 use Rattle.histories.specs.Histories.Shares.{part, share, share_from}
 use Rattle.outstanding.proofs.PlacingLemmas.{itself}
 use Rattle.histories.proofs.HistoryLemmas.PlaceLemmas.{there_some, shared}
-use Rattle.relays.specs.Passes.{width_at, is_due}
+use Rattle.relays.specs.Passes.{is_due}
+use Rattle.shared_board.specs.Widths.{width_at, is_wide_for}
 use Rattle.relays.proofs.PassLemmas.{IsDue, due_from, lt_to}
 
 module _ {T : Type 0} where
@@ -64,7 +65,7 @@ module _ {T : Type 0} where
   some : (us : List (Update T)) → not (eqb (length us) 0) ≡ true → us ≢ []
   some us h e = false≢true (subst (λ z. not (eqb (length z) 0) ≡ true) e h)
 
-  module _ (p : Dataflow) (q : IsDataflow p) (alone : p.workers ≡ 1) (g : Emission T) (worker : g.worker < p.workers) (wide : IsTrue (are_wide (width_of p.nodes g.node) g.updates)) where
+  module _ (p : Dataflow) (g : Emission T) where
     -- if a place gets a share of the output, it reads the node
     read_there : (site : Site) → share p site g ≢ [] → source_of p site.node site.port ≡ Some g.node
     read_there site d = step (source_of p site.node site.port) refl d
@@ -103,19 +104,29 @@ module _ {T : Type 0} where
         from (Some s) = chosen (eqb g.node s) (part p (arranged_by (node_of p site.node)) g.worker site.worker g.updates) (along (arranged_by (node_of p site.node)))
 
     module _ (sent : List (Bundle T)) (whole : (other : Site) → updates_at other sent ≡ share p other g) (filled : IsTrue (list_all (λ b. not (eqb (length b.updates) 0)) sent)) where
+      -- a bundle's place reads the node
+      sent_reads : (b : Bundle T) → Among b sent → source_of p b.place.node b.place.port ≡ Some g.node
+      sent_reads b m = read_there b.place (λ e. there_some sent b m (some b.updates (all_at (λ (b : Bundle T). not (eqb (length b.updates) 0)) sent b filled m)) (whole b.place ∙ e))
+
+      -- everything that is sent has the width of the node, at each of any number of workers
+      pub sent_wide : IsTrue (are_wide (width_of p.nodes g.node) g.updates) → IsTrue (list_all (is_wide_for p) sent)
+      sent_wide wide = all_from (is_wide_for p) sent (λ b m. subst (λ x. IsTrue (are_wide (width_of p.nodes (unwrap_or x b.place.node)) b.updates)) (sym (sent_reads b m))
+          (own_part (λ u. eqb (length u.row) (width_of p.nodes g.node)) sent b m (ap (list_all (λ u. eqb (length u.row) (width_of p.nodes g.node))) (whole b.place) ∙ share_all (λ u. eqb (length u.row) (width_of p.nodes g.node)) b.place wide)))
+
+  module _ (p : Dataflow) (q : IsDataflow p) (alone : p.workers ≡ 1) (g : Emission T) (worker : g.worker < p.workers) (wide : IsTrue (are_wide (width_of p.nodes g.node) g.updates)) where
+    module _ (sent : List (Bundle T)) (whole : (other : Site) → updates_at other sent ≡ share p other g) (filled : IsTrue (list_all (λ b. not (eqb (length b.updates) 0)) sent)) where
       one_sent : (b : Bundle T) → Among b sent → IsDue p (suc g.node) b
       one_sent b m =
           let full = some b.updates (all_at (λ (b : Bundle T). not (eqb (length b.updates) 0)) sent b filled m) in
           let there : share p b.place g ≢ [] = λ e. there_some sent b m full (whole b.place ∙ e) in
-          let source = read_there b.place there in
+          let source = read_there p g b.place there in
           let s = shared p q b.place g worker there in
           record {
             later = inl (source_smaller p.nodes q.plan b.place.node b.place.port g.node source);
             within = s.node;
             port = port_from (length (sources (node_of p b.place.node))) s.port;
             worker = let l = s.worker in omega (arith, l, alone);
-            wide = subst (λ x. IsTrue (are_wide (width_of p.nodes (unwrap_or x b.place.node)) b.updates)) (sym source)
-                (own_part (λ u. eqb (length u.row) (width_of p.nodes g.node)) sent b m (ap (list_all (λ u. eqb (length u.row) (width_of p.nodes g.node))) (whole b.place) ∙ share_all (λ u. eqb (length u.row) (width_of p.nodes g.node)) b.place wide));
+            wide = all_at (is_wide_for p) sent b (sent_wide p g sent whole filled wide) m;
           }
         where
           port_from : (ports : ℕ) → (b.place.port ≡ 0) ⊎ (b.place.port < ports) → (eqb b.place.port 0 || nat_lt b.place.port ports) ≡ true
@@ -133,6 +144,4 @@ module _ {T : Type 0} where
       -- everything that is sent goes to a later node
       pub sent_later : (b : Bundle T) → Among b sent → g.node < b.place.node
       sent_later b m =
-          let full = some b.updates (all_at (λ (b : Bundle T). not (eqb (length b.updates) 0)) sent b filled m) in
-          let there : share p b.place g ≢ [] = λ e. there_some sent b m full (whole b.place ∙ e) in
-          source_smaller p.nodes q.plan b.place.node b.place.port g.node (read_there b.place there)
+          source_smaller p.nodes q.plan b.place.node b.place.port g.node (sent_reads p g sent whole filled b m)

@@ -11,7 +11,9 @@ use Rattle.update.proofs.ConsolidatedLemmas.{summed_size, summed_size_is}
 use Rattle.batch.specs.Descriptions.{BatchState}
 use Rattle.batch.specs.Intervals.{passed_updates, open_updates, all_between, is_interval_of}
 use Rattle.join.proofs.LargeLemmas.{large_size}
+use Rattle.linear.specs.Widths.{are_wide}
 use Rattle.plan.specs.Nodes.{is_join}
+use Rattle.plan.specs.Widths.{width_of}
 use Rattle.plan.specs.declared.node.Node.TheVariants.{Arrange}
 use Rattle.trace.specs.Readings.{Insertion}
 use Rattle.spine.specs.Spines.{Stands as SpineStands}
@@ -90,6 +92,10 @@ module _ {T : Type 0} (below : T → T → Bool) (joined : T → T → T) (minim
     abbrev sent : List (Bundle T)
     sent = cut below p emission
 
+    -- the rows have the width of the node
+    pub sealed_wide : IsTrue (rows_have a.width out) → IsTrue (are_wide (width_of p.nodes n) out)
+    sealed_wide rows = subst (λ m. IsTrue (rows_have m out)) (held_back below joined minimum o p actor.dataflow w 0 n turn.turn source key arrange d ready.desk a own).width rows
+
     -- the worker may give it
     pub sealed_may : IsCut below p emission sent → IsGive below p (state_left below minimum k) emission held sent
     sealed_may is_cut = subst (λ v. IsGive below p v emission held sent) (sym turn.left) (settle_may below joined minimum o p actor.dataflow w 0 n turn.turn source key arrange d ready.desk a own upper same total out sealed held is_held sent is_cut)
@@ -97,8 +103,7 @@ module _ {T : Type 0} (below : T → T → Bool) (joined : T → T → T) (minim
     -- nothing waits at the node, and what is held there could still receive input
     pub given_settled : IsCut below p emission sent → IsTrue (rows_have a.width out) → HasNone n w → IsSettledTo below p w n → IsSettledTo below p (next_state below p (state_left below minimum k) (Give emission held sent)) (suc n)
     given_settled is_cut rows none settled =
-        let wide = subst (λ m. IsTrue (rows_have m out)) (held_back below joined minimum o p actor.dataflow w 0 n turn.turn source key arrange d ready.desk a own).width rows in
-        let far = sent_later p actor.dataflow ready.free.at.alone emission turn.turn.worker wide sent is_cut.whole is_cut.filled in
+        let far = sent_later p actor.dataflow ready.free.at.alone emission turn.turn.worker (sealed_wide rows) sent is_cut.whole is_cut.filled in
         let later = settle_held below joined minimum o p actor.dataflow w 0 n turn.turn source key arrange d ready.desk a own upper same total out sealed held is_held sent is_cut in
         subst (λ v. IsSettledTo below p (next_state below p v (Give emission held sent)) (suc n)) (sym turn.left)
         (settled_passed below p actor.dataflow turned n (settled_turned below p actor.dataflow w n settled 0 n) emission held sent refl far none
@@ -131,8 +136,7 @@ module _ {T : Type 0} (below : T → T → Bool) (joined : T → T → T) (minim
       -- the pass goes on to the next node
       pub given_ready : IsReadyAt below joined minimum p (next_state below p (state_left below minimum k) (Give emission held sent)) (with_arrangement n r d) (suc n)
       given_ready =
-          let wide = subst (λ m. IsTrue (rows_have m out)) (held_back below joined minimum o p actor.dataflow w 0 n turn.turn source key arrange d ready.desk a own).width rows in
-          let due = sent_due p actor.dataflow ready.free.at.alone emission turn.turn.worker wide sent is_cut.whole is_cut.filled in
+          let due = sent_due p actor.dataflow ready.free.at.alone emission turn.turn.worker (sealed_wide rows) sent is_cut.whole is_cut.filled in
           subst (λ v. IsReadyAt below joined minimum p (next_state below p v (Give emission held sent)) (with_arrangement n r d) (suc n)) (sym turn.left) (record {
             free = record {
               at = at_passed below p turned n emission held sent refl due (taken_next below p actor.dataflow emission sent is_cut) (none_there p n w none ready.free.at.due) (at_turned below p w n ready.free.at 0 n);

@@ -1,25 +1,19 @@
 -- One pass of a worker over the nodes, in the order of their numbers: how far it has come. There is
 -- one worker.
-use Rattle.std.specs.Prelude.{◌≡◌, ℕ, ◌≤◌, Bool, ◌&&◌, ◌||◌, eqb, nat_le, nat_lt, List, [], length, None, Some, unwrap_or, IsTrue}
+use Rattle.std.specs.Prelude.{◌≡◌, ℕ, ◌≤◌, Bool, ◌&&◌, ◌||◌, eqb, nat_le, nat_lt, List, [], length, None, Some, IsTrue}
 use Rattle.std.specs.List.{list_all}
 use Rattle.plan.specs.Nodes.{is_input, is_join}
-use Rattle.plan.specs.Widths.{width_of}
 use Rattle.linear.specs.Ports.{is_port}
-use Rattle.linear.specs.Widths.{are_wide}
-use Rattle.histories.specs.declared.event.Site.{Site}
 use Rattle.histories.specs.declared.event.Bundle.{Bundle}
 use Rattle.histories.specs.Histories.Dataflows.{Dataflow, node_of, source_of}
 use Rattle.histories.specs.Histories.States.{State, place, queue}
-
--- the width of the rows that arrive at a place: that of the node read there, or the input's own
-abbrev pub width_at : Dataflow → Site → ℕ
-width_at p site = width_of p.nodes (unwrap_or (source_of p site.node site.port) site.node)
+use Rattle.shared_board.specs.Widths.{is_wide_for}
 
 -- the bundle waits for worker 0 at a port, and its rows have the width of the node read there. It
 -- waits at node n or at a later one, or it is a change that was fed to an input
 abbrev pub is_due : {T : Type 0} → Dataflow → ℕ → Bundle T → Bool
 is_due p n b = ((nat_le n b.place.node || is_input (node_of p b.place.node)) && nat_lt b.place.node (length p.nodes))
-    && ((is_port (node_of p b.place.node) b.place.port && eqb b.place.worker 0) && are_wide (width_at p b.place) b.updates)
+    && ((is_port (node_of p b.place.node) b.place.port && eqb b.place.worker 0) && is_wide_for p b)
 
 -- at no port of a join that reads node n or a later node does a bundle wait: the joins have taken
 -- all that these nodes gave

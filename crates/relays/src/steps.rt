@@ -5,10 +5,12 @@
 //! clients led from the one that the worker left (`DoClientsLead`). A give commutes with what
 //! clients did before it (`IsLeftBy`). What a worker keeps is right in all these states alike, so
 //! its computing knows nothing of entries and tenures.
-ghost use Rattle.std.specs.Prelude.{◌≡◌, ◌<◌, [], false, None, IfErr, IfOk, IfSome, OnOk, OnErr, length};
+ghost use Rattle.std.specs.Prelude.{◌≡◌, ◌<◌, [], false, None, IfErr, IfOk, IfSome, IsTrue, OnOk, OnErr, length};
 ghost use Rattle.std.specs.List.{list_any};
 ghost use Rattle.update.specs.declared.refusal.Refusal.TheVariants.{OutOfMemory};
+ghost use Rattle.linear.specs.Widths.{are_wide};
 ghost use Rattle.plan.specs.Changes.{has_passed};
+ghost use Rattle.plan.specs.Widths.{width_of};
 ghost use Rattle.histories.specs.declared.event.Event.TheVariants.{Give};
 ghost use Rattle.histories.specs.Histories.Cuts.{cut};
 ghost use Rattle.histories.specs.Histories.Outstanding.{input_frontier};
@@ -95,7 +97,8 @@ pub(crate) fn turn_at<T: Minimum, P: BoardProtocol<T>, R: Wait>(
 }
 
 /// Cuts what the worker computed into bundles and gives it. The worker holds these times at the
-/// node from then on. The give must be allowed in the state that the worker left. Refused only with
+/// node from then on. The rows must have the width of the node, and the give must be allowed in the
+/// state that the worker left. Refused only with
 /// `OutOfMemory`.
 pub(crate) fn give_on<T: Minimum, P: BoardProtocol<T>, R: Wait>(
     alloc: Global,
@@ -110,6 +113,8 @@ pub(crate) fn give_on<T: Minimum, P: BoardProtocol<T>, R: Wait>(
     requires alone { (dataflow_of worker.old).workers ≡ 1 }
     requires own { emission.worker ≡ 0 }
     requires within { emission.node < length (dataflow_of worker.old).nodes }
+    requires wide { IsTrue (are_wide (width_of (dataflow_of worker.old).nodes emission.node)
+        emission.updates) }
     requires allowed { IsCut T.below (dataflow_of worker.old) emission
         (cut T.below (dataflow_of worker.old) emission)
         → IsGive T.below (dataflow_of worker.old) (state_left T.below T.least worker.old) emission

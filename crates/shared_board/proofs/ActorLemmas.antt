@@ -23,6 +23,7 @@ use Rattle.histories.specs.declared.event.Bundle.{Bundle}
 use Rattle.histories.specs.declared.event.Emission.{Emission}
 use Rattle.shared_board.proofs.ApartLemmas.{give_apart}
 use Rattle.shared_board.specs.declared.event.Doing.{Doing}
+use Rattle.shared_board.specs.Widths.{HasWidths}
 use Rattle.shared_board.specs.Tenures.{WaitsOrNot, WaitsOrNotIn, Terms, SharedState, events, terms_of_board, doing, is_change, AreOn, left_by, StandsFor, terms_in, AreKnown, found_last, state_found, state_left, Adds, IsActor, IsFirst}
 
 pub is_some_at : {A : Type 0} (o : Option A) (P : A → Type 0) → IsSomeAnd o P → (x : A) → o ≡ Some x → P x
@@ -159,6 +160,7 @@ module _ {T : Type 0} where
             known = subst (λ (x : Terms). AreOn x (entry k.number (doing (terms_in k.seen) event) ∷ found)) all here.on;
             dataflow = subst (λ (x : Terms). IsDataflow x.dataflow) all here.dataflow;
             legal = subst (λ (x : Terms). IsLegal below minimum x.dataflow (event ∷ events found)) all here.stands.legal;
+            wide = subst (λ (x : Terms). HasWidths x.dataflow (left_by below minimum x.dataflow (entry k.number (doing (terms_in k.seen) event) ∷ found))) all here.wide;
             actor = t.actor.actor;
           };
           counted = λ j f. ap (λ (x : Terms). length (left_by below minimum x.dataflow (entry k.number (doing (terms_in k.seen) event) ∷ found)).fed) (sym all) ∙ here.counted j f;
@@ -234,6 +236,7 @@ module _ {T : Type 0} (below : T → T → Bool) (minimum : T) (cmp : T → T �
           known = subst (λ (x : Terms). AreOn x (entry own (doing t (Look own)) ∷ found)) all stood.on;
           dataflow = subst (λ (x : Terms). IsDataflow x.dataflow) all stood.dataflow;
           legal = subst (λ (x : Terms). IsLegal below minimum x.dataflow (Look own ∷ events found)) all stood.stands.legal;
+          wide = subst (λ (x : Terms). HasWidths x.dataflow (left_by below minimum x.dataflow (entry own (doing t (Look own)) ∷ found))) all stood.wide;
           actor = there;
         };
         counted = λ j f. ap (λ (x : Terms). length (left_by below minimum x.dataflow (entry own (doing t (Look own)) ∷ found)).fed) (sym all) ∙ stood.counted j f;

@@ -1,3 +1,4 @@
+pub mod WidthLemmas
 pub mod SharedLemmas
 pub mod SharedReadingLemmas
 pub mod ActorLemmas

@@ -15,13 +15,15 @@ use Rattle.histories.specs.declared.event.Emission.{Emission}
 use Rattle.histories.specs.declared.event.Fed.{Fed}
 use Rattle.histories.specs.Histories.Dataflows.{Dataflow, IsDataflow}
 use Rattle.histories.specs.Histories.States.{fed_to}
-use Rattle.histories.specs.Histories.{actor_of, next_state}
+use Rattle.histories.specs.Histories.{actor_of, next_state, IsAllowed}
 use Rattle.histories.specs.Histories.Promises.{changes_in}
 use Rattle.outstanding.specs.Inputs.{feed_faults, advance_faults}
 use Rattle.machine.specs.Boards as boards
 use Rattle.machine.specs.Boards.{BoardState, Stands, after_look, after_feed, after_advance, after_allow, after_take, after_turn, after_give}
 use Rattle.shared_board.specs.declared.event.Doing.{Doing}
 use Rattle.shared_board.specs.Large.{HasNoSmallBound}
+use Rattle.shared_board.specs.Widths.{are_wide_for, HasWidths, IsSentWide}
+use Rattle.shared_board.proofs.WidthLemmas.{widths_after}
 use Rattle.shared_board.specs.Tenures.{Terms, SharedState, events, terms_of_board, doing, is_change, AreOn, left_by, StandsFor, feed_refusal_in, advance_refusal_in, allow_refusal_in}
 
 true_among : (a b : Bool) → (a || b) ≡ true → (a ≡ true) ⊎ (b ≡ true)
@@ -35,6 +37,7 @@ module _ {T : Type 0} (below : T → T → Bool) (minimum : T) (cmp : T → T �
     pub own : actor_of event ≡ actor
     pub there : IsTrue (is_change event) → actor < b.actors
     pub stands : Stands below minimum n.board (event ∷ events es)
+    pub sent : IsSentWide b.board.dataflow event
     pub counted : (k : ℕ) → n.accepted ≡ Some k → length (next_state below b.board.dataflow (left_by below minimum b.board.dataflow es) event).fed ≡ k
     pub large : IsTrue n.too_large → HasNoSmallBound below cmp b.board.dataflow.nodes (changes_in (next_state below b.board.dataflow (left_by below minimum b.board.dataflow es) event))
 
@@ -44,21 +47,25 @@ module _ {T : Type 0} (below : T → T → Bool) (minimum : T) (cmp : T → T �
     dataflow = subst (λ (t : Terms). IsDataflow t.dataflow) (sym next.terms) old.dataflow;
     stands = next.stands;
     on = (record { terms = sym next.terms; own = next.own; actor = λ e. subst (λ (t : Terms). actor < t.actors) (sym next.terms) (next.there e) }, subst (λ (t : Terms). AreOn t es) (sym next.terms) old.on);
+    wide = subst (λ (t : Terms). HasWidths t.dataflow (left_by below minimum t.dataflow (entry actor (doing (terms_of_board b) event) ∷ es))) (sym next.terms)
+        (widths_after below b.board.dataflow (left_by below minimum b.board.dataflow es) event old.wide
+        (subst (λ (t : Terms). IsAllowed below t.dataflow (left_by below minimum t.dataflow es) event) next.terms next.stands.legal.0) next.sent);
     counted = λ k e. ap (λ (t : Terms). length (left_by below minimum t.dataflow (entry actor (doing (terms_of_board b) event) ∷ es)).fed) next.terms ∙ next.counted k e;
     large = λ e. subst (λ (t : Terms). HasNoSmallBound below cmp t.dataflow.nodes (changes_in (left_by below minimum t.dataflow (entry actor (doing (terms_of_board b) event) ∷ es)))) (sym next.terms) (next.large e);
   }
 
   -- an event that feeds nothing
   pub one_more_but_fed : (b n : SharedState T) (actor : ℕ) (event : Event T) (es : List (Entry (Doing T))) → StandsFor below minimum cmp b es
-      → terms_of_board n ≡ terms_of_board b → actor_of event ≡ actor → (IsTrue (is_change event) → actor < b.actors) → Stands below minimum n.board (event ∷ events es)
+      → terms_of_board n ≡ terms_of_board b → actor_of event ≡ actor → (IsTrue (is_change event) → actor < b.actors) → Stands below minimum n.board (event ∷ events es) → IsSentWide b.board.dataflow event
       → (next_state below b.board.dataflow (left_by below minimum b.board.dataflow es) event).fed ≡ (left_by below minimum b.board.dataflow es).fed
       → n.accepted ≡ b.accepted → n.too_large ≡ b.too_large
       → StandsFor below minimum cmp n (entry actor (doing (terms_of_board b) event) ∷ es)
-  one_more_but_fed b n actor event es old terms own there stands same counts large = one_more b n actor event es old (record {
+  one_more_but_fed b n actor event es old terms own there stands sent same counts large = one_more b n actor event es old (record {
     terms = terms;
     own = own;
     there = there;
     stands = stands;
+    sent = sent;
     counted = λ k e. ap length same ∙ old.counted k (sym counts ∙ e);
     large = λ e. subst (λ (fs : List (Fed T)). HasNoSmallBound below cmp b.board.dataflow.nodes (λ i. fed_to i fs)) (sym same) (old.large (subst IsTrue large e));
   })
@@ -75,7 +82,7 @@ module _ {T : Type 0} (below : T → T → Bool) (minimum : T) (cmp : T → T �
 
   pub looked : (b : SharedState T) (c : BoardState T) (actor : ℕ) → c ≡ after_look actor b.board → GoesOn b c actor
   looked b c actor is = subst (λ (d : BoardState T). GoesOn b d actor) (sym is)
-      (λ extends es a. one_more_but_fed b (record b { board = after_look actor b.board }) actor (Look actor) es a refl refl (λ e. absurd (false≢true e)) (extends (events es) a.stands) refl refl refl)
+      (λ extends es a. one_more_but_fed b (record b { board = after_look actor b.board }) actor (Look actor) es a refl refl (λ e. absurd (false≢true e)) (extends (events es) a.stands) tt refl refl refl)
 
   -- a question that changes nothing, and then a look
   pub asked : (b : SharedState T) (m c : BoardState T) (actor : ℕ) → m ≡ b.board → c ≡ after_look actor m → Extends m c
@@ -84,19 +91,19 @@ module _ {T : Type 0} (below : T → T → Bool) (minimum : T) (cmp : T → T �
 
   pub closed : (b : SharedState T) (c : BoardState T) (client i : ℕ) → client < b.actors → c ≡ after_advance client i [] b.board → GoesOn b c client
   closed b c client i there is = subst (λ (d : BoardState T). GoesOn b d client) (sym is)
-      (λ extends es a. one_more_but_fed b (record b { board = after_advance client i [] b.board }) client (Advance client i []) es a refl refl (λ _. there) (extends (events es) a.stands) refl refl refl)
+      (λ extends es a. one_more_but_fed b (record b { board = after_advance client i [] b.board }) client (Advance client i []) es a refl refl (λ _. there) (extends (events es) a.stands) tt refl refl refl)
 
   pub advanced : (b : SharedState T) (c : BoardState T) (client i : ℕ) (ts : List T) (r : Result (Unit {0}) Refusal) → client < b.actors
       → OnOk r (c ≡ after_advance client i ts b.board) → OnErr r (c ≡ after_look client b.board) → GoesOn b c client
   advanced b c client i ts (Err refusal) there done looks = looked b c client looks
   advanced b c client i ts (Ok x) there done looks = subst (λ (d : BoardState T). GoesOn b d client) (sym done)
-      (λ extends es a. one_more_but_fed b (record b { board = after_advance client i ts b.board }) client (Advance client i ts) es a refl refl (λ _. there) (extends (events es) a.stands) refl refl refl)
+      (λ extends es a. one_more_but_fed b (record b { board = after_advance client i ts b.board }) client (Advance client i ts) es a refl refl (λ _. there) (extends (events es) a.stands) tt refl refl refl)
 
   pub allowed : (b : SharedState T) (c : BoardState T) (client v : ℕ) (ts : List T) (r : Result (Unit {0}) Refusal) → client < b.actors
       → OnOk r (c ≡ after_allow client v ts b.board) → OnErr r (c ≡ after_look client b.board) → GoesOn b c client
   allowed b c client v ts (Err refusal) there done looks = looked b c client looks
   allowed b c client v ts (Ok x) there done looks = subst (λ (d : BoardState T). GoesOn b d client) (sym done)
-      (λ extends es a. one_more_but_fed b (record b { board = after_allow client v ts b.board }) client (Allow client v ts) es a refl refl (λ _. there) (extends (events es) a.stands) refl refl refl)
+      (λ extends es a. one_more_but_fed b (record b { board = after_allow client v ts b.board }) client (Allow client v ts) es a refl refl (λ _. there) (extends (events es) a.stands) tt refl refl refl)
 
   -- after a change that was counted, the entry of the board's last event is right
   abbrev pub Counts : SharedState T → BoardState T → ℕ → Option ℕ → Type 0
@@ -111,6 +118,7 @@ module _ {T : Type 0} (below : T → T → Bool) (minimum : T) (cmp : T → T �
         own = refl;
         there = λ _. there;
         stands = extends (events es) a.stands;
+        sent = tt;
         counted = λ k e. let m = one k e in let before = a.counted m.0 m.1 in let after = m.2 in omega (arith, before, after);
         large = λ e. absurd (false≢true e);
       }))
@@ -119,12 +127,12 @@ module _ {T : Type 0} (below : T → T → Bool) (minimum : T) (cmp : T → T �
 
   pub taken : (b : SharedState T) (c : BoardState T) (worker number : ℕ) (bundle : Bundle T) → bundle.place.worker ≡ worker → c ≡ after_take number bundle b.board → GoesOn b c worker
   taken b c worker number bundle own is = subst (λ (d : BoardState T). GoesOn b d worker) (sym is)
-      (λ extends es a. one_more_but_fed b (record b { board = after_take number bundle b.board }) worker (Take number bundle) es a refl own (λ e. absurd (false≢true e)) (extends (events es) a.stands) refl refl refl)
+      (λ extends es a. one_more_but_fed b (record b { board = after_take number bundle b.board }) worker (Take number bundle) es a refl own (λ e. absurd (false≢true e)) (extends (events es) a.stands) tt refl refl refl)
 
   pub turned : (b : SharedState T) (m c : BoardState T) (worker node : ℕ) → m ≡ b.board → c ≡ after_turn worker node m → Extends m c
       → (es : List (Entry (Doing T))) → StandsFor below minimum cmp b es → StandsFor below minimum cmp (record b { board = c }) (entry worker (doing (terms_of_board b) c.last) ∷ es)
   turned b m c worker node kept is extends = subst (λ (d : BoardState T). GoesOn b d worker) (sym (is ∙ ap (after_turn worker node) kept))
-      (λ extends es a. one_more_but_fed b (record b { board = after_turn worker node b.board }) worker (TakeHeld worker node) es a refl refl (λ e. absurd (false≢true e)) (extends (events es) a.stands) refl refl refl)
+      (λ extends es a. one_more_but_fed b (record b { board = after_turn worker node b.board }) worker (TakeHeld worker node) es a refl refl (λ e. absurd (false≢true e)) (extends (events es) a.stands) tt refl refl refl)
       (subst (λ (d : BoardState T). Extends d c) kept extends)
 
   -- the board goes on if the give is allowed
@@ -132,11 +140,11 @@ module _ {T : Type 0} (below : T → T → Bool) (minimum : T) (cmp : T → T �
   Gives b c worker = (es : List (Entry (Doing T))) → StandsFor below minimum cmp b es → Stands below minimum c (c.last ∷ events es) → StandsFor below minimum cmp (record b { board = c }) (entry worker (doing (terms_of_board b) c.last) ∷ es)
 
   pub gave : {X : Type 0} (b : SharedState T) (c : BoardState T) (g : Emission T) (held : List T) (sent : List (Bundle T)) (r : Result (Unit {0}) X)
-      → OnOk r (c ≡ after_give g held sent b.board) → OnErr r (c ≡ after_look g.worker b.board) → Gives b c g.worker
-  gave b c g held sent (Err refusal) done looks = subst (λ (d : BoardState T). Gives b d g.worker) (sym looks)
-      (λ es a stands. one_more_but_fed b (record b { board = after_look g.worker b.board }) g.worker (Look g.worker) es a refl refl (λ e. absurd (false≢true e)) stands refl refl refl)
-  gave b c g held sent (Ok x) done looks = subst (λ (d : BoardState T). Gives b d g.worker) (sym done)
-      (λ es a stands. one_more_but_fed b (record b { board = after_give g held sent b.board }) g.worker (Give g held sent) es a refl refl (λ e. absurd (false≢true e)) stands refl refl refl)
+      → IsTrue (are_wide_for b.board.dataflow sent) → OnOk r (c ≡ after_give g held sent b.board) → OnErr r (c ≡ after_look g.worker b.board) → Gives b c g.worker
+  gave b c g held sent (Err refusal) wide done looks = subst (λ (d : BoardState T). Gives b d g.worker) (sym looks)
+      (λ es a stands. one_more_but_fed b (record b { board = after_look g.worker b.board }) g.worker (Look g.worker) es a refl refl (λ e. absurd (false≢true e)) stands tt refl refl refl)
+  gave b c g held sent (Ok x) wide done looks = subst (λ (d : BoardState T). Gives b d g.worker) (sym done)
+      (λ es a stands. one_more_but_fed b (record b { board = after_give g held sent b.board }) g.worker (Give g held sent) es a refl refl (λ e. absurd (false≢true e)) stands wide refl refl refl)
 
   -- ---- a number that is too large
 
@@ -180,6 +188,7 @@ module _ {T : Type 0} (below : T → T → Bool) (minimum : T) (cmp : T → T �
         own = refl;
         there = λ e. absurd (false≢true e);
         stands = extends (events es) a.stands;
+        sent = tt;
         counted = a.counted;
         large = λ e. ⊎_elim a.large (λ s.
             let n = both s in

@@ -30,6 +30,7 @@ use Rattle.machine.specs.Boards.{BoardState, Stands}
 use Rattle.outstanding.specs.Loads.{Lot, queue_of}
 use Rattle.shared_board.specs.declared.event.Doing.{Doing}
 use Rattle.shared_board.specs.Large.{HasNoSmallBound}
+use Rattle.shared_board.specs.Widths.{HasWidths}
 
 -- how a board was opened: its dataflow, and how many actors share it. Workers are numbered from 0,
 -- and clients follow
@@ -102,11 +103,12 @@ module _ {T : Type 0} where
     left_by p es = state_after below minimum p (events es)
 
     -- which entries a board may stand for: it stands for their events, each was on the board's
-    -- terms, and what the actors tell one another is right
+    -- terms, the rows on the board have their widths, and what the actors tell one another is right
     pub record StandsFor (cmp : T → T → Ordering) (b : SharedState T) (es : List (Entry (Doing T))) : Type 0 where
       pub dataflow : IsDataflow b.board.dataflow
       pub stands : Stands below minimum b.board (events es)
       pub on : AreOn (terms_of_board b) es
+      pub wide : HasWidths b.board.dataflow (left_by b.board.dataflow es)
       pub counted : (n : ℕ) → b.accepted ≡ Some n → length (left_by b.board.dataflow es).fed ≡ n
       pub large : IsTrue b.too_large → HasNoSmallBound below cmp b.board.dataflow.nodes (changes_in (left_by b.board.dataflow es))
 
@@ -187,11 +189,12 @@ module _ {T : Type 0} where
     state_left k = left_by below minimum (terms_in k.seen).dataflow k.seen
 
     -- what an actor knows is right: the entries that it has seen are on the board's terms, and they
-    -- are a legal history of a dataflow, and it is one of the actors
+    -- are a legal history of a dataflow, whose rows have their widths, and it is one of the actors
     pub record IsActor (k : Known (Doing T)) : Type 0 where
       pub known : AreKnown k.seen
       pub dataflow : IsDataflow (terms_in k.seen).dataflow
       pub legal : IsLegal below minimum (terms_in k.seen).dataflow (events k.seen)
+      pub wide : HasWidths (terms_in k.seen).dataflow (state_left k)
       pub actor : k.number < (terms_in k.seen).actors
 
 -- whether a bundle waits for a worker at a node: if so then at some port, and if not then at none.

@@ -22,6 +22,7 @@ ghost use Rattle.histories.specs.Histories.States.{change_to, held_at, place, qu
 ghost use Rattle.shared_board.specs.Found.{AreDifferencesFound, IsChangesRefusalFound, IsReadRefusalFound, WasQuiet, WasTooLarge, changes_refusal_found, feed_refusal_found, frontier_found, input_frontier_found, query_found, read_refusal_found};
 ghost use Rattle.shared_board.specs.Large.{HasNoSmallBound};
 ghost use Rattle.shared_board.specs.Tenures.{Adds, IsActor, IsFirst, WaitsOrNotIn, terms_for, terms_in, state_found, state_left, advance_refusal_in, allow_refusal_in};
+ghost use Rattle.shared_board.specs.Widths.{are_wide_for};
 
 use crate::event::Doing;
 use crate::protocol::BoardProtocol;
@@ -370,7 +371,7 @@ impl<T: Minimum, P: BoardProtocol<T>> Actor<T, P> {
 
     /// A worker gives what it computed at the node that it has in hand. The give must be allowed in
     /// the state that the worker left last; then it is allowed whatever others have done meanwhile.
-    /// Refused only with `OutOfMemory`; then all arguments come back, and the event is a look.
+    /// The rows of each bundle must have the width of the node that its place reads. Refused only with `OutOfMemory`; then all arguments come back, and the event is a look.
     pub fn give<R: Wait>(
         &mut self,
         rt: &R,
@@ -382,6 +383,7 @@ impl<T: Minimum, P: BoardProtocol<T>> Actor<T, P> {
         requires within { cut.given.node < length (terms_in self.old.seen).dataflow.nodes }
         requires allowed { IsGive T.below (terms_in self.old.seen).dataflow
             (state_left T.below T.least self.old) cut.given held cut.sent }
+        requires wide { IsTrue (are_wide_for (terms_in self.old.seen).dataflow cut.sent) }
         ensures given { OnOk result (Adds self.old (Give cut.given held cut.sent) self.new) }
         ensures returned { IfErr result (λ r. Adds self.old (Look self.old.number) self.new
             × (r ≡ record { cut = cut; held = held })) }

@@ -28,6 +28,7 @@ ghost use Rattle.histories.specs.Histories.States.{change_to, held_at, place, qu
 ghost use Rattle.shared_board.specs.declared.event.Doing.{Doing};
 ghost use Rattle.shared_board.specs.Large.{HasNoSmallBound};
 ghost use Rattle.shared_board.specs.Tenures.{IsKeptBeside, StandsFor, WaitsOrNot, doing, left_by, terms_for, terms_of_board, feed_refusal_in, advance_refusal_in, allow_refusal_in, read_refusal_in, changes_refusal_in, IsReadRefusalIn, IsChangesRefusalIn};
+ghost use Rattle.shared_board.specs.Widths.{are_wide_for};
 
 use antichain::Antichain;
 use lattice::Minimum;
@@ -415,11 +416,13 @@ impl<T: Minimum> SharedBoard<T> {
         }
     }
 
-    /// A worker gives what it computed at the node that it has in hand. Refused as [`Board::give`]
-    /// says; then the event is a look.
+    /// A worker gives what it computed at the node that it has in hand. The rows of each bundle must
+    /// have the width of the node that its place reads. Refused as [`Board::give`] says; then the
+    /// event is a look.
     pub fn give(&mut self, cut: CutEmission<T>, held: Times<T>) -> Result<(), Ungiven<T>>
         requires worker { cut.given.worker < self.old.board.dataflow.workers }
         requires within { cut.given.node < length self.old.board.dataflow.nodes }
+        requires wide { IsTrue (are_wide_for self.old.board.dataflow cut.sent) }
         ensures terms { terms_of_board self.new ≡ terms_of_board self.old }
         ensures beside { IsKeptBeside self.old self.new }
         ensures given { OnOk result (self.new.board.last ≡ Give cut.given held cut.sent) }

@@ -1,16 +1,19 @@
 //! What actors that share a board need not mind of one another. The functions do nothing.
-ghost use Rattle.std.specs.Prelude.{◌≡◌, ℕ, suc, List, ◌++◌};
+ghost use Rattle.std.specs.Prelude.{◌≡◌, ℕ, suc, List, ◌++◌, IsTrue};
 ghost use Rattle.hub.specs.declared.view.Entry.{Entry};
 ghost use Rattle.hub.specs.Histories.{NoneBy};
+ghost use Rattle.hub.specs.Known.{Known};
 ghost use Rattle.histories.specs.declared.event.Bundle.{Bundle};
 ghost use Rattle.histories.specs.declared.event.Emission.{Emission};
+ghost use Rattle.histories.specs.declared.event.Event.TheVariants.{Take};
 ghost use Rattle.histories.specs.Histories.Actors.{IsSameOfWorker, IsSameOfClients};
 ghost use Rattle.histories.specs.Histories.Dataflows.{Dataflow};
 ghost use Rattle.histories.specs.Histories.Readings.{IsQuiet};
 ghost use Rattle.histories.specs.Histories.States.{State};
 ghost use Rattle.histories.specs.Histories.{IsGive, IsLegal};
 ghost use Rattle.shared_board.specs.declared.event.Doing.{Doing};
-ghost use Rattle.shared_board.specs.Tenures.{AreOn, Terms, events, left_by};
+ghost use Rattle.shared_board.specs.Tenures.{Adds, AreOn, IsActor, Terms, events, left_by, terms_in};
+ghost use Rattle.shared_board.specs.Widths.{is_wide_for};
 
 use lattice::Minimum;
 
@@ -22,6 +25,14 @@ pub fn others_change_nothing_of_a_worker<T: Minimum>()
         → AreOn t (others ++ seen)
         → IsSameOfWorker k (left_by T.below T.least t.dataflow seen)
         (left_by T.below T.least t.dataflow (others ++ seen)) }
+{}
+
+/// A worker knows the width of the rows of each bundle that it takes, whoever sent it: that of the
+/// node that the bundle's place reads.
+pub fn bundles_taken_have_their_width<T: Minimum>()
+    ensures { (old new : Known (Doing T)) (number : ℕ) (bundle : Bundle T)
+        → IsActor T.below T.least new → Adds old (Take number bundle) new
+        → IsTrue (is_wide_for (terms_in new.seen).dataflow bundle) }
 {}
 
 /// If there is one client, then what others did changes nothing that clients change: the changes

@@ -22,8 +22,8 @@ pub use actor::Actor;
 pub use board::SharedBoard;
 pub use event::Doing;
 pub use laws::{
-    gives_depend_on_their_worker, one_client_makes_all_changes, others_change_nothing_of_a_worker,
-    quiet_until_the_client_acts,
+    bundles_taken_have_their_width, gives_depend_on_their_worker, one_client_makes_all_changes,
+    others_change_nothing_of_a_worker, quiet_until_the_client_acts,
 };
 pub use opening::open;
 pub use protocol::{BitemporalBoards, BoardProtocol, Boards};

@@ -6,6 +6,8 @@ use Rattle.batch.specs.Intervals.{is_interval_of, all_between, passed_updates, o
 use Rattle.batch.specs.Descriptions.{DescriptionState}
 use Rattle.trace.specs.BatchLists.{Continues}
 use Rattle.spine.specs.Spines.{Stands as SpineStands}
+use Rattle.linear.specs.Widths.{are_wide}
+use Rattle.plan.specs.Widths.{width_of}
 use Rattle.histories.specs.declared.event.Emission.{Emission}
 use Rattle.histories.specs.declared.event.Event.TheVariants.{Give}
 use Rattle.histories.specs.Histories.Cuts.{cut}
@@ -21,7 +23,7 @@ use Rattle.relays.specs.Relays.{IsSettledTo, IsStopped}
 use Rattle.shared_board.specs.Tenures.{state_left}
 use Rattle.relays.proofs.ResultLemmas.{if_err_at, on_ok_by, on_ok_always, memory_or}
 use Rattle.relays.proofs.RunningLemmas.{left_running}
-use Rattle.relays.proofs.SettleLemmas.{may_seal_it, large_sealed, sealed_may, given_ready, given_settled}
+use Rattle.relays.proofs.SettleLemmas.{may_seal_it, large_sealed, sealed_may, sealed_wide, given_ready, given_settled}
 use Rattle.relays.proofs.arranged.settle.Goals as goal
 
 pub seal-requires : goal.seal-requires
@@ -66,6 +68,26 @@ give_on-requires-clause-allowed g c =
     let made = ap (λ (us : List (Update g.row.T.Denot)). record { node = n; worker = 0; updates = us }) (c.into.ensures ∙ c.in_ok-updates.ensures.same) in
     subst (λ (e : Emission g.row.T.Denot). IsCut below p e (cut below p e) → IsGive below p (state_left below least c.args.worker.now) e held (cut below p e)) (sym made)
     (sealed_may below g.T.Lattice.joined least g.met.T.PartialOrder.order c.args.worker.now c.known.ensures r.0 n r.1 upper c.requires.turned e.0 e.1 e.2 c.args.arrangement.now r.2 g.met.T.Ord.total out seal held for)
+
+pub give_on-requires-clause-wide : goal.give_on-requires-clause-wide
+give_on-requires-clause-wide g c =
+    let r = c.requires.ready in
+    let e = c.requires.arrange in
+    let below = g.T.PartialOrder.below in
+    let least = g.T.Minimum.least in
+    let n = c.args.node in
+    let upper = c.args.upper.now in
+    let p = dataflow_of c.args.worker.now in
+    let sealed = c.in_ok-batch.ensures in
+    let room = c.in_ok-reserve.ensures.room in
+    let is = sealed.rest ∙ ap (λ (x : ArrangementState g.row.T.Denot). record x { waiting = open_updates below upper x.waiting }) room in
+    let out = c.in_ok-batch.batch.updates in
+    let held = c.in_ok-held.held.items in
+    let seal = subst (λ (x : ArrangementState g.row.T.Denot). IsSealOf g.T.Ord.cmp (passed_updates below upper x.waiting) out) room (record { sealed = sealed.sealed; totals = sealed.totals; smaller = sealed.size }) in
+    let for = subst (λ (x : ArrangementState g.row.T.Denot). IsHeldFor below held (times x.waiting)) is (record { covers = c.in_ok-held.ensures.covers; tight = c.in_ok-held.ensures.tight }) in
+    subst (λ us. IsTrue (are_wide (width_of p.nodes n) us)) (sym (c.into.ensures ∙ c.in_ok-updates.ensures.same))
+    (sealed_wide below g.T.Lattice.joined least g.met.T.PartialOrder.order c.args.worker.now c.known.ensures r.0 n r.1 upper c.requires.turned e.0 e.1 e.2 c.args.arrangement.now r.2 g.met.T.Ord.total out seal held for
+    (subst (λ (x : ArrangementState g.row.T.Denot). IsTrue (rows_have x.width out)) room sealed.rows))
 
 pub keep-requires : goal.keep-requires
 keep-requires g c =

@@ -1,8 +1,10 @@
 -- The pairs of a bundle that was taken at the left port are given.
-use Rattle.std.proofs.Common.{rules, ◌≡◌, ◌<◌, Some, ap, sym, subst, set, length, inl, ◌∙◌}
+use Rattle.std.proofs.Common.{rules, ◌≡◌, ◌<◌, Some, ap, sym, subst, set, length, IsTrue, inl, ◌∙◌}
 use Rattle.std.proofs.lemmas.Result.{err_from_is_err_and}
 use Rattle.std.specs.List.{slice_get}
 use Rattle.lattice.proofs.BoundLemmas.{join_below}
+use Rattle.linear.specs.Widths.{are_wide}
+use Rattle.plan.specs.Widths.{width_of}
 use Rattle.operator.specs.Joins.{JoiningView}
 use Rattle.shared_board.specs.Found.{dataflow_of}
 use Rattle.relays.specs.Relays.{IsSettledTo, IsStopped}
@@ -31,6 +33,12 @@ acknowledge_at-requires g c =
 
 pub give_on-requires-clause-alone : goal.give_on-requires-clause-alone
 give_on-requires-clause-alone g c = c.requires.ready.1.free.at.alone
+
+pub give_on-requires-clause-wide : goal.give_on-requires-clause-wide
+give_on-requires-clause-wide g c =
+    let r = c.requires.ready in
+    let at = at_join c.known.ensures r.1 c.requires.join c.requires.within r.3 in
+    subst (λ us. IsTrue (are_wide (width_of (dataflow_of c.args.worker.now).nodes c.args.node) us)) (sym c.into.ensures) (pairs_wide at c.known-2.ensures.fitting c.in_ok-out.out.items c.in_ok-out.ensures.width)
 
 pub give_on-requires-clause-allowed : goal.give_on-requires-clause-allowed
 give_on-requires-clause-allowed g c =

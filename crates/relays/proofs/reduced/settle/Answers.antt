@@ -1,5 +1,7 @@
-use Rattle.std.proofs.Common.{◌≡◌, suc, ap, sym, subst}
+use Rattle.std.proofs.Common.{◌≡◌, suc, ap, sym, subst, IsTrue}
 use Rattle.std.proofs.lemmas.Result.{err_from_is_err_and}
+use Rattle.linear.specs.Widths.{are_wide}
+use Rattle.plan.specs.Widths.{width_of}
 use Rattle.histories.specs.declared.event.Emission.{Emission}
 use Rattle.histories.specs.declared.event.Event.TheVariants.{Give}
 use Rattle.histories.specs.Histories.Cuts.{cut}
@@ -12,7 +14,7 @@ use Rattle.relays.specs.Relays.{HasTurned, IsSettledTo, IsStopped}
 use Rattle.shared_board.specs.Tenures.{state_left}
 use Rattle.relays.proofs.ResultLemmas.{if_err_at, memory_or}
 use Rattle.relays.proofs.RunningLemmas.{left_running}
-use Rattle.relays.proofs.ReduceRunLemmas.{on_ok_both, ready_cause, answered_may, answered_ready, answered_settled}
+use Rattle.relays.proofs.ReduceRunLemmas.{on_ok_both, ready_cause, answered_may, answered_wide, answered_ready, answered_settled}
 use Rattle.relays.proofs.reduced.settle.Goals as goal
 
 pub returns-in_err-out-clause-stopped : goal.returns-in_err-out-clause-stopped
@@ -40,6 +42,19 @@ give_on-requires-clause-allowed g c =
     → IsGive below (dataflow_of j) (state_left below least j) (record { node = n; worker = 0; updates = us }) c.in_ok-held.held.items (cut below (dataflow_of j) (record { node = n; worker = 0; updates = us }))) (sym c.in_ok-updates.ensures.packed)
     (answered_may below g.T.Lattice.joined least g.met.T.PartialOrder.order j c.known.ensures r.0 n r.3 c.elements.result.now turned r.1 r.2 r.4 c.args.reducing.now r.5 c.args.source.now r.6 c.trace.result.now c.trace.ensures.value
     c.ready.new.self c.in_ok-out.out x.kept x.stands x.law x.settled x.later x.out_beyond x.rest_beyond c.in_ok-held.held.items (record { covers = c.in_ok-held.ensures.covers; tight = c.in_ok-held.ensures.tight }))
+
+pub give_on-requires-clause-wide : goal.give_on-requires-clause-wide
+give_on-requires-clause-wide g c =
+    let below = g.T.PartialOrder.below in
+    let least = g.T.Minimum.least in
+    let j = c.args.worker.now in
+    let n = c.args.node in
+    let r = c.requires.ready in
+    let x = c.in_ok-out.ensures in
+    let turned = subst (HasTurned below least j n) (sym c.elements.ensures.value) c.requires.turned in
+    subst (λ us. IsTrue (are_wide (width_of (dataflow_of j).nodes n) us)) (sym c.into.ensures)
+    (answered_wide below g.T.Lattice.joined least g.met.T.PartialOrder.order j c.known.ensures r.0 n r.3 c.elements.result.now turned r.1 r.2 r.4 c.args.reducing.now r.5 c.args.source.now r.6 c.trace.result.now c.trace.ensures.value
+    c.ready.new.self c.in_ok-out.out.items x.kept x.stands x.law x.settled x.later x.out_beyond x.rest_beyond c.in_ok-held.held.items (record { covers = c.in_ok-held.ensures.covers; tight = c.in_ok-held.ensures.tight }))
 
 pub returns-clause-runs : goal.returns-clause-runs
 returns-clause-runs g c d kind s ready reduce own read =

@@ -1,4 +1,6 @@
-use Rattle.std.proofs.Common.{List, ap, subst, ◌∙◌}
+use Rattle.std.proofs.Common.{List, IsTrue, ap, sym, subst, ◌∙◌}
+use Rattle.linear.specs.Widths.{are_wide}
+use Rattle.plan.specs.Widths.{width_of}
 use Rattle.histories.specs.declared.event.Bundle.{Bundle}
 use Rattle.histories.specs.declared.event.Emission.{Emission}
 use Rattle.histories.specs.declared.event.Event.TheVariants.{Give}
@@ -7,8 +9,18 @@ use Rattle.histories.specs.Histories.{next_state}
 use Rattle.relays.specs.Between.{IsLeftBy}
 use Rattle.shared_board.specs.Found.{dataflow_of}
 use Rattle.shared_board.specs.Tenures.{state_left}
+use Rattle.shared_board.specs.Widths.{are_wide_for}
+use Rattle.histories.specs.Histories.Dataflows.{Dataflow}
+use Rattle.relays.proofs.SendLemmas.{sent_wide}
 use Rattle.relays.proofs.StepLemmas.{calm_given, left_of, same_of}
 use Rattle.relays.proofs.steps.give_on.Goals as goal
+
+pub give-given-requires-clause-wide : goal.give-given-requires-clause-wide
+give-given-requires-clause-wide g c =
+    let made = c.in-Ok.cut in
+    subst (λ (p : Dataflow). IsTrue (are_wide_for p made.sent)) c.requires.routing
+    (sent_wide c.args.routing.now c.args.emission made.sent c.in-Ok.ensures.whole c.in-Ok.ensures.filled
+    (subst (λ (p : Dataflow). IsTrue (are_wide (width_of p.nodes c.args.emission.node) c.args.emission.updates)) (sym c.requires.routing) c.requires.wide))
 
 pub returns-in-Ok-given-clause-left : goal.returns-in-Ok-given-clause-left
 returns-in-Ok-given-clause-left g c =

@@ -7,8 +7,14 @@ use Rattle.histories.specs.Histories.{next_state}
 use Rattle.relays.specs.Between.{IsLeftBy}
 use Rattle.shared_board.specs.Found.{dataflow_of}
 use Rattle.shared_board.specs.Tenures.{state_left}
+use Rattle.shared_board.specs.Widths.{are_wide_for}
 use Rattle.relays.proofs.StepLemmas.{calm_given, left_of, same_of}
 use Rattle.relays.proofs.steps.hold_back.Goals as goal
+
+pub give-given-requires-clause-wide : goal.give-given-requires-clause-wide
+give-given-requires-clause-wide g c =
+    let none = ap (λ (x : CutState g.row.T.Denot). x.sent) c.new-cut.ensures ∙ (c.into-2.ensures ∙ c.new-2.ensures.items) in
+    ap (are_wide_for (dataflow_of c.args.worker.now)) none
 
 pub returns-in-Ok-clause-left : goal.returns-in-Ok-clause-left
 returns-in-Ok-clause-left g c =

@@ -1,4 +1,4 @@
-use Rattle.std.proofs.Common.{◌∷◌, rules, ◌≡◌, ◌<◌, sym, subst, ap, ◌∙◌, length}
+use Rattle.std.proofs.Common.{◌∷◌, rules, ◌≡◌, ◌<◌, IsTrue, sym, subst, ap, ◌∙◌, length}
 use Rattle.std.proofs.lemmas.Result.{on_ok_weaker}
 use Rattle.hub.specs.Histories.{entry}
 use Rattle.hub.specs.Known.{Known}
@@ -6,6 +6,7 @@ use Rattle.histories.specs.declared.event.Event.{Event}
 use Rattle.histories.specs.declared.event.Event.TheVariants.{Give, Look}
 use Rattle.histories.specs.Histories.{IsGive}
 use Rattle.shared_board.specs.declared.event.Doing.{Doing}
+use Rattle.shared_board.specs.Widths.{are_wide_for}
 use Rattle.shared_board.specs.Tenures.{Adds, Terms, state_left, terms_in, StandsFor}
 use Rattle.shared_board.proofs.ActorLemmas.{IsIn, after_with, leaves_with, stood_at, at_board, give_found, if_err_map, is_some_at}
 use Rattle.shared_board.proofs.actor.Actor.give.Goals as goal
@@ -31,6 +32,17 @@ give-answer-requires-clause-within g c =
     let same : c.deref_mut.result.now ≡ held.state.value = search rules in
     let self_is : pass ≡ c.args.self.now = search rules in
     at_board g.T.PartialOrder.below g.T.Minimum.least g.T.Ord.cmp pass held.state.value held.hub held.number held.found here (λ (x : Terms). c.args.cut.given.node < length x.dataflow.nodes) (subst (λ (k : Known (Doing g.row.T.Denot)). (λ (x : Terms). c.args.cut.given.node < length x.dataflow.nodes) (terms_in k.seen)) (sym self_is) c.requires.within) c.deref_mut.result.now same
+
+pub give-answer-requires-clause-wide : goal.give-answer-requires-clause-wide
+give-answer-requires-clause-wide g c =
+    let pass = c.in-Some.pass in
+    let there = is_some_at c.self.inside.pass _ c.self.invariant pass (search rules) in
+    let t = c.enter-tenure.ensures.found in
+    let held = c.enter-tenure.result in
+    let here : IsIn g.T.PartialOrder.below g.T.Minimum.least g.T.Ord.cmp pass held.state.value held.hub held.number held.found = record { actor = there.2; its_hub = t.0.0; its_number = t.0.1; agrees = t.0.2; stands = g.met.P.BoardProtocol.stands_for held.state held.found t.1 } in
+    let same : c.deref_mut.result.now ≡ held.state.value = search rules in
+    let self_is : pass ≡ c.args.self.now = search rules in
+    at_board g.T.PartialOrder.below g.T.Minimum.least g.T.Ord.cmp pass held.state.value held.hub held.number held.found here (λ (x : Terms). IsTrue (are_wide_for x.dataflow c.args.cut.sent)) (subst (λ (k : Known (Doing g.row.T.Denot)). (λ (x : Terms). IsTrue (are_wide_for x.dataflow c.args.cut.sent)) (terms_in k.seen)) (sym self_is) c.requires.wide) c.deref_mut.result.now same
 
 pub leave-requires : goal.leave-requires
 leave-requires g c =

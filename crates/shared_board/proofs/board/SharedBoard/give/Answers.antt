@@ -1,8 +1,9 @@
-use Rattle.std.proofs.Common.{List, ◌∷◌, subst}
+use Rattle.std.proofs.Common.{List, ◌∷◌, IsTrue, sym, subst}
 use Rattle.hub.specs.declared.view.Entry.{Entry}
 use Rattle.hub.specs.Histories.{entry}
 use Rattle.shared_board.specs.declared.event.Doing.{Doing}
 use Rattle.shared_board.specs.Tenures.{SharedState, StandsFor, doing, events, left_by, terms_of_board}
+use Rattle.shared_board.specs.Widths.{are_wide_for}
 use Rattle.histories.specs.Histories.{IsGive}
 use Rattle.shared_board.proofs.SharedLemmas.{gave}
 use Rattle.shared_board.proofs.board.SharedBoard.give.Goals as goal
@@ -17,4 +18,4 @@ returns-clause-stands g c =
     let new : SharedState g.row.T.Denot = record old { board = c.give.new.self } in
     subst (λ (b : SharedState g.row.T.Denot). (es : List (Entry (Doing g.row.T.Denot))) → StandsFor below least cmp b es → IsGive below b.board.dataflow (left_by below least b.board.dataflow es) c.args.cut.given c.args.held c.args.cut.sent
     → StandsFor below least cmp new (entry actor (doing (terms_of_board b) c.give.new.self.last) ∷ es)) c.self.view_is
-    (λ es a may. gave below least cmp old c.give.new.self c.args.cut.given c.args.held c.args.cut.sent c.give.result c.give.ensures.given c.give.ensures.unchanged es a (c.give.ensures.stands (events es) a.stands may))
+    (λ es a may. gave below least cmp old c.give.new.self c.args.cut.given c.args.held c.args.cut.sent c.give.result (subst (λ (b : SharedState g.row.T.Denot). IsTrue (are_wide_for b.board.dataflow c.args.cut.sent)) (sym c.self.view_is) c.requires.wide) c.give.ensures.given c.give.ensures.unchanged es a (c.give.ensures.stands (events es) a.stands may))
