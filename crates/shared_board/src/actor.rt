@@ -2,7 +2,7 @@
 //!
 //! Each call is one tenure, and so one event of this actor. What others did since its last tenure
 //! lies below that event, and the answers are right for all that was done by then. Each call waits
-//! until the board is at home.
+//! until the board is at home, but those that say `try`.
 ghost use Rattle.std.specs.Prelude.{◌≡◌, ◌≤◌, ◌<◌, ◌+◌, ◌↔◌, [], false, ℕ, None, Some, IfOk, IfErr, IfSome, OnOk, OnErr, IsTrue, length};
 ghost use Rattle.std.specs.List.{list_any};
 ghost use Rattle.std.specs.Arc.{arc_value};
@@ -23,6 +23,8 @@ ghost use Rattle.shared_board.specs.Found.{AreDifferencesFound, IsChangesRefusal
 ghost use Rattle.shared_board.specs.Large.{HasNoSmallBound};
 ghost use Rattle.shared_board.specs.Tenures.{Adds, IsActor, IsFirst, WaitsOrNotIn, terms_for, terms_in, state_found, state_left, advance_refusal_in, allow_refusal_in};
 ghost use Rattle.shared_board.specs.Widths.{are_wide_for};
+
+mod trying;
 
 use crate::event::Doing;
 use crate::protocol::BoardProtocol;

@@ -1,0 +1,60 @@
+//! What a worker does without waiting for the board: one try to enter. If another actor has the
+//! board just then, nothing happens, and the arguments come back.
+//!
+//! A worker that may not wait has something else to do meanwhile, or is stepped by a caller that has
+//! other workers to step.
+ghost use Rattle.std.specs.Prelude.{◌≡◌, ◌<◌, IfOk, IfErr, IsTrue, OnOk, length};
+ghost use Rattle.histories.specs.declared.event.Event.TheVariants.{Give, Look};
+ghost use Rattle.histories.specs.Histories.{IsGive};
+ghost use Rattle.shared_board.specs.Tenures.{Adds, terms_in, state_left};
+ghost use Rattle.shared_board.specs.Widths.{are_wide_for};
+
+use crate::actor::Actor;
+use crate::protocol::BoardProtocol;
+use lattice::Minimum;
+use machine::{CutEmission, Ungiven};
+use update::Times;
+
+impl<T: Minimum, P: BoardProtocol<T>> Actor<T, P> {
+    /// A worker gives what it computed at the node that it has in hand, as [`give`](Actor::give)
+    /// says, if the board is there. The outer `Err` has all arguments, since another actor had the
+    /// board, and the actor has seen nothing. So has the inner one, since memory was refused; then the
+    /// event is a look.
+    pub fn try_give(
+        &mut self,
+        cut: CutEmission<T>,
+        held: Times<T>,
+    ) -> Result<Result<(), Ungiven<T>>, Ungiven<T>>
+        requires own { cut.given.worker ≡ self.old.number }
+        requires worker { self.old.number < (terms_in self.old.seen).dataflow.workers }
+        requires within { cut.given.node < length (terms_in self.old.seen).dataflow.nodes }
+        requires allowed { IsGive T.below (terms_in self.old.seen).dataflow
+            (state_left T.below T.least self.old) cut.given held cut.sent }
+        requires wide { IsTrue (are_wide_for (terms_in self.old.seen).dataflow cut.sent) }
+        ensures given { IfOk result (λ r. OnOk r
+            (Adds self.old (Give cut.given held cut.sent) self.new)) }
+        ensures returned { IfOk result (λ r. IfErr r (λ u.
+            Adds self.old (Look self.old.number) self.new
+            × (u ≡ record { cut = cut; held = held }))) }
+        ensures busy { IfErr result (λ u. (self.new ≡ self.old)
+            × (u ≡ record { cut = cut; held = held })) }
+    {
+        let Some(pass) = self.pass.take() else {
+            unreachable!()
+        };
+        match self.hub.try_enter(pass) {
+            Ok(home) => {
+                let mut tenure = home;
+                let board = tenure.state();
+                let answer = board.give(cut, held);
+                self.accepted = board.accepted();
+                self.pass = Some(tenure.leave());
+                Ok(answer)
+            }
+            Err(same) => {
+                self.pass = Some(same);
+                Err(Ungiven { cut, held })
+            }
+        }
+    }
+}
