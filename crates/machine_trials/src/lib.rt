@@ -8,4 +8,8 @@ mod grammar_tests;
 #[cfg(test)]
 mod machine_tests;
 #[cfg(test)]
+mod moves;
+#[cfg(test)]
+mod partial_tests;
+#[cfg(test)]
 mod piece_tests;

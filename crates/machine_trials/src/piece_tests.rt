@@ -3,18 +3,15 @@
 ghost use Rattle.std.specs.Prelude.{◌≡◌, ◌<◌, None, get_or};
 ghost use Rattle.machine.specs.Boards.Pieces.{IsPiece};
 
+use crate::moves::{advanced, fed, gave};
 use lattice::{Bitime, Minimum};
-use machine::{Board, Emission, Piece, Routing, Site};
+use machine::{Board, Emission, Piece, Site};
 use plan::{Kind, NodeId};
-use row::Row;
 use std::alloc::Global;
 use std::process::Abort;
 use std::test::Fail;
 use trials::sketches::{at, reduction};
-use update::{Refusal, Times, Update};
-
-// The client's number, which is greater than that of the worker.
-const CLIENT: usize = 7;
+use update::Refusal;
 
 // The nodes of the plan: an input, arranged, and its counts.
 const INPUT: usize = 0;
@@ -22,47 +19,6 @@ const INPUT: usize = 0;
 const ARRANGED: usize = 1;
 
 const COUNTS: usize = 2;
-
-// Feeds the row 7 at a time. The asserts show what `feed` requires.
-fn fed(
-    rt: &impl Abort,
-    alloc: Global,
-    board: &mut Board<Bitime>,
-    time: (u64, u64),
-) -> Result<(), Refusal> {
-    let input = NodeId::new(INPUT);
-    let there = input.number() < board.plan().len();
-    assert!(rt; there);
-    let is_input = board.plan().node(input).is_input();
-    assert!(rt; is_input);
-    let is_client = board.workers() <= CLIENT;
-    assert!(rt; is_client);
-    let update = Update {
-        time: at(time),
-        row: Row::new(alloc, &[7])?,
-        diff: 1,
-    };
-    board.feed(CLIENT, input, update)
-}
-
-// Moves the frontier of the input to a time.
-fn advanced(
-    rt: &impl Abort,
-    alloc: Global,
-    board: &mut Board<Bitime>,
-    time: (u64, u64),
-) -> Result<(), Refusal> {
-    let input = NodeId::new(INPUT);
-    let there = input.number() < board.plan().len();
-    assert!(rt; there);
-    let is_input = board.plan().node(input).is_input();
-    assert!(rt; is_input);
-    let is_client = board.workers() <= CLIENT;
-    assert!(rt; is_client);
-    let mut times = Vec::new(alloc);
-    times.push(at(time))?;
-    board.advance(CLIENT, input, times.into())
-}
 
 // Takes the first bundle that waits at a node, and gives its updates there.
 fn passed_on(
@@ -119,41 +75,20 @@ fn held_on(
     gave(rt, alloc, board, given, held.into())
 }
 
-// Gives this, and holds these times at the node from then on.
-fn gave(
-    rt: &impl Abort,
-    alloc: Global,
-    board: &mut Board<Bitime>,
-    given: Emission<Bitime>,
-    held: Times<Bitime>,
-) -> Result<(), Refusal> {
-    board.known();
-    let there = given.node.number() < board.plan().len() && given.worker == 0;
-    assert!(rt; there);
-    let routing = Routing::of(alloc, board.plan(), 1)?;
-    let Ok(cut) = routing.cut(alloc, given) else {
-        return Err(Refusal::OutOfMemory);
-    };
-    match board.give(cut, held) {
-        Ok(()) => Ok(()),
-        Err(_ungiven) => Err(Refusal::OutOfMemory),
-    }
-}
-
 // A board of one worker. Two changes wait at the input, two bundles at the arrange node, and at the
 // counts the worker holds a time that has passed.
 fn prepared(rt: &impl Abort, alloc: Global) -> Result<Board<Bitime>, Refusal> {
     let mut board = Board::open(alloc, reduction(alloc, 1, Kind::Count)?, 1)?;
-    fed(rt, alloc, &mut board, (0, 0))?;
+    fed(rt, alloc, &mut board, 7, (0, 0))?;
     passed_on(rt, alloc, &mut board, INPUT)?;
     passed_on(rt, alloc, &mut board, ARRANGED)?;
     held_on(rt, alloc, &mut board, (0, 0))?;
     for _change in 0..2 {
-        fed(rt, alloc, &mut board, (0, 1))?;
+        fed(rt, alloc, &mut board, 7, (0, 1))?;
         passed_on(rt, alloc, &mut board, INPUT)?;
     }
-    fed(rt, alloc, &mut board, (0, 1))?;
-    fed(rt, alloc, &mut board, (0, 1))?;
+    fed(rt, alloc, &mut board, 7, (0, 1))?;
+    fed(rt, alloc, &mut board, 7, (0, 1))?;
     advanced(rt, alloc, &mut board, (0, 1))?;
     Ok(board)
 }

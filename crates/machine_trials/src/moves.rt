@@ -1,0 +1,76 @@
+//! What clients and workers do in several of these trials: one call of a board each. The asserts show
+//! what the call requires. The first node of each plan is an input of one column.
+use lattice::Bitime;
+use machine::{Board, Emission, Routing};
+use plan::NodeId;
+use row::Row;
+use std::alloc::Global;
+use std::process::Abort;
+use trials::sketches::at;
+use update::{Refusal, Times, Update};
+
+// The client's number, which is greater than those of the workers.
+const CLIENT: usize = 7;
+
+// Feeds a row at a time.
+pub(crate) fn fed(
+    rt: &impl Abort,
+    alloc: Global,
+    board: &mut Board<Bitime>,
+    value: i64,
+    time: (u64, u64),
+) -> Result<(), Refusal> {
+    let input = NodeId::new(0);
+    let there = input.number() < board.plan().len();
+    assert!(rt; there);
+    let is_input = board.plan().node(input).is_input();
+    assert!(rt; is_input);
+    let is_client = board.workers() <= CLIENT;
+    assert!(rt; is_client);
+    let update = Update {
+        time: at(time),
+        row: Row::new(alloc, &[value])?,
+        diff: 1,
+    };
+    board.feed(CLIENT, input, update)
+}
+
+// Moves the frontier of the input to a time.
+pub(crate) fn advanced(
+    rt: &impl Abort,
+    alloc: Global,
+    board: &mut Board<Bitime>,
+    time: (u64, u64),
+) -> Result<(), Refusal> {
+    let input = NodeId::new(0);
+    let there = input.number() < board.plan().len();
+    assert!(rt; there);
+    let is_input = board.plan().node(input).is_input();
+    assert!(rt; is_input);
+    let is_client = board.workers() <= CLIENT;
+    assert!(rt; is_client);
+    let mut times = Vec::new(alloc);
+    times.push(at(time))?;
+    board.advance(CLIENT, input, times.into())
+}
+
+// Worker 0 gives this, and holds these times at the node from then on.
+pub(crate) fn gave(
+    rt: &impl Abort,
+    alloc: Global,
+    board: &mut Board<Bitime>,
+    given: Emission<Bitime>,
+    held: Times<Bitime>,
+) -> Result<(), Refusal> {
+    board.known();
+    let there = given.node.number() < board.plan().len() && given.worker == 0;
+    assert!(rt; there);
+    let routing = Routing::of(alloc, board.plan(), board.workers())?;
+    let Ok(cut) = routing.cut(alloc, given) else {
+        return Err(Refusal::OutOfMemory);
+    };
+    match board.give(cut, held) {
+        Ok(()) => Ok(()),
+        Err(_ungiven) => Err(Refusal::OutOfMemory),
+    }
+}
