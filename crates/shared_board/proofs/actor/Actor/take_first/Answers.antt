@@ -7,8 +7,8 @@ use Rattle.histories.specs.declared.event.Event.TheVariants.{Look, Take}
 use Rattle.histories.specs.Histories.Dataflows.{Dataflow}
 use Rattle.histories.specs.Histories.States.{State, place, queue}
 use Rattle.shared_board.specs.declared.event.Doing.{Doing}
-use Rattle.shared_board.specs.Tenures.{Adds, Terms, WaitsOrNotIn, state_found, state_left, terms_in}
-use Rattle.shared_board.proofs.ActorLemmas.{IsIn, after_tenure, both_ok, at_board, hand_found, if_err_map, if_ok_map, if_some_map, is_some_at, of_found, waits_left}
+use Rattle.shared_board.specs.Tenures.{Adds, StandsFor, Terms, WaitsOrNotIn, state_found, state_left, terms_in}
+use Rattle.shared_board.proofs.ActorLemmas.{IsIn, after_tenure, both_ok, at_board, hand_found, if_err_map, if_ok_map, if_some_map, is_some_at, leaves, of_found, waits_left}
 use Rattle.shared_board.proofs.actor.Actor.take_first.Goals as goal
 
 pub take_first-answer-requires-clause-worker : goal.take_first-answer-requires-clause-worker
@@ -32,6 +32,17 @@ take_first-answer-requires-clause-free g c =
     let same : c.deref_mut.result.now ≡ held.state.value = search rules in
     let self_is : pass ≡ c.args.self.now = search rules in
     hand_found g.T.PartialOrder.below g.T.Minimum.least g.T.Ord.cmp pass held.state.value held.hub held.number held.found here c.deref_mut.result.now same c.self.inside.number there.1 (subst (λ n. n < c.deref_mut.result.now.board.dataflow.workers) there.1 (at_board g.T.PartialOrder.below g.T.Minimum.least g.T.Ord.cmp pass held.state.value held.hub held.number held.found here (λ (x : Terms). pass.number < x.dataflow.workers) (subst (λ (k : Known (Doing g.row.T.Denot)). (λ (x : Terms). pass.number < x.dataflow.workers) (terms_in k.seen)) (sym self_is) (subst (λ n. n < (terms_in c.args.self.now.seen).dataflow.workers) (ap (λ (k : Known (Doing g.row.T.Denot)). k.number) (sym self_is)) c.requires.worker)) c.deref_mut.result.now same)) (subst (λ (k : Known (Doing g.row.T.Denot)). (state_left g.T.PartialOrder.below g.T.Minimum.least k).hand k.number ≡ None) (sym self_is) c.requires.free)
+
+pub leave-requires : goal.leave-requires
+leave-requires g c =
+    let pass = c.in-Some.pass in
+    let there = is_some_at c.self.inside.pass _ c.self.invariant pass (search rules) in
+    let t = c.enter-tenure.ensures.found in
+    let held = c.enter-tenure.result in
+    let here : IsIn g.T.PartialOrder.below g.T.Minimum.least g.T.Ord.cmp pass held.state.value held.hub held.number held.found = record { actor = there.2; its_hub = t.0.0; its_number = t.0.1; agrees = t.0.2; stands = g.met.P.BoardProtocol.stands_for held.state held.found t.1 } in
+    let same : c.deref_mut.result.now ≡ held.state.value = search rules in
+    g.met.P.BoardProtocol.may_stand _ _ (subst (λ (d : Doing _). StandsFor g.T.PartialOrder.below g.T.Minimum.least g.T.Ord.cmp c.take_first-answer.new.self (entry held.number d ∷ held.found)) (sym (g.met.P.BoardProtocol.last_is _))
+    (leaves g.T.PartialOrder.below g.T.Minimum.least g.T.Ord.cmp pass held.state.value held.hub held.number held.found here c.deref_mut.result.now c.take_first-answer.new.self c.self.inside.number same there.1 c.take_first-answer.ensures.terms c.take_first-answer.ensures.stands))
 
 pub invariant_of-self : goal.invariant_of-self
 invariant_of-self g c =

@@ -9,7 +9,7 @@ use Rattle.shared_board.specs.declared.event.Doing.{Doing}
 use Rattle.shared_board.specs.Widths.{are_wide_for}
 use Rattle.shared_board.specs.Tenures.{Adds, Terms, state_left, terms_in, StandsFor}
 use Rattle.shared_board.proofs.ActorLemmas.{IsIn, after_with, leaves_with, stood_at, at_board, give_found, if_err_map, is_some_at}
-use Rattle.shared_board.proofs.actor.trying.Actor.try_give.Goals as goal
+use Rattle.shared_board.proofs.actor.Actor.try_give.Goals as goal
 
 pub give-answer-requires-clause-worker : goal.give-answer-requires-clause-worker
 give-answer-requires-clause-worker g c =
