@@ -24,7 +24,7 @@ ghost use Rattle.shared_board.specs.Large.{HasNoSmallBound};
 ghost use Rattle.shared_board.specs.Tenures.{Adds, IsActor, IsFirst, WaitsOrNotIn, terms_for, terms_in, state_found, state_left, advance_refusal_in, allow_refusal_in};
 ghost use Rattle.shared_board.specs.Widths.{are_wide_for};
 
-mod trying;
+mod attempt;
 
 use crate::event::Doing;
 use crate::protocol::BoardProtocol;
