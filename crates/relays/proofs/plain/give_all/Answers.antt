@@ -1,8 +1,6 @@
 -- What was gathered is given in one piece.
-use Rattle.std.proofs.Common.{suc, sym, subst, IsTrue, inl, inr, ⊎_elim}
+use Rattle.std.proofs.Common.{suc, sym, subst, inl, inr, ⊎_elim}
 use Rattle.std.proofs.lemmas.Result.{err_from_is_err_and}
-use Rattle.linear.specs.Widths.{are_wide}
-use Rattle.plan.specs.Widths.{width_of}
 use Rattle.histories.specs.Histories.{IsGive, next_state}
 use Rattle.histories.specs.Histories.Cuts.{cut}
 use Rattle.histories.specs.declared.event.Event.TheVariants.{Give}
@@ -36,7 +34,7 @@ give_on-requires-clause-allowed g c is_cut =
     (may_give_it g.T.PartialOrder.below g.T.Lattice.joined g.T.Minimum.least g.met.T.PartialOrder.order c.args.worker.now c.known.ensures c.args.node c.requires.within c.requires.linear c.requires.plain r.0 c.args.gathered r.1 c.in_ok-updates.updates split wide (cut g.T.PartialOrder.below p made) is_cut)
 
 pub give_on-requires-clause-wide : goal.give_on-requires-clause-wide
-give_on-requires-clause-wide g c = subst (λ us. IsTrue (are_wide (width_of (dataflow_of c.args.worker.now).nodes c.args.node) us)) (sym c.into.ensures) (c.in_ok-updates.ensures.wide _ c.requires.gathering.1.gathering.wide)
+give_on-requires-clause-wide g c = c.in_ok-updates.ensures.wide _ c.requires.gathering.1.gathering.wide
 
 pub returns-clause-runs : goal.returns-clause-runs
 returns-clause-runs g c d run =

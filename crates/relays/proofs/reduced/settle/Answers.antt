@@ -52,9 +52,9 @@ give_on-requires-clause-wide g c =
     let r = c.requires.ready in
     let x = c.in_ok-out.ensures in
     let turned = subst (HasTurned below least j n) (sym c.elements.ensures.value) c.requires.turned in
-    subst (λ us. IsTrue (are_wide (width_of (dataflow_of j).nodes n) us)) (sym c.into.ensures)
+    subst (λ us. IsTrue (are_wide (width_of (dataflow_of j).nodes n) us)) (sym c.in_ok-updates.ensures.packed)
     (answered_wide below g.T.Lattice.joined least g.met.T.PartialOrder.order j c.known.ensures r.0 n r.3 c.elements.result.now turned r.1 r.2 r.4 c.args.reducing.now r.5 c.args.source.now r.6 c.trace.result.now c.trace.ensures.value
-    c.ready.new.self c.in_ok-out.out.items x.kept x.stands x.law x.settled x.later x.out_beyond x.rest_beyond c.in_ok-held.held.items (record { covers = c.in_ok-held.ensures.covers; tight = c.in_ok-held.ensures.tight }))
+    c.ready.new.self c.in_ok-out.out x.kept x.stands x.law x.settled x.later x.out_beyond x.rest_beyond c.in_ok-held.held.items (record { covers = c.in_ok-held.ensures.covers; tight = c.in_ok-held.ensures.tight }))
 
 pub returns-clause-runs : goal.returns-clause-runs
 returns-clause-runs g c d kind s ready reduce own read =
