@@ -2,7 +2,7 @@ use Rattle.std.proofs.Common.{◌≡◌, ℕ, ◌∷◌, Contains, IfOk, OnOk, r
 use Rattle.std.specs.Prelude.{Result, Ok, Err}
 use Rattle.lattice.specs.declared.product.Pair.{Pair}
 use Rattle.progress.specs.declared.counted.Counted.{Counted}
-use Rattle.progress_trials.proofs.tally_tests.hold.Goals as goal
+use Rattle.kept_trials.proofs.counted_tests.hold.Goals as goal
 
 -- a result that is x, and has some property if it is an Ok, has every property that follows for x
 if_ok : {A E P : Type 0} (r : Result A E) (x : A) (Q : A → Type 0) → IfOk r (λ k. k ≡ x) → OnOk r P → (P → Q x) → IfOk r Q

@@ -1,6 +1,6 @@
 use Rattle.std.proofs.Common.{rules, ◌∷◌, Contains, length, ap, sym, subst, ◌∙◌}
 use Rattle.std.specs.List.{filter}
-use Rattle.progress_trials.proofs.tally_tests.held_and_moved.Goals as goal
+use Rattle.kept_trials.proofs.counted_tests.held_and_moved.Goals as goal
 
 -- the downgrade left it there at its later time
 pub give_back-requires : goal.give_back-requires

@@ -3,7 +3,7 @@ use Rattle.std.specs.List.{filter}
 use Rattle.progress.specs.Tallies.{SameCounts}
 use Rattle.lattice.specs.declared.product.Pair.{Pair}
 use Rattle.progress.specs.declared.counted.Counted.{Counted}
-use Rattle.progress_trials.proofs.tally_tests.counted_twice.Goals as goal
+use Rattle.kept_trials.proofs.counted_tests.counted_twice.Goals as goal
 
 -- it was counted just before
 pub remove-requires : goal.remove-requires

@@ -3,7 +3,7 @@ use Rattle.std.specs.List.{filter}
 use Rattle.lattice.specs.declared.product.Pair.{Pair}
 use Rattle.progress.specs.Tallies.{SameCounts}
 use Rattle.progress.specs.declared.counted.Counted.{Counted}
-use Rattle.progress_trials.proofs.kept_tests.pass_bundle.Goals as goal
+use Rattle.kept_trials.proofs.kept_tests.pass_bundle.Goals as goal
 
 -- one item more in front of lists that count alike
 more : {A : Type 0} (test : A → Bool) (y : A) (xs ys : List A) → length (filter test xs) ≡ length (filter test ys) → length (filter test (y ∷ xs)) ≡ length (filter test (y ∷ ys))
