@@ -277,6 +277,7 @@ module _ {T : Type 0} (below : T → T → Bool) (joined : T → T → T) (minim
     known = (record { terms = refl; own = refl; actor = λ e. absurd (false≢true e) }, tt);
     dataflow = record { plan = plan; staffed = omega arith };
     legal = (tt, tt);
+    wide = record { in_flight = refl; received = refl };
     actor = omega arith;
   }
 
