@@ -18,7 +18,7 @@ use plan::{NodeId, Plan};
 use progress::{Place, Tally};
 use std::alloc::Global;
 use std::marker::Model;
-use update::Refusal;
+use update::{Refusal, Times};
 
 /// What is outstanding in a dataflow, and the tally that counts it. A contract sees the nodes of the
 /// plan, what lies at the stations, and the frontiers of the inputs, as an `AccountState`.
@@ -137,6 +137,20 @@ impl<T: Minimum> Accounts<T> {
         ensures refused { IfErr result (λ refusal. refusal ≡ OutOfMemory) }
     {
         self.tally.input_frontier_of(node)
+    }
+
+    /// Times that tell the input frontier of a node: a time is beyond them if and only if it is beyond
+    /// that frontier. Refused only with `OutOfMemory`.
+    ///
+    /// Cost: that of [`Tally::input_times_of`].
+    pub fn input_times(&mut self, node: NodeId) -> Result<Times<T>, Refusal>
+        requires { node < length self.old.nodes }
+        ensures kept { self.new ≡ self.old }
+        ensures beyond { IfOk result (λ found. (t : T)
+            → is_beyond T.below found t ≡ is_beyond T.below (input_front_of T.below self.old node) t) }
+        ensures refused { IfErr result (λ refusal. refusal ≡ OutOfMemory) }
+    {
+        self.tally.input_times_of(node)
     }
 
     /// Finds anew what the tally keeps of a node, if something moved it. A caller that asks about many

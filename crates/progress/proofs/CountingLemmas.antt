@@ -53,7 +53,7 @@ module _ {A : Type 0} where
   among_both [] ys k m = inr m
   among_both (x ∷ xs) ys k m = ⊎_elim (λ e. inl (inl e)) (λ n. ⊎_elim (λ a. inl (inr a)) (λ b. inr b) (among_both xs ys k n)) m
 
-  among_copies : (n : ℕ) (x k : A) → Among k (replicate n x) → x ≡ k
+  pub among_copies : (n : ℕ) (x k : A) → Among k (replicate n x) → x ≡ k
   among_copies zero x k m = absurd m
   among_copies (suc n) x k m = ⊎_elim (λ e. e) (λ r. among_copies n x k r) m
 

@@ -72,6 +72,10 @@ module _ {T : Type 0} (below : T → T → Bool) (o : PartialOrderLaws below) wh
       with_item : (t : T) (items : List (Counted T)) (b : Bool) → is_in_scope nodes scope place ≡ b → (u : T) → is_beyond below (times_where (is_in_scope nodes scope) (record { place = place; time = t } ∷ items)) u ≡ is_beyond below (cond b (t ∷ []) [] ++ times_where (is_in_scope nodes scope) items) u
       with_item t items b e u = ap (λ b. is_beyond below (cond b (t ∷ []) [] ++ times_where (is_in_scope nodes scope) items) u) e
 
+      -- an item more, whose time is inserted
+      pub counted : (F G : List T) (t : T) (items : List (Counted T)) → is_in_scope nodes scope place ≡ true → ((u : T) → is_beyond below G u ≡ (below t u || is_beyond below F u)) → IsFront below nodes items scope F → IsFront below nodes (record { place = place; time = t } ∷ items) scope G
+      counted F G t items e more front u = more u ∙ (ap (λ b. below t u || b) (front u) ∙ sym (with_item t items true e u))
+
       -- an item less, whose time is no element if the item counts
       pub gone : (F : List T) (t : T) (items : List (Counted T)) (b : Bool) → is_in_scope nodes scope place ≡ b → (b ≡ true → Contains F t → ⊥) → IsFront below nodes (record { place = place; time = t } ∷ items) scope F → IsFront below nodes items scope F
       gone F t items true e missing front u =

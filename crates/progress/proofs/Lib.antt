@@ -13,5 +13,6 @@ pub mod MarkLemmas
 pub mod ScopeLemmas
 pub mod CurrentLemmas
 pub mod CountingLemmas
+pub mod EntryLemmas
 pub mod TieLemmas
 pub mod PlacingLemmas

@@ -6,13 +6,15 @@ ghost use Rattle.std.specs.List.{filter};
 ghost use Rattle.std.specs.Vec.{vec_len, vec_capacity};
 ghost use Rattle.lattice.specs.Frontiers.{is_beyond};
 ghost use Rattle.update.specs.declared.refusal.Refusal.TheVariants.{OutOfMemory};
+ghost use Rattle.plan.specs.declared.node.Node.{Node};
 ghost use Rattle.progress.specs.declared.counted.Counted.{Counted};
+ghost use Rattle.progress.specs.declared.place.Place.{Place};
+ghost use Rattle.progress.specs.declared.scope.Scope.{Scope};
 ghost use Rattle.progress.specs.Kept.{IsFront};
 ghost use Rattle.progress.specs.Scopes.{scope_node, is_in_scope};
 
 use crate::counts::Counts;
 use crate::graph::Graph;
-use crate::place::Place;
 use crate::scope::Scope;
 use antichain::is_beyond;
 use lattice::Lattice;
@@ -34,22 +36,21 @@ pub(crate) fn find<T: Lattice>(
     Ok(())
 }
 
-// A time more is counted at a place. Refused only with `OutOfMemory`.
-pub(crate) fn insert_where<T: Lattice>(
+// A time more is counted at a place. Nothing changes if the place does not count for the frontier.
+// Refused only with `OutOfMemory`.
+pub(crate) fn insert_if<T: Lattice>(
     elements: &mut Vec<T>,
-    graph: &Graph,
-    scope: &Scope,
-    place: &Place,
+    counts: bool,
     t: T,
 ) -> Result<(), Refusal>
-    requires { scope_node scope.now < length graph.now }
-    ensures front { OnOk result ((items : List (Counted T))
-        → IsFront T.below graph.now items scope.now elements.old.items
-        → IsFront T.below graph.now (record { place = place.now; time = t } ∷ items) scope.now
+    ensures front { OnOk result ((nodes : List Node) (scope : Scope) (place : Place)
+        (items : List (Counted T)) → is_in_scope nodes scope place ≡ counts
+        → IsFront T.below nodes items scope elements.old.items
+        → IsFront T.below nodes (record { place = place; time = t } ∷ items) scope
         elements.new.items) }
     ensures refused { IfErr result (λ refusal. refusal ≡ OutOfMemory) }
 {
-    if scope.counts(graph, place) {
+    if counts {
         insert_time(elements, t)?;
     }
     Ok(())
@@ -57,27 +58,23 @@ pub(crate) fn insert_where<T: Lattice>(
 
 // Whether a time is an element of a frontier for which the place counts. Only then does the
 // frontier change when the time is counted there once less, or in its place a later one.
-pub(crate) fn has_element_where<T: Lattice>(
-    elements: &Vec<T>,
-    graph: &Graph,
-    scope: &Scope,
-    place: &Place,
-    t: &T,
-) -> bool
-    requires { scope_node scope.now < length graph.now }
-    ensures counts { IsTrue result → IsTrue (is_in_scope graph.now scope.now place.now) }
+pub(crate) fn has_element_if<T: Lattice>(elements: &Vec<T>, counts: bool, t: &T) -> bool
+    ensures counts { IsTrue result → IsTrue counts }
     ensures element { IsTrue result → Contains elements.now.items t.now }
-    ensures gone { result ≡ false → (items : List (Counted T))
-        → IsFront T.below graph.now (record { place = place.now; time = t.now } ∷ items) scope.now
+    ensures gone { result ≡ false → (nodes : List Node) (scope : Scope) (place : Place)
+        (items : List (Counted T)) → is_in_scope nodes scope place ≡ counts
+        → IsFront T.below nodes (record { place = place; time = t.now } ∷ items) scope
         elements.now.items
-        → IsFront T.below graph.now items scope.now elements.now.items }
-    ensures later { result ≡ false → (items : List (Counted T)) (u : T) → IsTrue (T.below t.now u)
-        → IsFront T.below graph.now (record { place = place.now; time = t.now } ∷ items) scope.now
+        → IsFront T.below nodes items scope elements.now.items }
+    ensures later { result ≡ false → (nodes : List Node) (scope : Scope) (place : Place)
+        (items : List (Counted T)) (u : T) → is_in_scope nodes scope place ≡ counts
+        → IsTrue (T.below t.now u)
+        → IsFront T.below nodes (record { place = place; time = t.now } ∷ items) scope
         elements.now.items
-        → IsFront T.below graph.now (record { place = place.now; time = u } ∷ items) scope.now
+        → IsFront T.below nodes (record { place = place; time = u } ∷ items) scope
         elements.now.items }
 {
-    scope.counts(graph, place) && has_element(elements.as_slice(), t)
+    counts && has_element(elements.as_slice(), t)
 }
 
 // Inserts a time, unless it is beyond the elements already. Refused only with `OutOfMemory`, and

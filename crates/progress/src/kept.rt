@@ -11,11 +11,12 @@ ghost use Rattle.plan.specs.Changes.{has_passed};
 ghost use Rattle.plan.specs.declared.node.Node.{Node};
 ghost use Rattle.progress.specs.declared.counted.Counted.{Counted};
 ghost use Rattle.progress.specs.Kept.{IsFront, AreFronts, IsCurrent, IsSpared, IsMarked, IsInserted, IsForgotten};
-ghost use Rattle.progress.specs.Tallies.{times_where};
+ghost use Rattle.progress.specs.Tallies.{node_of, times_where};
 ghost use Rattle.progress.specs.Scopes.{scope_node, is_in_scope};
+ghost use Rattle.progress.specs.declared.scope.Scope.TheVariants.{Input};
 
 use crate::counts::Counts;
-use crate::elements::{find, has_element_where, insert_where};
+use crate::elements::{find, has_element_if, insert_if};
 use crate::graph::Graph;
 use crate::place::Place;
 use crate::scope::{Scope, is_reached};
@@ -23,7 +24,7 @@ use antichain::{Antichain, is_beyond};
 use lattice::Lattice;
 use plan::NodeId;
 use std::alloc::Global;
-use update::Refusal;
+use update::{Refusal, Times};
 
 /// The frontiers of one node that are kept, as lists on the heap: with inline antichains a list of
 /// all nodes would have elements of no known size.
@@ -91,7 +92,8 @@ impl<T: Lattice> Kept<T> {
         Ok(())
     }
 
-    // Inserts the time into each of the frontiers for which the place counts.
+    // Inserts the time into each of the frontiers for which the place counts. It lies at the node or
+    // above it.
     fn insert_in_all(
         &mut self,
         graph: &Graph,
@@ -99,7 +101,8 @@ impl<T: Lattice> Kept<T> {
         place: &Place,
         t: T,
     ) -> Result<(), Refusal>
-        requires { node < length graph.now }
+        requires node { node < length graph.now }
+        requires reached { reaches graph.now (node_of place.now) node ≡ true }
         ensures fronts { OnOk result ((items : List (Counted T))
             → AreFronts T.below graph.now items node self.old
             → AreFronts T.below graph.now (record { place = place.now; time = t } ∷ items) node
@@ -107,10 +110,12 @@ impl<T: Lattice> Kept<T> {
         ensures mark { self.new.marked ≡ self.old.marked }
         ensures refused { IfErr result (λ refusal. refusal ≡ OutOfMemory) }
     {
-        insert_where(&mut self.output, graph, &Scope::Output(node), place, t)?;
-        insert_where(&mut self.input, graph, &Scope::Input(node), place, t)?;
-        insert_where(&mut self.first, graph, &Scope::Port(node, 0), place, t)?;
-        insert_where(&mut self.second, graph, &Scope::Port(node, 1), place, t)?;
+        let at_first = Scope::Port(node, 0).counts(graph, place);
+        let at_second = Scope::Port(node, 1).counts(graph, place);
+        insert_if(&mut self.output, true, t)?;
+        insert_if(&mut self.input, !place.is_held_at(node), t)?;
+        insert_if(&mut self.first, at_first, t)?;
+        insert_if(&mut self.second, at_second, t)?;
         Ok(())
     }
 
@@ -131,9 +136,11 @@ impl<T: Lattice> Kept<T> {
         }
     }
 
-    // Whether the time is an element of one of the frontiers for which the place counts.
+    // Whether the time is an element of one of the frontiers for which the place counts. It lies at
+    // the node or above it.
     fn has_element(&self, graph: &Graph, node: NodeId, place: &Place, t: &T) -> bool
-        requires { node < length graph.now }
+        requires node { node < length graph.now }
+        requires reached { reaches graph.now (node_of place.now) node ≡ true }
         ensures gone { result ≡ false → (items : List (Counted T))
             → AreFronts T.below graph.now (record { place = place.now; time = t.now } ∷ items) node
             self.now
@@ -145,16 +152,18 @@ impl<T: Lattice> Kept<T> {
             → AreFronts T.below graph.now (record { place = place.now; time = u } ∷ items) node
             self.now }
     {
-        if has_element_where(&self.output, graph, &Scope::Output(node), place, t) {
+        if has_element_if(&self.output, true, t) {
             return true;
         }
-        if has_element_where(&self.input, graph, &Scope::Input(node), place, t) {
+        if has_element_if(&self.input, !place.is_held_at(node), t) {
             return true;
         }
-        if has_element_where(&self.first, graph, &Scope::Port(node, 0), place, t) {
+        let at_first = Scope::Port(node, 0).counts(graph, place);
+        if has_element_if(&self.first, at_first, t) {
             return true;
         }
-        has_element_where(&self.second, graph, &Scope::Port(node, 1), place, t)
+        let at_second = Scope::Port(node, 1).counts(graph, place);
+        has_element_if(&self.second, at_second, t)
     }
 
     /// One of the frontiers of the node. If the node is marked, all that is kept of it is found
@@ -208,6 +217,33 @@ impl<T: Lattice> Kept<T> {
         self.find_all(graph, node, items)?;
         self.marked = false;
         Ok(())
+    }
+
+    /// Times that tell the input frontier of the node: what is beyond them is beyond it. If the node
+    /// is marked, all that is kept of it is found anew, and it is marked no more. Refused only with
+    /// `OutOfMemory`, and then its mark is what it was.
+    ///
+    /// Cost: that of `refresh`, and linear in the elements.
+    pub(crate) fn input_times(
+        &mut self,
+        graph: &Graph,
+        node: NodeId,
+        items: &Counts<T>,
+    ) -> Result<Times<T>, Refusal>
+        requires node { node < length graph.now }
+        requires current { IsCurrent T.below graph.now items.now node self.old }
+        ensures current { IsCurrent T.below graph.now items.now node self.new }
+        ensures unmarked { OnOk result (self.new.marked ≡ false) }
+        ensures unchanged { OnErr result (self.new.marked ≡ self.old.marked) }
+        ensures front { IfOk result (λ times.
+            IsFront T.below graph.now items.now (Input node) times) }
+        ensures refused { IfErr result (λ refusal. refusal ≡ OutOfMemory) }
+    {
+        self.find_all(graph, node, items)?;
+        let mut times = Vec::new(*self.input.allocator());
+        times.extend_from_slice(&self.input)?;
+        self.marked = false;
+        Ok(times.into())
     }
 
     // Finds all frontiers anew if the node is marked. It stays marked.

@@ -40,6 +40,7 @@ mod capability;
 mod counted;
 mod counts;
 mod elements;
+mod entries;
 mod graph;
 mod kept;
 mod laws;

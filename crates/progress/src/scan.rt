@@ -68,7 +68,34 @@ pub(crate) fn insert_all<T: Lattice>(found: &mut Vec<T>, times: &[T]) -> Result<
     Ok(())
 }
 
-// Inserts the times that have an entry.
+// Inserts the times that have an entry in a list.
+pub(crate) fn insert_entries<T: Lattice>(
+    found: &mut Vec<T>,
+    few: &[(T, usize)],
+) -> Result<(), Refusal>
+    ensures beyond { OnOk result ((s : T) → is_beyond T.below found.new.items s
+        ≡ (is_beyond T.below found.old.items s || is_beyond T.below (listed few.now) s)) }
+    ensures refused { IfErr result (λ refusal. refusal ≡ OutOfMemory) }
+{
+    for entry in few {
+        insert_time(found, entry.0)?;
+    }
+    Ok(())
+}
+
+// Whether some time that has an entry in a list is at or before this one.
+pub(crate) fn is_any_entry<T: Lattice>(few: &[(T, usize)], t: &T) -> bool
+    ensures { result ≡ is_beyond T.below (listed few.now) t.now }
+{
+    for entry in few {
+        if entry.0.less_equal(t) {
+            return true;
+        }
+    }
+    false
+}
+
+// Inserts the times that have an entry in a tree.
 pub(crate) fn insert_listed<T: Lattice>(
     found: &mut Vec<T>,
     more: &BTreeMap<T, usize>,
@@ -84,7 +111,7 @@ pub(crate) fn insert_listed<T: Lattice>(
     Ok(())
 }
 
-// Whether some time that has an entry is at or before this one.
+// Whether some time that has an entry in a tree is at or before this one.
 pub(crate) fn is_any_listed<T: Lattice>(more: &BTreeMap<T, usize>, t: &T) -> bool
     ensures { result ≡ is_beyond T.below (listed more.now.entries) t.now }
 {

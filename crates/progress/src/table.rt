@@ -13,8 +13,9 @@ ghost use Rattle.antichain.specs.Antichains.{SameElements, least};
 ghost use Rattle.update.specs.declared.refusal.Refusal.TheVariants.{OutOfMemory};
 ghost use Rattle.plan.specs.Changes.{has_passed};
 ghost use Rattle.progress.specs.Tallies.{is_marked, times_where};
-ghost use Rattle.progress.specs.Kept.{AreAsked, HaveChanged, HaveChangedAt, IsInserted, IsSpared, IsMarked, IsForgotten, IsTally, is_asked, marks_of};
+ghost use Rattle.progress.specs.Kept.{AreAsked, HaveChanged, HaveChangedAt, IsInserted, IsSpared, IsMarked, IsForgotten, IsTally, IsFront, is_asked, marks_of};
 ghost use Rattle.progress.specs.Scopes.{scope_node, is_in_scope};
+ghost use Rattle.progress.specs.declared.scope.Scope.TheVariants.{Input};
 
 use crate::counts::Counts;
 use crate::graph::Graph;
@@ -26,7 +27,7 @@ use lattice::Lattice;
 use plan::NodeId;
 use std::alloc::Global;
 use std::marker::Model;
-use update::Refusal;
+use update::{Refusal, Times};
 
 /// What is kept of all nodes of a plan. A contract sees the list of it, by node.
 #[derive(Drop)]
@@ -160,6 +161,32 @@ impl<T: Lattice> Table<T> {
         remember(&mut self.asked, &self.kept, node)?;
         self.kept[node.number()].refresh(graph, node, items)?;
         Ok(())
+    }
+
+    /// Times that tell the input frontier of a node: what is beyond them is beyond it. A marked node
+    /// is found anew, and unmarked, as by `refresh`. Refused only with `OutOfMemory`, and then the mark
+    /// is what it was.
+    ///
+    /// Cost: that of `refresh`, and linear in the elements.
+    pub(crate) fn input_times(
+        &mut self,
+        graph: &Graph,
+        node: NodeId,
+        items: &Counts<T>,
+    ) -> Result<Times<T>, Refusal>
+        requires node { node < length graph.now }
+        requires tally { IsTally T.below graph.now items.now self.old }
+        ensures tally { IsTally T.below graph.now items.now self.new }
+        ensures unmarked { OnOk result ((n : ℕ) → is_marked (marks_of self.new) n
+            ≡ (is_marked (marks_of self.old) n && not (eqb n node))) }
+        ensures unanswered { OnErr result (marks_of self.new ≡ marks_of self.old) }
+        ensures front { IfOk result (λ times.
+            IsFront T.below graph.now items.now (Input node) times) }
+        ensures refused { IfErr result (λ refusal. refusal ≡ OutOfMemory) }
+    {
+        remember(&mut self.asked, &self.kept, node)?;
+        let times = self.kept[node.number()].input_times(graph, node, items)?;
+        Ok(times)
     }
 
     /// Whether one of the frontiers of a node has passed a time. Takes no memory.

@@ -21,7 +21,7 @@ use lattice::Lattice;
 use plan::{NodeId, Plan};
 use std::alloc::Global;
 use std::marker::Model;
-use update::Refusal;
+use update::{Refusal, Times};
 
 /// What is outstanding in a dataflow, counted by place and time. The same item may be counted
 /// several times. A contract sees the nodes of the plan and a list of what is counted, and says
@@ -288,6 +288,31 @@ impl<T: Lattice> Tally<T> {
         self.table.refresh(&self.graph, node, &self.items)?;
         self.rebuilt = rebuilt_after(was_marked, self.rebuilt);
         Ok(())
+    }
+
+    /// Times that tell the input frontier of a node: a time is beyond them if and only if it is beyond
+    /// that frontier. This is for who keeps them and has no use for an antichain. It is answered, and
+    /// refused, as `input_frontier_of` is.
+    ///
+    /// Cost: that of `refresh`, and linear in the elements.
+    pub fn input_times_of(&mut self, node: NodeId) -> Result<Times<T>, Refusal>
+        requires { node < length self.old.nodes }
+        ensures items { self.new.items ≡ self.old.items }
+        ensures nodes { self.new.nodes ≡ self.old.nodes }
+        ensures beyond { IfOk result (λ found. (t : T) → is_beyond T.below found t
+            ≡ is_beyond T.below (input_frontier T.below self.old.nodes self.old.items node) t) }
+        ensures refused { IfErr result (λ refusal. refusal ≡ OutOfMemory) }
+        ensures unmarked { OnOk result ((n : ℕ) → is_marked self.new.marked n
+            ≡ (is_marked self.old.marked n && not (eqb n node))) }
+        ensures unanswered { OnErr result (self.new.marked ≡ self.old.marked) }
+        ensures rebuilt { OnOk result (self.new.rebuilt
+            ≡ rebuilt_after (is_marked self.old.marked node) self.old.rebuilt) }
+        ensures not_rebuilt { OnErr result (self.new.rebuilt ≡ self.old.rebuilt) }
+    {
+        let was_marked = self.table.is_marked(node);
+        let times = self.table.input_times(&self.graph, node, &self.items)?;
+        self.rebuilt = rebuilt_after(was_marked, self.rebuilt);
+        Ok(times)
     }
 
     /// Whether the frontier of a node has passed a time. Takes no memory, and leaves a mark.

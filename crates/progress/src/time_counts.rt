@@ -1,29 +1,27 @@
 //! How often each time is counted at one place. A bulk load has very many bundles in flight at a few
-//! times, so the times stand in a tree, each with a number. Counting one more or one less takes a
-//! step down that tree.
+//! times, so each time has one entry with a number. Counting one more or one less finds that entry.
 //!
 //! A later time in place of an earlier one may need a new entry, but a downgrade takes no memory. So
-//! there is always room in a list for as many times as are counted. The list is used only if the
-//! tree is refused memory, and mostly it is empty.
-ghost use Rattle.std.specs.Prelude.{◌≡◌, ◌<◌, ◌≤◌, ◌||◌, [], ◌∷◌, ◌++◌, true, false, IsTrue, IfErr, OnErr, OnOk, Contains, length, slice_index_or};
+//! there is always room in a list for as many times as are counted. The list is used only if a new
+//! entry is refused memory, and mostly it is empty.
+ghost use Rattle.std.specs.Prelude.{◌≡◌, ◌<◌, ◌≤◌, ◌||◌, [], ◌∷◌, ◌++◌, IfErr, OnErr, OnOk, Contains, length, slice_index_or};
 ghost use Rattle.std.specs.Vec.{vec_len, vec_capacity};
 ghost use Rattle.lattice.specs.Frontiers.{is_beyond};
 ghost use Rattle.update.specs.declared.refusal.Refusal.TheVariants.{OutOfMemory};
-ghost use Rattle.progress.specs.Counting.{CountAlike, listed};
+ghost use Rattle.progress.specs.Counting.{CountAlike};
 
-use crate::scan::{insert_all, insert_listed, is_any_listed};
+use crate::entries::Entries;
+use crate::scan::insert_all;
 use antichain::is_beyond;
 use lattice::Lattice;
 use std::alloc::Global;
-use std::collections::BTreeMap;
 use std::marker::Model;
 use update::Refusal;
 
 /// Times, each counted a number of times. A contract sees a list of them.
 #[derive(Drop)]
 pub(crate) struct TimeCounts<T: Lattice> {
-    // By time, how often it is counted beyond the first time.
-    more: BTreeMap<T, usize>,
+    entries: Entries<T>,
     // What a downgrade counted while memory was refused. There is room for all that is counted.
     moved: Vec<T>,
     // How many times are counted in all.
@@ -33,13 +31,12 @@ pub(crate) struct TimeCounts<T: Lattice> {
 impl<T: Lattice> Model for TimeCounts<T> {
     ghost use Rattle.std.specs.Prelude.{◌≡◌, ◌≤◌, ◌++◌, List, length};
     ghost use Rattle.std.specs.Vec.{vec_capacity};
-    ghost use Rattle.progress.specs.Counting.{listed};
 
     ghost Value = { List T };
 
-    ghost view = { λ c. listed c.more.entries ++ c.moved.items };
+    ghost view = { λ c. c.entries ++ c.moved.items };
 
-    ghost invariant = { λ c. (length (listed c.more.entries ++ c.moved.items) ≡ c.len)
+    ghost invariant = { λ c. (length (c.entries ++ c.moved.items) ≡ c.len)
         × (c.len ≤ vec_capacity c.moved) };
 }
 
@@ -49,7 +46,7 @@ impl<T: Lattice> TimeCounts<T> {
         ensures { result ≡ [] }
     {
         TimeCounts {
-            more: BTreeMap::new(alloc),
+            entries: Entries::new(alloc),
             moved: Vec::new(alloc),
             len: 0,
         }
@@ -64,7 +61,7 @@ impl<T: Lattice> TimeCounts<T> {
         ensures unchanged { OnErr result (self.new ≡ self.old) }
     {
         make_room(&mut self.moved, self.len)?;
-        if let Err(_refused) = put(&mut self.more, t) {
+        if let Err(_refused) = self.entries.put(t) {
             return Err(Refusal::OutOfMemory);
         }
         self.len += 1;
@@ -79,7 +76,7 @@ impl<T: Lattice> TimeCounts<T> {
         requires { Contains self.old t.now }
         ensures { CountAlike (t.now ∷ self.new) self.old }
     {
-        take(&mut self.more, &mut self.moved, t);
+        take(&mut self.entries, &mut self.moved, t);
         self.len -= 1;
     }
 
@@ -90,8 +87,8 @@ impl<T: Lattice> TimeCounts<T> {
         requires { Contains self.old t.now }
         ensures { CountAlike (t.now ∷ self.new) (later ∷ self.old) }
     {
-        take(&mut self.more, &mut self.moved, t);
-        if let Err(later) = put(&mut self.more, later) {
+        take(&mut self.entries, &mut self.moved, t);
+        if let Err(later) = self.entries.put(later) {
             self.moved.push_reserved(later);
         }
     }
@@ -104,7 +101,7 @@ impl<T: Lattice> TimeCounts<T> {
             ≡ (is_beyond T.below found.old.items s || is_beyond T.below self.now s)) }
         ensures refused { IfErr result (λ refusal. refusal ≡ OutOfMemory) }
     {
-        insert_listed(found, &self.more)?;
+        self.entries.insert_into(found)?;
         insert_all(found, self.moved.as_slice())?;
         Ok(())
     }
@@ -115,7 +112,7 @@ impl<T: Lattice> TimeCounts<T> {
     pub(crate) fn is_any_before(&self, t: &T) -> bool
         ensures { result ≡ is_beyond T.below self.now t.now }
     {
-        is_any_listed(&self.more, t) || is_beyond(self.moved.as_slice(), t)
+        self.entries.is_any_before(t) || is_beyond(self.moved.as_slice(), t)
     }
 }
 
@@ -134,57 +131,17 @@ fn make_room<T: Lattice>(moved: &mut Vec<T>, len: usize) -> Result<(), Refusal>
     Ok(())
 }
 
-// Counts a time once more. Memory is refused only to a time that is not counted yet; then the time
-// is handed back.
-fn put<T: Lattice>(more: &mut BTreeMap<T, usize>, t: T) -> Result<(), T>
-    requires { length (listed more.old.entries) < 18446744073709551615 }
-    ensures counted { OnOk result
-        (CountAlike (listed more.new.entries) (t ∷ listed more.old.entries)) }
-    ensures back { IfErr result (λ back. back ≡ t) }
-    ensures unchanged { OnErr result (more.new.entries ≡ more.old.entries) }
-{
-    if let Some(number) = more.get_mut(&t) {
-        *number += 1;
-        return Ok(());
-    }
-    match more.insert(t, 0) {
-        Ok(_) => Ok(()),
-        Err(failed) => {
-            let (t, _) = failed.value;
-            Err(t)
-        }
-    }
-}
-
 // Counts a time once less, wherever it stands.
-fn take<T: Lattice>(more: &mut BTreeMap<T, usize>, moved: &mut Vec<T>, t: &T)
-    requires { Contains (listed more.old.entries ++ moved.old.items) t.now }
-    ensures counted { CountAlike (t.now ∷ (listed more.new.entries ++ moved.new.items))
-        (listed more.old.entries ++ moved.old.items) }
+fn take<T: Lattice>(entries: &mut Entries<T>, moved: &mut Vec<T>, t: &T)
+    requires { Contains (entries.old ++ moved.old.items) t.now }
+    ensures counted { CountAlike (t.now ∷ (entries.new ++ moved.new.items))
+        (entries.old ++ moved.old.items) }
     ensures room { vec_capacity moved.new ≡ vec_capacity moved.old }
 {
-    if !take_listed(more, t) {
+    if !entries.take(t) {
         let number = position(moved.as_slice(), t);
         let _ = moved.remove(number);
     }
-}
-
-// Counts a time once less, if it has an entry, and tells whether it has one.
-fn take_listed<T: Lattice>(more: &mut BTreeMap<T, usize>, t: &T) -> bool
-    ensures counted { IsTrue result
-        → CountAlike (t.now ∷ listed more.new.entries) (listed more.old.entries) }
-    ensures missing { result ≡ false → Contains (listed more.old.entries) t.now → ⊥ }
-    ensures unchanged { result ≡ false → more.new.entries ≡ more.old.entries }
-{
-    let Some(number) = more.get_mut(t) else {
-        return false;
-    };
-    if *number > 0 {
-        *number -= 1;
-        return true;
-    }
-    let _ = more.remove(t);
-    true
 }
 
 // The number of a time. It must be there; which of several does not matter. Times are equal if each

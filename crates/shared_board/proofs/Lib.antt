@@ -4,3 +4,4 @@ pub mod SharedReadingLemmas
 pub mod ActorLemmas
 pub mod ApartLemmas
 pub mod QuietLemmas
+pub mod TakenLemmas

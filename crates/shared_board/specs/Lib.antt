@@ -4,3 +4,4 @@ pub mod Widths
 pub mod Tenures
 pub mod Found
 pub mod Large
+pub mod Pieces

@@ -30,12 +30,15 @@ ghost use Rattle.shared_board.specs.Large.{HasNoSmallBound};
 ghost use Rattle.shared_board.specs.Tenures.{IsKeptBeside, StandsFor, WaitsOrNot, doing, left_by, terms_for, terms_of_board, feed_refusal_in, advance_refusal_in, allow_refusal_in, read_refusal_in, changes_refusal_in, IsReadRefusalIn, IsChangesRefusalIn};
 ghost use Rattle.shared_board.specs.Widths.{are_wide_for};
 
+mod taking;
+
 use antichain::Antichain;
 use lattice::Minimum;
 use machine::{Board, Bundle, CutEmission, Ungiven};
 use plan::{NodeId, Plan};
 use std::alloc::Global;
 use std::marker::Model;
+pub use taking::Taken;
 use update::{Bag, Refusal, Times, Update};
 
 /// A board, and what its actors tell one another beside it. A contract sees all of it as a

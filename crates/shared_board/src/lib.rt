@@ -19,7 +19,7 @@ mod opening;
 mod protocol;
 
 pub use actor::Actor;
-pub use board::SharedBoard;
+pub use board::{SharedBoard, Taken};
 pub use event::Doing;
 pub use laws::{
     bundles_taken_have_their_width, gives_depend_on_their_worker, one_client_makes_all_changes,

@@ -20,14 +20,14 @@ use Rattle.machine.specs.declared.board.pieces.Piece.{Piece}
 use Rattle.machine.specs.declared.board.pieces.Piece.TheVariants.{Waiting, Held}
 use Rattle.histories.specs.Histories.{state_after}
 use Rattle.histories.specs.Histories.Dataflows.{node_of}
-use Rattle.histories.specs.Histories.States.{place}
+use Rattle.histories.specs.Histories.States.{State, place}
 use Rattle.machine.specs.Boards.{BoardState, IsBoard, Stands}
 use Rattle.outstanding.specs.Loads.{Load, bundle_at, no_lot, loads_at, lot_of, queue_of}
 use Rattle.machine.specs.Boards.Reads.{input_front, is_ready}
-use Rattle.machine.specs.Boards.Pieces.{takable, takable_at, pieces_waiting, pieces_held, pieces_at, pieces, IsPiece, MayTake, HasNoPiece}
+use Rattle.machine.specs.Boards.Pieces.{takable, takable_at, pieces_waiting, pieces_held, pieces_at, pieces, waiting_in, held_in, pieces_in, IsPiece, MayTake, HasNoPiece}
 use Rattle.progress.proofs.NumberLemmas.{numbers_long}
 use Rattle.outstanding.proofs.SiteLemmas.{among_any}
-use Rattle.machine.proofs.BoardLemmas.FrontLemmas.{input_front_stands, may_turn}
+use Rattle.machine.proofs.BoardLemmas.FrontLemmas.{input_front_stands, may_turn, ready_stands}
 
 -- ---- answers
 
@@ -250,3 +250,16 @@ module _ {T : Type 0} (below : T → T → Bool) where
       bundles = λ site same. sym (s.queues site) ∙ no_bundle e site same;
       held = λ n t c. ap not (sym (input_front_stands below o minimum b board h s n t)) ∙ no_held e n t (subst (λ ts. Contains ts t) (sym (s.held n k)) c);
     }
+
+    -- the pieces are those of the state that the history leaves
+    pub pieces_stand : pieces below b k ≡ pieces_in below b.dataflow (state_after below minimum b.dataflow h) k
+    pieces_stand = λ i. flat_map (λ n. at n i) (numbers_below (length b.dataflow.nodes))
+      where
+        w : State T
+        w = state_after below minimum b.dataflow h
+
+        waiting : (site : Site) → pieces_waiting b site ≡ waiting_in below b.dataflow w k site
+        waiting site = ap (λ waits. map (λ number. Waiting site number) (numbers_below (takable (arranged_by (node_of b.dataflow site.node)) (length waits)))) (s.queues site)
+
+        at : (n : ℕ) → pieces_at below b k n ≡ waiting_in below b.dataflow w k (place n 0 k) ++ (waiting_in below b.dataflow w k (place n 1 k) ++ held_in below b.dataflow w k n)
+        at n i = waiting (place n 0 k) i ++ (waiting (place n 1 k) i ++ cond (ready_stands below o minimum b board h s k n i) (Held n ∷ []) [])

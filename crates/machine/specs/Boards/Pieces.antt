@@ -1,8 +1,9 @@
 -- The pieces that a worker may take, in the order in which they are numbered: by node, and at a
--- node by port and arrival, the held times last. `MayTake` and `HasNoPiece` say of a history what a
--- piece is good for, and what it means that there is none.
+-- node by port and arrival, the held times last. `pieces` are those on a board, and `pieces_in` those
+-- in a state. `MayTake` and `HasNoPiece` say of a state what a piece is good for, and what it means
+-- that there is none.
 use Rattle.std.specs.Prelude.{◌≡◌, ◌<◌, ℕ, zero, suc, Bool, false, ◌++◌, if◌then◌else◌, List, [], ◌∷◌, map, length, Option, Some, None, IsTrue, Contains}
-use Rattle.std.specs.List.{flat_map}
+use Rattle.std.specs.List.{flat_map, list_any}
 use Rattle.plan.specs.Ancestors.{numbers_below}
 use Rattle.plan.specs.Changes.{has_passed}
 use Rattle.plan.specs.Nodes.{arranged_by}
@@ -83,6 +84,20 @@ module _ {T : Type 0} (below : T → T → Bool) where
     abbrev pub MayTake : Piece → Type 0
     MayTake piece = w.hand k ≡ None → IsPieceAllowed piece
 
+    -- the pieces of worker k in the state, numbered as on a board that stands for it
+    abbrev pub waiting_in : Site → List Piece
+    waiting_in site = map (λ number. Waiting site number)
+        (numbers_below (takable (arranged_by (node_of p site.node)) (length (queue site w.in_flight))))
+
+    abbrev pub held_in : ℕ → List Piece
+    held_in n = if list_any (has_passed below (input_frontier below p w n)) (held_at n k w.held)
+        then Held n ∷ []
+        else []
+
+    abbrev pub pieces_in : List Piece
+    pieces_in = flat_map (λ n. waiting_in (place n 0 k) ++ (waiting_in (place n 1 k) ++ held_in n))
+        (numbers_below (length p.nodes))
+
     -- there is nothing for worker k to take: no bundle waits for it, and no time that it holds is
     -- passed
     pub record HasNoPiece : Type 0 where
@@ -94,6 +109,9 @@ module _ {T : Type 0} (below : T → T → Bool) where
     -- the same after a history of the board
     abbrev pub MayTakeOn : ℕ → Piece → Type 0
     MayTakeOn k piece = MayTake (plan_on b h) (state_on below minimum b h) k piece
+
+    abbrev pub pieces_on : ℕ → List Piece
+    pieces_on k = pieces_in (plan_on b h) (state_on below minimum b h) k
 
     abbrev pub HasNoPieceOn : ℕ → Type 0
     HasNoPieceOn k = HasNoPiece (plan_on b h) (state_on below minimum b h) k

@@ -19,7 +19,7 @@ use accounts::Accounts;
 use antichain::Antichain;
 use lattice::Minimum;
 use plan::NodeId;
-use update::Refusal;
+use update::{Refusal, Times};
 
 impl<T: Minimum> Board<T> {
     /// Whether the frontier of a node has passed a time: nothing that is in flight, held or open at
@@ -92,6 +92,25 @@ impl<T: Minimum> Board<T> {
     {
         self.known();
         self.accounts.input_frontier(node)
+    }
+
+    /// Times that tell the input frontier of a node: a time is beyond them if and only if it is beyond
+    /// that frontier. A worker keeps them from the turn to the node until it has computed. Refused only
+    /// with `OutOfMemory`.
+    ///
+    /// Cost: that of [`Tally::input_times_of`](progress::Tally::input_times_of).
+    pub fn input_times(&mut self, node: NodeId) -> Result<Times<T>, Refusal>
+        requires { node < length self.old.dataflow.nodes }
+        ensures kept { self.new ≡ self.old }
+        ensures beyond { IfOk result (λ found. (t : T)
+            → is_beyond T.below found t ≡ is_beyond T.below (input_front T.below self.old node) t) }
+        ensures stands { (h : List (Event T)) → Stands T.below T.least self.old h
+            → IfOk result (λ found. (t : T) → is_beyond T.below found t
+            ≡ is_beyond T.below (input_frontier_on T.below T.least self.old h node) t) }
+        ensures refused { IfErr result (λ refusal. refusal ≡ OutOfMemory) }
+    {
+        self.known();
+        self.accounts.input_times(node)
     }
 
     /// Whether a worker holds a time at a node that the node's input frontier has passed. If so, it

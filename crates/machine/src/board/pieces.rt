@@ -14,7 +14,7 @@ ghost use Rattle.std.specs.Prelude.{◌≡◌, ◌<◌, ◌+◌, ◌%◌, List, 
 ghost use Rattle.histories.specs.declared.event.Event.{Event};
 ghost use Rattle.histories.specs.Histories.States.{place};
 ghost use Rattle.machine.specs.Boards.{IsBoard, Stands};
-ghost use Rattle.machine.specs.Boards.Pieces.{takable_at, pieces_held, pieces_at, pieces, IsPiece, MayTakeOn, HasNoPieceOn};
+ghost use Rattle.machine.specs.Boards.Pieces.{takable_at, pieces_held, pieces_at, pieces, pieces_on, IsPiece, MayTakeOn, HasNoPieceOn};
 
 use crate::board::Board;
 use histories::Site;
@@ -72,6 +72,9 @@ impl<T: Minimum> Board<T> {
         ensures piece { IfSome result (IsPiece T.below self.old worker) }
         ensures stands { (h : List (Event T)) → Stands T.below T.least self.old h
             → IfSome result (MayTakeOn T.below T.least self.old h worker) }
+        ensures numbered { (h : List (Event T)) → Stands T.below T.least self.old h
+            → let all = pieces_on T.below T.least self.old h worker in
+            result ≡ slice_get all (pick % length all) }
         ensures idle { (h : List (Event T)) → Stands T.below T.least self.old h
             → result ≡ None → HasNoPieceOn T.below T.least self.old h worker }
     {

@@ -3,19 +3,54 @@
 //!
 //! A worker that may not wait has something else to do meanwhile, or is stepped by a caller that has
 //! other workers to step.
-ghost use Rattle.std.specs.Prelude.{◌≡◌, ◌<◌, IfOk, IfErr, IsTrue, OnOk, length};
+ghost use Rattle.std.specs.Prelude.{◌≡◌, ◌<◌, None, IfOk, IfErr, IfSome, IsTrue, OnOk, length};
+ghost use Rattle.update.specs.declared.refusal.Refusal.TheVariants.{OutOfMemory};
 ghost use Rattle.histories.specs.declared.event.Event.TheVariants.{Give, Look};
 ghost use Rattle.histories.specs.Histories.{IsGive};
+ghost use Rattle.shared_board.specs.Pieces.{IsTakenIn};
 ghost use Rattle.shared_board.specs.Tenures.{Adds, terms_in, state_left};
 ghost use Rattle.shared_board.specs.Widths.{are_wide_for};
 
 use crate::actor::Actor;
+use crate::board::Taken;
 use crate::protocol::BoardProtocol;
 use lattice::Minimum;
 use machine::{CutEmission, Ungiven};
-use update::Times;
+use update::{Refusal, Times};
 
 impl<T: Minimum, P: BoardProtocol<T>> Actor<T, P> {
+    /// A worker with nothing in hand takes a piece, as
+    /// [`SharedBoard::take_piece`](crate::SharedBoard::take_piece) says, if the board is there. `None`
+    /// if another actor has it; then this one has seen nothing. Refused only with `OutOfMemory`; then
+    /// the event is a look.
+    pub fn try_take_piece(&mut self, pick: usize) -> Option<Result<Taken<T>, Refusal>>
+        requires worker { self.old.number < (terms_in self.old.seen).dataflow.workers }
+        requires free { (state_left T.below T.least self.old).hand self.old.number ≡ None }
+        ensures taken { IfSome result (λ r.
+            IfOk r (IsTakenIn T.below T.least self.old self.new pick)) }
+        ensures refused { IfSome result (λ r. IfErr r (λ refusal. (refusal ≡ OutOfMemory)
+            × Adds self.old (Look self.old.number) self.new)) }
+        ensures busy { result ≡ None → self.new ≡ self.old }
+    {
+        let Some(pass) = self.pass.take() else {
+            unreachable!()
+        };
+        match self.hub.try_enter(pass) {
+            Ok(home) => {
+                let mut tenure = home;
+                let board = tenure.state();
+                let answer = board.take_piece(self.number, pick);
+                self.accepted = board.accepted();
+                self.pass = Some(tenure.leave());
+                Some(answer)
+            }
+            Err(same) => {
+                self.pass = Some(same);
+                None
+            }
+        }
+    }
+
     /// A worker gives what it computed at the node that it has in hand, as [`give`](Actor::give)
     /// says, if the board is there. The outer `Err` has all arguments, since another actor had the
     /// board, and the actor has seen nothing. So has the inner one, since memory was refused; then the

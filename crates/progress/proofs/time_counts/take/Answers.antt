@@ -2,7 +2,6 @@ use Rattle.std.proofs.Common.{◌≡◌, ◌<◌, false, ◌∷◌, ◌++◌, le
 use Rattle.std.specs.List.{filter, remove}
 use Rattle.std.specs.Prelude.{Contains, slice_index_or}
 use Rattle.antichain.proofs.Lists.{among_contains, contains_among}
-use Rattle.progress.specs.Counting.{listed}
 use Rattle.progress.specs.Counting.{CountAlike}
 use Rattle.progress.proofs.CountLemmas.{removed}
 use Rattle.progress.proofs.CountingLemmas.{among_both, carried}
@@ -10,24 +9,24 @@ use Rattle.progress.proofs.time_counts.take.Goals as goal
 
 pub position-number-requires : goal.position-number-requires
 position-number-requires g c =
-    let no : c.take_listed.result ≡ false = search rules in
+    let no : c.take.result ≡ false = search rules in
     let x = c.args.t.now in
-    let entered = listed c.args.more.now.entries in
+    let entered = c.args.entries.now in
     let moved = c.args.moved.now.items in
     ⊎_elim
-    (λ a. absurd (c.take_listed.ensures.missing no (contains_among x entered a)))
+    (λ a. absurd (c.take.ensures.missing no (contains_among x entered a)))
     (λ b. subst (λ xs. Contains xs x) (sym c.as_slice.ensures.value) (contains_among x moved b))
     (among_both entered moved x (among_contains x (entered ++ moved) c.requires))
 
-pub returns-then-not-take_listed-clause-counted : goal.returns-then-not-take_listed-clause-counted
-returns-then-not-take_listed-clause-counted g c test =
-    let no : c.take_listed.result ≡ false = search rules in
+pub returns-then-not-take-clause-counted : goal.returns-then-not-take-clause-counted
+returns-then-not-take-clause-counted g c test =
+    let no : c.take.result ≡ false = search rules in
     let x = c.args.t.now in
-    let entered = listed c.args.more.now.entries in
+    let entered = c.args.entries.now in
     let moved = c.args.moved.now.items in
     let number = c.position-number.result in
     let within = subst (λ xs. number < length xs) c.as_slice.ensures.value c.position-number.ensures.within in
     let there = subst (λ xs. slice_index_or xs number x ≡ x) c.as_slice.ensures.value c.position-number.ensures.there in
     let less : CountAlike (x ∷ remove moved number) moved = removed moved number x within (sym there) in
-    (λ i. length (filter test (x ∷ (listed (c.take_listed.ensures.unchanged no i) ++ c.remove.ensures.items i))))
+    (λ i. length (filter test (x ∷ (c.take.ensures.unchanged no i ++ c.remove.ensures.items i))))
     ∙ sym (carried entered moved (remove moved number) x (λ p. sym (less p)) test)

@@ -1,5 +1,7 @@
+use Rattle.std.proofs.Common.{◌%◌, length, ap, ◌∙◌}
+use Rattle.std.specs.Prelude.{slice_get}
 use Rattle.machine.specs.Boards.Pieces.{IsPiece, MayTakeOn}
-use Rattle.machine.proofs.BoardLemmas.PieceLemmas.{on_some, piece_allowed, no_piece}
+use Rattle.machine.proofs.BoardLemmas.PieceLemmas.{on_some, piece_allowed, pieces_stand, no_piece}
 use Rattle.machine.proofs.board.Board.piece_at.Goals as goal
 
 pub returns-clause-stands : goal.returns-clause-stands
@@ -13,3 +15,8 @@ returns-clause-stands g c h s =
 pub returns-clause-idle : goal.returns-clause-idle
 returns-clause-idle g c h s e =
     no_piece g.T.PartialOrder.below g.met.T.PartialOrder.order g.T.Minimum.least c.args.self.now c.pick.ensures.board h s c.args.worker (c.pick.ensures.none e)
+
+pub returns-clause-numbered : goal.returns-clause-numbered
+returns-clause-numbered g c h s =
+    c.pick.ensures.value
+    ∙ ap (λ all. slice_get all (c.args.pick % length all)) (pieces_stand g.T.PartialOrder.below g.met.T.PartialOrder.order g.T.Minimum.least c.args.self.now c.pick.ensures.board h s c.args.worker)

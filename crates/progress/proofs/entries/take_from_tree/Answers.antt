@@ -6,13 +6,13 @@ use Rattle.antichain.proofs.Lists.{among_contains}
 use Rattle.progress.specs.Counting.{listed}
 use Rattle.progress.proofs.CountingLemmas.{dropped, missing, same_value, written}
 use Rattle.progress.proofs.TieLemmas.{one_tied, tied_one}
-use Rattle.progress.proofs.time_counts.take_listed.Goals as goal
+use Rattle.progress.proofs.entries.take_from_tree.Goals as goal
 
 pub returns-in_default-clause-missing : goal.returns-in_default-clause-missing
 returns-in_default-clause-missing g c e there =
     let x = c.args.t.now in
     let at = is_at (g.T.Ord.cmp x) in
-    let es = c.args.more.now.entries in
+    let es = c.args.others.now.entries in
     let look : lookup at es ≡ None = sym c.in_default.ensures.value in
     missing at x es (one_tied g.T.Ord.cmp g.met.T.Ord.total x) look (among_contains x (listed es) there)
 
@@ -20,7 +20,7 @@ pub returns-then-number-gt0-clause-counted : goal.returns-then-number-gt0-clause
 returns-then-number-gt0-clause-counted g c _ test =
     let x = c.args.t.now in
     let at = is_at (g.T.Ord.cmp x) in
-    let es = c.args.more.now.entries in
+    let es = c.args.others.now.entries in
     let v = c.in-Some.number.now in
     let look : lookup at es ≡ Some v = sym c.in-Some.ensures.value in
     let after : (c.get_mut.follows.lender (v - 1)).entries ≡ set_value at es (v - 1) = (c.get_mut.follows.holds (v - 1)).0 in
@@ -34,7 +34,7 @@ pub returns-clause-counted : goal.returns-clause-counted
 returns-clause-counted g c _ test =
     let x = c.args.t.now in
     let at = is_at (g.T.Ord.cmp x) in
-    let es = c.args.more.now.entries in
+    let es = c.args.others.now.entries in
     let v = c.in-Some.number.now in
     let none = c.if-number-gt0.false in
     let zero_left : v ≡ 0 = omega (arith, none) in

@@ -1,0 +1,23 @@
+use Rattle.std.proofs.Common.{◌≡◌, List, None, subst}
+use Rattle.hub.specs.declared.view.Entry.{Entry}
+use Rattle.hub.specs.Histories.{entry}
+use Rattle.histories.specs.declared.event.Site.{Site}
+use Rattle.shared_board.specs.declared.event.Doing.{Doing}
+use Rattle.shared_board.specs.Tenures.{SharedState, StandsFor, doing, events, left_by, terms_of_board}
+use Rattle.machine.specs.Boards.Pieces.{HasNoPiece}
+use Rattle.shared_board.specs.Pieces.{piece_of}
+use Rattle.shared_board.proofs.board.SharedBoard.picked.Goals as goal
+
+pub returns-clause-numbered : goal.returns-clause-numbered
+returns-clause-numbered g c =
+    let below = g.T.PartialOrder.below in
+    let least = g.T.Minimum.least in
+    subst (λ (b : SharedState g.row.T.Denot). (es : List (Entry (Doing g.row.T.Denot))) → StandsFor below least g.T.Ord.cmp b es → c.piece_at.result ≡ piece_of below b.board.dataflow (left_by below least b.board.dataflow es) c.args.worker c.args.pick) c.self.view_is
+    (λ es a. c.piece_at.ensures.numbered (events es) a.stands)
+
+pub returns-clause-idle : goal.returns-clause-idle
+returns-clause-idle g c =
+    let below = g.T.PartialOrder.below in
+    let least = g.T.Minimum.least in
+    subst (λ (b : SharedState g.row.T.Denot). (es : List (Entry (Doing g.row.T.Denot))) → StandsFor below least g.T.Ord.cmp b es → c.piece_at.result ≡ None → HasNoPiece below b.board.dataflow (left_by below least b.board.dataflow es) c.args.worker) c.self.view_is
+    (λ es a. c.piece_at.ensures.idle (events es) a.stands)

@@ -1,0 +1,170 @@
+//! What a worker with nothing in hand takes, in one tenure: a bundle that waits for it, or the times
+//! that it holds at a node, if the node's input frontier has passed one of them.
+//!
+//! A worker among many cannot know what waits for it. It may not look first and take later either,
+//! since that would be two tenures for a piece. So the search and the take are one call, and one event.
+//! If there is no piece, then the event is a look, and the answer says whether the board is quiet.
+ghost use Rattle.std.specs.Prelude.{◌≡◌, ◌<◌, ℕ, List, ◌∷◌, None, IfOk, IfErr, IfSome, IsTrue, length, get_or};
+ghost use Rattle.lattice.specs.Frontiers.{is_beyond};
+ghost use Rattle.hub.specs.declared.view.Entry.{Entry};
+ghost use Rattle.hub.specs.Histories.{entry};
+ghost use Rattle.update.specs.declared.refusal.Refusal.TheVariants.{OutOfMemory};
+ghost use Rattle.plan.specs.Nodes.{arranged_by};
+ghost use Rattle.histories.specs.declared.event.Event.TheVariants.{Look, Take, TakeHeld};
+ghost use Rattle.histories.specs.Histories.Dataflows.{node_of};
+ghost use Rattle.histories.specs.Histories.Outstanding.{input_frontier};
+ghost use Rattle.outstanding.specs.Loads.{queue_of};
+ghost use Rattle.machine.specs.Boards.Pieces.{IsPiece, HasNoPiece};
+ghost use Rattle.machine.specs.Boards.Reads.{is_ready};
+ghost use Rattle.shared_board.specs.declared.event.Doing.{Doing};
+ghost use Rattle.shared_board.specs.Pieces.{IsTaken, TellsMore, piece_of};
+ghost use Rattle.shared_board.specs.Tenures.{IsKeptBeside, StandsFor, WaitsOrNot, doing, left_by, terms_of_board};
+
+use crate::board::SharedBoard;
+use lattice::Minimum;
+use machine::{Bundle, Piece, Site};
+use plan::NodeId;
+use update::{Refusal, Times};
+
+/// What a worker with nothing in hand got in a tenure.
+#[derive(Drop)]
+pub enum Taken<T: Minimum> {
+    /// A bundle that waited for it.
+    Bundled {
+        /// The bundle.
+        bundle: Bundle<T>,
+        /// Whether more bundles wait for it at that node.
+        more: bool,
+    },
+    /// A node, where it holds a time that the input frontier has passed.
+    Turned {
+        /// The node.
+        node: NodeId,
+        /// Times that tell the input frontier: what is beyond them is beyond it.
+        upper: Times<T>,
+    },
+    /// Nothing, since there is no piece for it.
+    Nothing {
+        /// Whether the board is quiet.
+        quiet: bool,
+    },
+}
+
+impl<T: Minimum> SharedBoard<T> {
+    /// A worker with nothing in hand takes a piece: that of a number among those that it may take, as
+    /// [`Board::piece_at`](machine::Board::piece_at) counts them. With a bundle comes whether more wait
+    /// at its node; with held times, what tells the input frontier there. If there is no piece, then
+    /// the event is a look. Refused only with `OutOfMemory`; then it is a look too.
+    ///
+    /// Cost: that of [`Board::piece_at`](machine::Board::piece_at); if there is none, also that of
+    /// [`Board::is_quiet`](machine::Board::is_quiet).
+    pub fn take_piece(&mut self, worker: usize, pick: usize) -> Result<Taken<T>, Refusal>
+        requires worker { worker < self.old.board.dataflow.workers }
+        requires free { get_or self.old.board.hand worker None ≡ None }
+        ensures terms { terms_of_board self.new ≡ terms_of_board self.old }
+        ensures beside { IsKeptBeside self.old self.new }
+        ensures taken { IfOk result (λ taken.
+            (es : List (Entry (Doing T))) → StandsFor T.below T.least T.cmp self.old es
+            → IsTaken T.below self.old.board.dataflow
+            (left_by T.below T.least self.old.board.dataflow es) worker pick
+            self.new.board.last taken) }
+        ensures more { IfOk result
+            (TellsMore (λ more n. WaitsOrNot more n worker self.new.board.stations)) }
+        ensures refused { IfErr result (λ refusal. (refusal ≡ OutOfMemory)
+            × (self.new.board.last ≡ Look worker)) }
+        ensures stands { (es : List (Entry (Doing T))) → StandsFor T.below T.least T.cmp self.old es
+            → StandsFor T.below T.least T.cmp self.new
+            (entry worker (doing (terms_of_board self.old) self.new.board.last) ∷ es) }
+    {
+        match self.picked(worker, pick) {
+            Some(Piece::Waiting { site, number }) => {
+                let (bundle, more) = self.take_at(site, number)?;
+                Ok(Taken::Bundled { bundle, more })
+            }
+            Some(Piece::Held { node }) => {
+                let upper = self.turn_to(worker, node)?;
+                Ok(Taken::Turned { node, upper })
+            }
+            None => {
+                let quiet = self.is_quiet(worker);
+                Ok(Taken::Nothing { quiet })
+            }
+        }
+    }
+
+    // The piece of a number among those that the worker may take.
+    fn picked(&mut self, worker: usize, pick: usize) -> Option<Piece>
+        requires { worker < self.old.board.dataflow.workers }
+        ensures kept { self.new ≡ self.old }
+        ensures piece { IfSome result (IsPiece T.below self.old.board worker) }
+        ensures numbered { (es : List (Entry (Doing T)))
+            → StandsFor T.below T.least T.cmp self.old es
+            → result ≡ piece_of T.below self.old.board.dataflow
+            (left_by T.below T.least self.old.board.dataflow es) worker pick }
+        ensures idle { (es : List (Entry (Doing T)))
+            → StandsFor T.below T.least T.cmp self.old es → result ≡ None
+            → HasNoPiece T.below self.old.board.dataflow
+            (left_by T.below T.least self.old.board.dataflow es) worker }
+    {
+        self.board.piece_at(worker, pick)
+    }
+
+    // A worker takes the bundle of a number that waits at a place. With it comes whether more wait at
+    // the node.
+    fn take_at(&mut self, site: Site, number: usize) -> Result<(Bundle<T>, bool), Refusal>
+        requires worker { site.worker < self.old.board.dataflow.workers }
+        requires free { get_or self.old.board.hand site.worker None ≡ None }
+        requires waits { number < length (queue_of self.old.board.stations site) }
+        requires turn { arranged_by (node_of self.old.board.dataflow site.node) ≡ None
+            → number ≡ 0 }
+        ensures terms { terms_of_board self.new ≡ terms_of_board self.old }
+        ensures beside { IsKeptBeside self.old self.new }
+        ensures taken { IfOk result (λ t. (t.0.place ≡ site)
+            × (self.new.board.last ≡ Take number t.0)) }
+        ensures more { IfOk result (λ t.
+            WaitsOrNot t.1 site.node site.worker self.new.board.stations) }
+        ensures refused { IfErr result (λ refusal. (refusal ≡ OutOfMemory)
+            × (self.new.board.last ≡ Look site.worker)) }
+        ensures stands { (es : List (Entry (Doing T))) → StandsFor T.below T.least T.cmp self.old es
+            → StandsFor T.below T.least T.cmp self.new
+            (entry site.worker (doing (terms_of_board self.old) self.new.board.last) ∷ es) }
+    {
+        let node = site.node;
+        let worker = site.worker;
+        let bundle = self.board.take(site, number)?;
+        let more = self.has_waiting(node, worker);
+        Ok((bundle, more))
+    }
+
+    // A worker turns to the times that it holds at a node, of which the input frontier has passed one.
+    // The answer tells that frontier.
+    fn turn_to(&mut self, worker: usize, node: NodeId) -> Result<Times<T>, Refusal>
+        requires worker { worker < self.old.board.dataflow.workers }
+        requires within { node < length self.old.board.dataflow.nodes }
+        requires free { get_or self.old.board.hand worker None ≡ None }
+        requires ready { IsTrue (is_ready T.below self.old.board worker node) }
+        ensures terms { terms_of_board self.new ≡ terms_of_board self.old }
+        ensures beside { IsKeptBeside self.old self.new }
+        ensures turned { IfOk result (λ upper. (self.new.board.last ≡ TakeHeld worker node)
+            × ((es : List (Entry (Doing T))) → StandsFor T.below T.least T.cmp self.old es
+            → (t : T) → is_beyond T.below upper t ≡ is_beyond T.below
+            (input_frontier T.below self.old.board.dataflow
+            (left_by T.below T.least self.old.board.dataflow es) node) t)) }
+        ensures refused { IfErr result (λ refusal. (refusal ≡ OutOfMemory)
+            × (self.new.board.last ≡ Look worker)) }
+        ensures stands { (es : List (Entry (Doing T))) → StandsFor T.below T.least T.cmp self.old es
+            → StandsFor T.below T.least T.cmp self.new
+            (entry worker (doing (terms_of_board self.old) self.new.board.last) ∷ es) }
+    {
+        match self.board.input_times(node) {
+            Ok(upper) => {
+                self.board.take_held(worker, node);
+                Ok(upper)
+            }
+            Err(refusal) => {
+                self.board.look(worker);
+                Err(refusal)
+            }
+        }
+    }
+}
