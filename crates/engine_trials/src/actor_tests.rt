@@ -20,7 +20,7 @@ use std::sync::Wait;
 use std::test::Fail;
 use trials::at;
 use update::{Bag, Refusal, Update};
-use worker::{Actor, Boards, open, others_change_nothing_of_a_worker};
+use worker::{Actor, Boards, Taken, open, others_change_nothing_of_a_worker};
 
 // The plan of an input of one column and a view of it.
 fn viewed(alloc: Global) -> Result<Plan, Refusal>
@@ -139,6 +139,12 @@ impl<T: Minimum> Idle<T> {
                 Ok(Found::Nothing(Idle { actor }))
             }
         }
+    }
+
+    // Takes a piece if the board is there.
+    fn try_take(self, pick: usize) -> Option<Result<Taken<T>, Refusal>> {
+        let Idle { mut actor } = self;
+        actor.try_take_piece(pick)
     }
 
     // Turns to what it holds at the input.
@@ -286,6 +292,39 @@ fn a_worker_takes_what_a_client_fed(rt: HostRuntime) -> Result<(), Fail> {
 #[test]
 fn a_worker_hears_that_more_waits(rt: HostRuntime) -> Result<(), Fail> {
     let (bundle, more) = is_taken(&rt, rt.alloc(), &[at(0, 1), at(1, 0)])?;
+    assert!(rt; more);
+    assert!(rt; bundle.stamp.as_slice() == [at(0, 1)].as_slice());
+    Ok(())
+}
+
+// What the worker gets that asks for the piece of a number after the client has fed changes at these
+// times. Nobody else is at the board then.
+fn is_tried<T: Minimum, R: Wait + Abort>(
+    rt: &R,
+    alloc: Global,
+    times: &[T],
+    pick: usize,
+) -> Result<Taken<T>, Refusal> {
+    let (worker, mut client) = opened(rt, alloc)?;
+    for time in times {
+        client.feed(rt, alloc, *time)?;
+    }
+    let Some(taken) = worker.try_take(pick) else {
+        panic!(rt; "nobody else has the board")
+    };
+    taken
+}
+
+// No clause says that what was fed waits, or that a worker who comes alone finds the board.
+#[test]
+fn a_worker_finds_its_piece_by_any_number(rt: HostRuntime) -> Result<(), Fail> {
+    let none: &[Bitime] = &[];
+    let nothing = is_tried(&rt, rt.alloc(), none, 3)?;
+    assert!(rt; matches!(nothing, Taken::Nothing { quiet: true }));
+    let found = is_tried(&rt, rt.alloc(), &[at(0, 1), at(1, 0)], 232_792_559)?;
+    let Taken::Bundled { bundle, more } = found else {
+        panic!(rt; "a bundle waits at the input")
+    };
     assert!(rt; more);
     assert!(rt; bundle.stamp.as_slice() == [at(0, 1)].as_slice());
     Ok(())

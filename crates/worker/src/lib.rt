@@ -37,7 +37,7 @@ pub use operator_laws::{
 };
 pub use pass::relay;
 pub use shared_board::{
-    Actor, BitemporalBoards, BoardProtocol, Boards, Doing, SharedBoard,
+    Actor, BitemporalBoards, BoardProtocol, Boards, Doing, SharedBoard, Taken,
     gives_depend_on_their_worker, one_client_makes_all_changes, open,
     others_change_nothing_of_a_worker, quiet_until_the_client_acts,
 };
