@@ -189,17 +189,20 @@ impl<T: Minimum> Arrangement<T> {
         Ok(number)
     }
 
-    /// Keeps updates until the input frontier has passed their times. Their rows have the width of
-    /// the arrangement, and their times are at or after the least one. If memory was refused, then
-    /// the updates are dropped and nothing has changed: [`Refusal::OutOfMemory`] only.
+    /// Moves updates into the arrangement, which keeps them until the input frontier has passed their
+    /// times. Their list is empty then. Their rows have the width of the arrangement, and their times
+    /// are at or after the least one. If memory was refused, then nothing has changed, and the list has
+    /// all of them: [`Refusal::OutOfMemory`] only.
     ///
     /// Cost: each time is compared with all times of which none is before another.
-    pub fn take_in(&mut self, updates: Vec<Update<T>>) -> Result<(), Refusal>
-        requires rows { IsTrue (rows_have self.old.width updates.items) }
-        requires times { IsTrue (times_from T.below T.least updates.items) }
+    pub fn take_in(&mut self, updates: &mut Vec<Update<T>>) -> Result<(), Refusal>
+        requires rows { IsTrue (rows_have self.old.width updates.old.items) }
+        requires times { IsTrue (times_from T.below T.least updates.old.items) }
         ensures waiting { OnOk result
-            (self.new ≡ record self.old { waiting = self.old.waiting ++ updates.items }) }
+            (self.new ≡ record self.old { waiting = self.old.waiting ++ updates.old.items }) }
+        ensures moved { OnOk result (updates.new.items ≡ []) }
         ensures same { OnErr result (self.new ≡ self.old) }
+        ensures left { OnErr result (updates.new.items ≡ updates.old.items) }
         ensures only { IfErr result (λ refused. refused ≡ Refusal.OutOfMemory) }
     {
         self.waiting.take_in(updates)

@@ -57,8 +57,8 @@ pub(crate) fn absorb<T: Minimum, P: BoardProtocol<T>, R: Wait>(
         return Ok(false);
     };
     let Bundle { updates, .. } = bundle;
-    let updates = updates.into_vec(alloc)?;
-    arrangement.take_in(updates)?;
+    let mut updates = updates.into_vec(alloc)?;
+    arrangement.take_in(&mut updates)?;
     let held = arrangement.held(alloc)?;
     hold_back(alloc, rt, worker, node, held)?;
     Ok(more)

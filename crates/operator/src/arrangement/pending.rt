@@ -57,16 +57,19 @@ impl<T: Lattice> Waiting<T> {
         }
     }
 
-    // Adds updates at the end.
-    pub(crate) fn take_in(&mut self, mut updates: Vec<Update<T>>) -> Result<(), Refusal>
-        ensures ok { OnOk result
-            (self.new ≡ record self.old { updates = self.old.updates ++ updates.items }) }
+    // Moves updates to the end, and leaves their list empty. If memory was refused, both are as they
+    // were.
+    pub(crate) fn take_in(&mut self, updates: &mut Vec<Update<T>>) -> Result<(), Refusal>
+        ensures ok { OnOk result (self.new
+            ≡ record self.old { updates = self.old.updates ++ updates.old.items }) }
+        ensures moved { OnOk result (updates.new.items ≡ []) }
         ensures same { OnErr result (self.new ≡ self.old) }
+        ensures left { OnErr result (updates.new.items ≡ updates.old.items) }
         ensures only { IfErr result (λ refused. refused ≡ Refusal.OutOfMemory) }
     {
         let alloc = *self.updates.allocator();
         let front = front_with(alloc, self.front.as_slice(), updates.as_slice())?;
-        self.updates.append(&mut updates)?;
+        self.updates.append(updates)?;
         self.front = front;
         Ok(())
     }
