@@ -4,17 +4,19 @@
 //! A worker among many cannot know what waits for it. It may not look first and take later either,
 //! since that would be two tenures for a piece. So the search and the take are one call, and one event.
 //! If there is no piece, then the event is a look, and the answer says whether the board is quiet.
-ghost use Rattle.std.specs.Prelude.{◌≡◌, ◌<◌, ℕ, List, ◌∷◌, None, IfOk, IfErr, IfSome, IsTrue, length, get_or};
+ghost use Rattle.std.specs.Prelude.{◌≡◌, ◌<◌, ℕ, List, ◌∷◌, None, Some, IfOk, IfErr, IfSome, IsTrue, length, get_or};
 ghost use Rattle.lattice.specs.Frontiers.{is_beyond};
 ghost use Rattle.hub.specs.declared.view.Entry.{Entry};
 ghost use Rattle.hub.specs.Histories.{entry};
 ghost use Rattle.update.specs.declared.refusal.Refusal.TheVariants.{OutOfMemory};
 ghost use Rattle.plan.specs.Nodes.{arranged_by};
 ghost use Rattle.histories.specs.declared.event.Event.TheVariants.{Look, Take, TakeHeld};
-ghost use Rattle.histories.specs.Histories.Dataflows.{node_of};
+ghost use Rattle.histories.specs.Histories.Dataflows.{Dataflow, node_of};
+ghost use Rattle.histories.specs.Histories.States.{State};
 ghost use Rattle.histories.specs.Histories.Outstanding.{input_frontier};
 ghost use Rattle.outstanding.specs.Loads.{queue_of};
 ghost use Rattle.machine.specs.Boards.Pieces.{IsPiece, HasNoPiece};
+ghost use Rattle.machine.specs.declared.board.pieces.Piece.TheVariants.{Waiting, Held};
 ghost use Rattle.machine.specs.Boards.Reads.{is_ready};
 ghost use Rattle.shared_board.specs.declared.event.Doing.{Doing};
 ghost use Rattle.shared_board.specs.Pieces.{IsTaken, TellsMore, piece_of};
@@ -76,19 +78,37 @@ impl<T: Minimum> SharedBoard<T> {
             → StandsFor T.below T.least T.cmp self.new
             (entry worker (doing (terms_of_board self.old) self.new.board.last) ∷ es) }
     {
-        match self.picked(worker, pick) {
-            Some(Piece::Waiting { site, number }) => {
-                let (bundle, more) = self.take_at(site, number)?;
-                Ok(Taken::Bundled { bundle, more })
-            }
-            Some(Piece::Held { node }) => {
-                let upper = self.turn_to(worker, node)?;
-                Ok(Taken::Turned { node, upper })
-            }
-            None => {
-                let quiet = self.is_quiet(worker);
-                Ok(Taken::Nothing { quiet })
-            }
+        let Some(piece) = self.picked(worker, pick) else {
+            return self.find_nothing(worker);
+        };
+        self.take_picked(worker, &piece)
+    }
+
+    // A worker takes a piece that it may take.
+    fn take_picked(&mut self, worker: usize, piece: &Piece) -> Result<Taken<T>, Refusal>
+        requires worker { worker < self.old.board.dataflow.workers }
+        requires free { get_or self.old.board.hand worker None ≡ None }
+        requires piece { IsPiece T.below self.old.board worker piece.now }
+        ensures terms { terms_of_board self.new ≡ terms_of_board self.old }
+        ensures beside { IsKeptBeside self.old self.new }
+        ensures taken { IfOk result (λ taken.
+            (es : List (Entry (Doing T))) → StandsFor T.below T.least T.cmp self.old es
+            → (pick : ℕ) → piece_of T.below self.old.board.dataflow
+            (left_by T.below T.least self.old.board.dataflow es) worker pick ≡ Some piece.now
+            → IsTaken T.below self.old.board.dataflow
+            (left_by T.below T.least self.old.board.dataflow es) worker pick
+            self.new.board.last taken) }
+        ensures more { IfOk result
+            (TellsMore (λ more n. WaitsOrNot more n worker self.new.board.stations)) }
+        ensures refused { IfErr result (λ refusal. (refusal ≡ OutOfMemory)
+            × (self.new.board.last ≡ Look worker)) }
+        ensures stands { (es : List (Entry (Doing T))) → StandsFor T.below T.least T.cmp self.old es
+            → StandsFor T.below T.least T.cmp self.new
+            (entry worker (doing (terms_of_board self.old) self.new.board.last) ∷ es) }
+    {
+        match piece {
+            Piece::Waiting { site, number } => self.take_at(*site, *number),
+            Piece::Held { node } => self.turn_to(worker, *node),
         }
     }
 
@@ -111,7 +131,7 @@ impl<T: Minimum> SharedBoard<T> {
 
     // A worker takes the bundle of a number that waits at a place. With it comes whether more wait at
     // the node.
-    fn take_at(&mut self, site: Site, number: usize) -> Result<(Bundle<T>, bool), Refusal>
+    fn take_at(&mut self, site: Site, number: usize) -> Result<Taken<T>, Refusal>
         requires worker { site.worker < self.old.board.dataflow.workers }
         requires free { get_or self.old.board.hand site.worker None ≡ None }
         requires waits { number < length (queue_of self.old.board.stations site) }
@@ -119,10 +139,11 @@ impl<T: Minimum> SharedBoard<T> {
             → number ≡ 0 }
         ensures terms { terms_of_board self.new ≡ terms_of_board self.old }
         ensures beside { IsKeptBeside self.old self.new }
-        ensures taken { IfOk result (λ t. (t.0.place ≡ site)
-            × (self.new.board.last ≡ Take number t.0)) }
-        ensures more { IfOk result (λ t.
-            WaitsOrNot t.1 site.node site.worker self.new.board.stations) }
+        ensures taken { IfOk result (λ taken. (p : Dataflow) (w : State T) (pick : ℕ)
+            → piece_of T.below p w site.worker pick ≡ Some (Waiting site number)
+            → IsTaken T.below p w site.worker pick self.new.board.last taken) }
+        ensures more { IfOk result
+            (TellsMore (λ more n. WaitsOrNot more n site.worker self.new.board.stations)) }
         ensures refused { IfErr result (λ refusal. (refusal ≡ OutOfMemory)
             × (self.new.board.last ≡ Look site.worker)) }
         ensures stands { (es : List (Entry (Doing T))) → StandsFor T.below T.least T.cmp self.old es
@@ -133,23 +154,27 @@ impl<T: Minimum> SharedBoard<T> {
         let worker = site.worker;
         let bundle = self.board.take(site, number)?;
         let more = self.has_waiting(node, worker);
-        Ok((bundle, more))
+        Ok(Taken::Bundled { bundle, more })
     }
 
     // A worker turns to the times that it holds at a node, of which the input frontier has passed one.
-    // The answer tells that frontier.
-    fn turn_to(&mut self, worker: usize, node: NodeId) -> Result<Times<T>, Refusal>
+    fn turn_to(&mut self, worker: usize, node: NodeId) -> Result<Taken<T>, Refusal>
         requires worker { worker < self.old.board.dataflow.workers }
         requires within { node < length self.old.board.dataflow.nodes }
         requires free { get_or self.old.board.hand worker None ≡ None }
         requires ready { IsTrue (is_ready T.below self.old.board worker node) }
         ensures terms { terms_of_board self.new ≡ terms_of_board self.old }
         ensures beside { IsKeptBeside self.old self.new }
-        ensures turned { IfOk result (λ upper. (self.new.board.last ≡ TakeHeld worker node)
-            × ((es : List (Entry (Doing T))) → StandsFor T.below T.least T.cmp self.old es
-            → (t : T) → is_beyond T.below upper t ≡ is_beyond T.below
-            (input_frontier T.below self.old.board.dataflow
-            (left_by T.below T.least self.old.board.dataflow es) node) t)) }
+        ensures taken { IfOk result (λ taken.
+            (es : List (Entry (Doing T))) → StandsFor T.below T.least T.cmp self.old es
+            → (pick : ℕ) → piece_of T.below self.old.board.dataflow
+            (left_by T.below T.least self.old.board.dataflow es) worker pick
+            ≡ Some (Held node)
+            → IsTaken T.below self.old.board.dataflow
+            (left_by T.below T.least self.old.board.dataflow es) worker pick
+            self.new.board.last taken) }
+        ensures more { IfOk result
+            (TellsMore (λ more n. WaitsOrNot more n worker self.new.board.stations)) }
         ensures refused { IfErr result (λ refusal. (refusal ≡ OutOfMemory)
             × (self.new.board.last ≡ Look worker)) }
         ensures stands { (es : List (Entry (Doing T))) → StandsFor T.below T.least T.cmp self.old es
@@ -159,12 +184,37 @@ impl<T: Minimum> SharedBoard<T> {
         match self.board.input_times(node) {
             Ok(upper) => {
                 self.board.take_held(worker, node);
-                Ok(upper)
+                Ok(Taken::Turned { node, upper })
             }
             Err(refusal) => {
                 self.board.look(worker);
                 Err(refusal)
             }
         }
+    }
+
+    // A worker for which there is no piece looks, and asks whether the board is quiet.
+    fn find_nothing(&mut self, worker: usize) -> Result<Taken<T>, Refusal>
+        requires none { (es : List (Entry (Doing T)))
+            → StandsFor T.below T.least T.cmp self.old es
+            → HasNoPiece T.below self.old.board.dataflow
+            (left_by T.below T.least self.old.board.dataflow es) worker }
+        ensures terms { terms_of_board self.new ≡ terms_of_board self.old }
+        ensures beside { IsKeptBeside self.old self.new }
+        ensures taken { IfOk result (λ taken.
+            (es : List (Entry (Doing T))) → StandsFor T.below T.least T.cmp self.old es
+            → (pick : ℕ) → IsTaken T.below self.old.board.dataflow
+            (left_by T.below T.least self.old.board.dataflow es) worker pick
+            self.new.board.last taken) }
+        ensures more { IfOk result
+            (TellsMore (λ more n. WaitsOrNot more n worker self.new.board.stations)) }
+        ensures refused { IfErr result (λ refusal. (refusal ≡ OutOfMemory)
+            × (self.new.board.last ≡ Look worker)) }
+        ensures stands { (es : List (Entry (Doing T))) → StandsFor T.below T.least T.cmp self.old es
+            → StandsFor T.below T.least T.cmp self.new
+            (entry worker (doing (terms_of_board self.old) self.new.board.last) ∷ es) }
+    {
+        let quiet = self.is_quiet(worker);
+        Ok(Taken::Nothing { quiet })
     }
 }

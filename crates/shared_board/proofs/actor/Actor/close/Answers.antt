@@ -5,8 +5,8 @@ use Rattle.histories.specs.declared.event.Event.{Event}
 use Rattle.histories.specs.declared.event.Event.TheVariants.{Advance}
 use Rattle.histories.specs.Histories.{IsInput}
 use Rattle.shared_board.specs.declared.event.Doing.{Doing}
-use Rattle.shared_board.specs.Tenures.{Adds, Terms, terms_in}
-use Rattle.shared_board.proofs.ActorLemmas.{IsIn, after_tenure, at_board, is_some_at}
+use Rattle.shared_board.specs.Tenures.{Adds, Terms, terms_in, StandsFor}
+use Rattle.shared_board.proofs.ActorLemmas.{IsIn, after_tenure, at_board, is_some_at, leaves}
 use Rattle.shared_board.proofs.actor.Actor.close.Goals as goal
 
 pub close-requires-clause-client : goal.close-requires-clause-client
@@ -41,6 +41,18 @@ close-requires-clause-input g c =
     let same : c.deref_mut.result.now ≡ held.state.value = search rules in
     let self_is : pass ≡ c.args.self.now = search rules in
     at_board g.T.PartialOrder.below g.T.Minimum.least g.T.Ord.cmp pass held.state.value held.hub held.number held.found here (λ (x : Terms). IsInput x.dataflow c.args.input) (subst (λ (k : Known (Doing g.row.T.Denot)). (λ (x : Terms). IsInput x.dataflow c.args.input) (terms_in k.seen)) (sym self_is) c.requires.input) c.deref_mut.result.now same
+
+pub leave-requires : goal.leave-requires
+leave-requires g c =
+    let pass = c.in-Some.pass in
+    let there = is_some_at c.self.inside.pass _ c.self.invariant pass (search rules) in
+    let t = c.enter-tenure.ensures.found in
+    let held = c.enter-tenure.result in
+    let here : IsIn g.T.PartialOrder.below g.T.Minimum.least g.T.Ord.cmp pass held.state.value held.hub held.number held.found = record { actor = there.2; its_hub = t.0.0; its_number = t.0.1; agrees = t.0.2; stands = g.met.P.BoardProtocol.stands_for held.state held.found t.1 } in
+    let same : c.deref_mut.result.now ≡ held.state.value = search rules in
+    let self_is : pass ≡ c.args.self.now = search rules in
+    g.met.P.BoardProtocol.may_stand _ _ (subst (λ (d : Doing _). StandsFor g.T.PartialOrder.below g.T.Minimum.least g.T.Ord.cmp c.close.new.self (entry held.number d ∷ held.found)) (sym (g.met.P.BoardProtocol.last_is _))
+    (leaves g.T.PartialOrder.below g.T.Minimum.least g.T.Ord.cmp pass held.state.value held.hub held.number held.found here c.deref_mut.result.now c.close.new.self c.self.inside.number same there.1 c.close.ensures.terms c.close.ensures.stands))
 
 pub invariant_of-self : goal.invariant_of-self
 invariant_of-self g c =

@@ -1,12 +1,8 @@
-use Rattle.std.proofs.Common.{List, ◌∷◌, rules, ◌≡◌, ◌<◌, sym, subst, ap, ◌∙◌, ℕ, length, None, false}
-use Rattle.std.specs.Prelude.{IfOk, IfErr, IfSome}
+use Rattle.std.proofs.Common.{List, ◌∷◌, rules, ◌≡◌, ◌<◌, sym, subst, ap, ◌∙◌, ℕ, None}
 use Rattle.hub.specs.Histories.{entry}
 use Rattle.hub.specs.Known.{Known}
-use Rattle.update.specs.declared.refusal.Refusal.TheVariants.{OutOfMemory}
 use Rattle.histories.specs.declared.event.Event.{Event}
 use Rattle.histories.specs.declared.event.Event.TheVariants.{Look}
-use Rattle.histories.specs.Histories.Dataflows.{Dataflow}
-use Rattle.histories.specs.Histories.States.{State}
 use Rattle.shared_board.specs.declared.event.Doing.{Doing}
 use Rattle.shared_board.specs.Pieces.{IsTaken, IsTakenIn, TellsMore}
 use Rattle.hub.specs.declared.view.Entry.{Entry}
@@ -24,7 +20,7 @@ take_piece-answer-requires g c =
     let here : IsIn g.T.PartialOrder.below g.T.Minimum.least g.T.Ord.cmp pass held.state.value held.hub held.number held.found = record { actor = there.2; its_hub = t.0.0; its_number = t.0.1; agrees = t.0.2; stands = g.met.P.BoardProtocol.stands_for held.state held.found t.1 } in
     let same : c.deref_mut.result.now ≡ held.state.value = search rules in
     let self_is : pass ≡ c.args.self.now = search rules in
-    (search rules, (subst (λ n. n < c.deref_mut.result.now.board.dataflow.workers) there.1 (at_board g.T.PartialOrder.below g.T.Minimum.least g.T.Ord.cmp pass held.state.value held.hub held.number held.found here (λ (x : Terms). pass.number < x.dataflow.workers) (subst (λ (k : Known (Doing g.row.T.Denot)). (λ (x : Terms). pass.number < x.dataflow.workers) (terms_in k.seen)) (sym self_is) (subst (λ n. n < (terms_in c.args.self.now.seen).dataflow.workers) (ap (λ (k : Known (Doing g.row.T.Denot)). k.number) (sym self_is)) c.requires.worker)) c.deref_mut.result.now same), hand_found g.T.PartialOrder.below g.T.Minimum.least g.T.Ord.cmp pass held.state.value held.hub held.number held.found here c.deref_mut.result.now same c.self.inside.number there.1 (subst (λ n. n < c.deref_mut.result.now.board.dataflow.workers) there.1 (at_board g.T.PartialOrder.below g.T.Minimum.least g.T.Ord.cmp pass held.state.value held.hub held.number held.found here (λ (x : Terms). pass.number < x.dataflow.workers) (subst (λ (k : Known (Doing g.row.T.Denot)). (λ (x : Terms). pass.number < x.dataflow.workers) (terms_in k.seen)) (sym self_is) (subst (λ n. n < (terms_in c.args.self.now.seen).dataflow.workers) (ap (λ (k : Known (Doing g.row.T.Denot)). k.number) (sym self_is)) c.requires.worker)) c.deref_mut.result.now same)) (subst (λ (k : Known (Doing g.row.T.Denot)). (state_left g.T.PartialOrder.below g.T.Minimum.least k).hand k.number ≡ None) (sym self_is) c.requires.free)))
+    record { worker = subst (λ n. n < c.deref_mut.result.now.board.dataflow.workers) there.1 (at_board g.T.PartialOrder.below g.T.Minimum.least g.T.Ord.cmp pass held.state.value held.hub held.number held.found here (λ (x : Terms). pass.number < x.dataflow.workers) (subst (λ (k : Known (Doing g.row.T.Denot)). (λ (x : Terms). pass.number < x.dataflow.workers) (terms_in k.seen)) (sym self_is) (subst (λ n. n < (terms_in c.args.self.now.seen).dataflow.workers) (ap (λ (k : Known (Doing g.row.T.Denot)). k.number) (sym self_is)) c.requires.worker)) c.deref_mut.result.now same); free = hand_found g.T.PartialOrder.below g.T.Minimum.least g.T.Ord.cmp pass held.state.value held.hub held.number held.found here c.deref_mut.result.now same c.self.inside.number there.1 (subst (λ n. n < c.deref_mut.result.now.board.dataflow.workers) there.1 (at_board g.T.PartialOrder.below g.T.Minimum.least g.T.Ord.cmp pass held.state.value held.hub held.number held.found here (λ (x : Terms). pass.number < x.dataflow.workers) (subst (λ (k : Known (Doing g.row.T.Denot)). (λ (x : Terms). pass.number < x.dataflow.workers) (terms_in k.seen)) (sym self_is) (subst (λ n. n < (terms_in c.args.self.now.seen).dataflow.workers) (ap (λ (k : Known (Doing g.row.T.Denot)). k.number) (sym self_is)) c.requires.worker)) c.deref_mut.result.now same)) (subst (λ (k : Known (Doing g.row.T.Denot)). (state_left g.T.PartialOrder.below g.T.Minimum.least k).hand k.number ≡ None) (sym self_is) c.requires.free) }
 
 pub leave-requires : goal.leave-requires
 leave-requires g c =
@@ -64,12 +60,12 @@ returns-in-Ok-clause-taken g c =
     let m = c.deref_mut.result.now in
     let left = c.take_piece-answer.new.self in
     both_ok c.take_piece-answer.result _ _ _ (λ taken x more.
-        subst (λ (k : Known (Doing g.row.T.Denot)). IsTakenIn g.T.PartialOrder.below g.T.Minimum.least k c.leave.result c.args.pick taken) self_is
-        (taken_in g.T.PartialOrder.below g.T.Minimum.least g.T.Ord.cmp pass held.state.value held.hub held.number held.found here m left same c.take_piece-answer.ensures.terms
-        (subst (λ (j : ℕ). (es : List (Entry (Doing g.row.T.Denot))) → StandsFor g.T.PartialOrder.below g.T.Minimum.least g.T.Ord.cmp m es → StandsFor g.T.PartialOrder.below g.T.Minimum.least g.T.Ord.cmp left (entry j (doing (terms_of_board m) left.board.last) ∷ es)) (sym there.1) c.take_piece-answer.ensures.stands)
-        c.leave.result is_n after c.args.pick taken
-        (subst (λ (j : ℕ). (es : List (Entry (Doing g.row.T.Denot))) → StandsFor g.T.PartialOrder.below g.T.Minimum.least g.T.Ord.cmp m es → IsTaken g.T.PartialOrder.below m.board.dataflow (left_by g.T.PartialOrder.below g.T.Minimum.least m.board.dataflow es) j c.args.pick left.board.last taken) (sym there.1) x)
-        (subst (λ (j : ℕ). TellsMore (λ more node. WaitsOrNot more node j left.board.stations) taken) (sym there.1) more)))
+    subst (λ (k : Known (Doing g.row.T.Denot)). IsTakenIn g.T.PartialOrder.below g.T.Minimum.least k c.leave.result c.args.pick taken) self_is
+    (taken_in g.T.PartialOrder.below g.T.Minimum.least g.T.Ord.cmp pass held.state.value held.hub held.number held.found here m left same c.take_piece-answer.ensures.terms
+    (subst (λ (j : ℕ). (es : List (Entry (Doing g.row.T.Denot))) → StandsFor g.T.PartialOrder.below g.T.Minimum.least g.T.Ord.cmp m es → StandsFor g.T.PartialOrder.below g.T.Minimum.least g.T.Ord.cmp left (entry j (doing (terms_of_board m) left.board.last) ∷ es)) (sym there.1) c.take_piece-answer.ensures.stands)
+    c.leave.result is_n after c.args.pick taken
+    (subst (λ (j : ℕ). (es : List (Entry (Doing g.row.T.Denot))) → StandsFor g.T.PartialOrder.below g.T.Minimum.least g.T.Ord.cmp m es → IsTaken g.T.PartialOrder.below m.board.dataflow (left_by g.T.PartialOrder.below g.T.Minimum.least m.board.dataflow es) j c.args.pick left.board.last taken) (sym there.1) x)
+    (subst (λ (j : ℕ). TellsMore (λ more node. WaitsOrNot more node j left.board.stations) taken) (sym there.1) more)))
     c.take_piece-answer.ensures.taken c.take_piece-answer.ensures.more
 
 pub returns-in-Ok-clause-refused : goal.returns-in-Ok-clause-refused

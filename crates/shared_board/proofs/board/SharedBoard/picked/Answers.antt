@@ -1,9 +1,7 @@
 use Rattle.std.proofs.Common.{◌≡◌, List, None, subst}
 use Rattle.hub.specs.declared.view.Entry.{Entry}
-use Rattle.hub.specs.Histories.{entry}
-use Rattle.histories.specs.declared.event.Site.{Site}
 use Rattle.shared_board.specs.declared.event.Doing.{Doing}
-use Rattle.shared_board.specs.Tenures.{SharedState, StandsFor, doing, events, left_by, terms_of_board}
+use Rattle.shared_board.specs.Tenures.{SharedState, StandsFor, events, left_by}
 use Rattle.machine.specs.Boards.Pieces.{HasNoPiece}
 use Rattle.shared_board.specs.Pieces.{piece_of}
 use Rattle.shared_board.proofs.board.SharedBoard.picked.Goals as goal

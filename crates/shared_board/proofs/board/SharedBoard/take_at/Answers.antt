@@ -1,9 +1,11 @@
-use Rattle.std.proofs.Common.{List, ◌∷◌, subst, ap}
+use Rattle.std.proofs.Common.{List, ◌∷◌, Some, subst, sym, ap, ◌∙◌}
 use Rattle.hub.specs.declared.view.Entry.{Entry}
 use Rattle.hub.specs.Histories.{entry}
 use Rattle.histories.specs.declared.event.Site.{Site}
+use Rattle.machine.specs.declared.board.pieces.Piece.TheVariants.{Waiting}
 use Rattle.shared_board.specs.declared.event.Doing.{Doing}
-use Rattle.shared_board.specs.Tenures.{SharedState, StandsFor, doing, events, left_by, terms_of_board}
+use Rattle.machine.specs.Boards.{BoardState}
+use Rattle.shared_board.specs.Tenures.{SharedState, StandsFor, WaitsOrNot, doing, terms_of_board}
 use Rattle.shared_board.proofs.SharedLemmas.{looked, taken}
 use Rattle.shared_board.proofs.board.SharedBoard.take_at.Goals as goal
 
@@ -28,3 +30,16 @@ returns-clause-stands g c =
     let new : SharedState g.row.T.Denot = record old { board = c.take.new.self } in
     subst (λ (b : SharedState g.row.T.Denot). (es : List (Entry (Doing g.row.T.Denot))) → StandsFor below least cmp b es → StandsFor below least cmp new (entry actor (doing (terms_of_board b) c.take.new.self.last) ∷ es)) c.self.view_is
     (taken below least cmp old c.take.new.self actor c.args.number c.in_ok-bundle.bundle (ap (λ (s : Site). s.worker) c.in_ok-bundle.ensures.place) c.in_ok-bundle.ensures.taken c.take.ensures.stands)
+
+pub returns-clause-taken : goal.returns-clause-taken
+returns-clause-taken g c p w pick e =
+    let site = c.in_ok-bundle.ensures.place in (
+      c.args.number,
+      e ∙ ap (λ (s : Site). Some (Waiting s c.args.number)) (sym site),
+      ap (λ (s : Site). s.worker) site,
+      ap (λ (b : BoardState g.row.T.Denot). b.last) c.in_ok-bundle.ensures.taken,
+    )
+
+pub returns-clause-more : goal.returns-clause-more
+returns-clause-more g c =
+    subst (λ n. WaitsOrNot c.has_waiting-more.result n c.args.site.worker c.take.new.self.stations) (ap (λ (s : Site). s.node) (sym c.in_ok-bundle.ensures.place)) c.has_waiting-more.ensures

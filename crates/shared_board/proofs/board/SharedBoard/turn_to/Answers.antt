@@ -1,13 +1,13 @@
-use Rattle.std.proofs.Common.{◌≡◌, List, ◌∷◌, sym, subst, ◌∙◌, ap, IsTrue}
-use Rattle.lattice.specs.Frontiers.{is_beyond}
+use Rattle.std.proofs.Common.{◌≡◌, ℕ, List, ◌∷◌, Some, sym, subst, ◌∙◌, ap, IsTrue}
 use Rattle.hub.specs.declared.view.Entry.{Entry}
 use Rattle.hub.specs.Histories.{entry}
-use Rattle.histories.specs.declared.event.Site.{Site}
 use Rattle.shared_board.specs.declared.event.Doing.{Doing}
 use Rattle.shared_board.specs.Tenures.{SharedState, StandsFor, doing, events, left_by, terms_of_board}
-use Rattle.histories.specs.Histories.Outstanding.{input_frontier}
 use Rattle.machine.specs.Boards.{BoardState}
 use Rattle.machine.specs.Boards.Reads.{is_ready}
+use Rattle.machine.specs.declared.board.pieces.Piece.TheVariants.{Held}
+use Rattle.shared_board.specs.declared.board.taking.Taken.TheVariants.{Turned}
+use Rattle.shared_board.specs.Pieces.{IsTaken, piece_of}
 use Rattle.shared_board.proofs.SharedLemmas.{asked, turned}
 use Rattle.shared_board.proofs.board.SharedBoard.turn_to.Goals as goal
 
@@ -16,16 +16,17 @@ take_held-requires-clause-ready g c =
     let below = g.T.PartialOrder.below in
     subst (λ (b : BoardState g.row.T.Denot). IsTrue (is_ready below b c.args.worker c.args.node)) (sym (c.input_times.ensures.kept ∙ ap (λ (b : SharedState g.row.T.Denot). b.board) c.self.view_is)) c.requires.ready
 
-pub returns-in-Ok-clause-turned : goal.returns-in-Ok-clause-turned
-returns-in-Ok-clause-turned g c =
+pub returns-in-Ok-clause-taken : goal.returns-in-Ok-clause-taken
+returns-in-Ok-clause-taken g c =
     let below = g.T.PartialOrder.below in
     let least = g.T.Minimum.least in
     let cmp = g.T.Ord.cmp in
-    let node = c.args.node in (
-      ap (λ (b : BoardState g.row.T.Denot). b.last) c.take_held.ensures.turned,
-      subst (λ (b : SharedState g.row.T.Denot). (es : List (Entry (Doing g.row.T.Denot))) → StandsFor below least cmp b es → (t : g.row.T.Denot) → is_beyond below c.in-Ok.upper t ≡ is_beyond below (input_frontier below b.board.dataflow (left_by below least b.board.dataflow es) node) t) c.self.view_is
-          (λ es a. c.in-Ok.ensures.stands (events es) a.stands),
-    )
+    let node = c.args.node in
+    let worker = c.args.worker in
+    let last = ap (λ (b : BoardState g.row.T.Denot). b.last) c.take_held.ensures.turned in
+    subst (λ (b : SharedState g.row.T.Denot). (es : List (Entry (Doing g.row.T.Denot))) → StandsFor below least cmp b es → (pick : ℕ) → piece_of below b.board.dataflow (left_by below least b.board.dataflow es) worker pick ≡ Some (Held node)
+    → IsTaken below b.board.dataflow (left_by below least b.board.dataflow es) worker pick c.take_held.new.self.last (Turned node c.in-Ok.upper)) c.self.view_is
+    (λ es a pick e. (e, last, c.in-Ok.ensures.stands (events es) a.stands))
 
 pub returns-in-Ok-clause-stands : goal.returns-in-Ok-clause-stands
 returns-in-Ok-clause-stands g c =
