@@ -46,6 +46,7 @@ module _ (p : List Node) where
     known = (record { terms = refl; own = refl; actor = λ e. absurd (false≢true e) }, tt);
     dataflow = record { plan = plan; staffed = omega arith };
     legal = (tt, tt);
+    wide = record { in_flight = refl; received = refl };
     actor = omega arith;
   }
 
