@@ -1,0 +1,12 @@
+-- What events make of a worker's own.
+pub mod OthersLemmas
+pub mod KeptLemmas
+pub mod JoinLemmas
+pub mod TakenLemmas
+pub mod TurnedLemmas
+pub mod GivenLemmas
+pub mod ComputedLemmas
+pub mod LaidLemmas
+pub mod ReducedLemmas
+pub mod FoundLemmas
+pub mod SealedLemmas

@@ -1,0 +1,233 @@
+//! What each event makes of a worker's own. The functions do nothing.
+ghost use Rattle.std.specs.Prelude.{◌≡◌, ◌≢◌, ◌<◌, ℕ, Bool, false, List, [], ◌∷◌, ◌++◌, None, IsTrue, length, slice_get};
+ghost use Rattle.std.specs.List.{list_all};
+ghost use Rattle.hub.specs.declared.view.Entry.{Entry};
+ghost use Rattle.hub.specs.Histories.{NoneBy};
+ghost use Rattle.lattice.specs.Frontiers.{all_beyond, is_beyond};
+ghost use Rattle.update.specs.declared.change.Update.{Update};
+ghost use Rattle.plan.specs.Nodes.{arranged_by, is_linear, is_reduction};
+ghost use Rattle.plan.specs.Changes.{has_passed};
+ghost use Rattle.plan.specs.declared.node.Kind.{Kind};
+ghost use Rattle.plan.specs.declared.node.Node.TheVariants.{Arrange, Reduce};
+ghost use Rattle.batch.specs.Descriptions.{BatchState};
+ghost use Rattle.trace.specs.Readings.{Insertion, all_updates};
+ghost use Rattle.spine.specs.Spines.{Stands};
+ghost use Rattle.linear.specs.Applied.{linear_output};
+ghost use Rattle.linear.specs.Ports.{is_port};
+ghost use Rattle.histories.specs.declared.event.Bundle.{Bundle};
+ghost use Rattle.histories.specs.declared.event.Event.{Event};
+ghost use Rattle.histories.specs.declared.event.Event.TheVariants.{Take, TakeHeld};
+ghost use Rattle.histories.specs.Histories.{IsGive, IsLegal, IsTake, IsTakeHeld, give_state, next_state, state_after};
+ghost use Rattle.histories.specs.Histories.Cuts.{cut};
+ghost use Rattle.histories.specs.Histories.Dataflows.{Dataflow, IsDataflow, node_of};
+ghost use Rattle.histories.specs.Histories.Outstanding.{input_frontier};
+ghost use Rattle.histories.specs.Histories.States.{State, times};
+ghost use Rattle.operator.specs.Reductions.{IsPendingAfter, IsReduced, ReducingView, SumsToReceived, pending_of};
+ghost use Rattle.operator.specs.Arrangements.{ArrangementState};
+ghost use Rattle.shared_board.specs.declared.event.Doing.{Doing};
+ghost use Rattle.shared_board.specs.Tenures.{AreOn, Terms, events, left_by};
+ghost use Rattle.desk.specs.Own.{AreSharing, DeskView, IsArrangedOn, IsNextBatch, IsOfOneShape, IsOwn, IsSameAt, due_on, waits_on};
+ghost use Rattle.operator_laws.specs.Gathering.{IsCut, IsHeldFor, IsSplit, IsStamped};
+ghost use Rattle.desk.specs.declared.hand.Hand.{Hand};
+ghost use Rattle.desk.specs.declared.hand.Hand.TheVariants.{Free, Kept, Ready, Sealed, Taken, Turned};
+
+use lattice::Minimum;
+
+/// What others did leaves it.
+pub fn others_leave_it<T: Minimum>()
+    ensures { (t : Terms) (k : ℕ) (others seen : List (Entry (Doing T))) → NoneBy k others
+        → AreOn t (others ++ seen) → IsDataflow t.dataflow
+        → IsLegal T.below T.least t.dataflow (events (others ++ seen))
+        → (d : DeskView T) (h : Hand T)
+        → IsOwn T.below T.joined T.least t.dataflow
+        (left_by T.below T.least t.dataflow seen) k d h
+        → IsOwn T.below T.joined T.least t.dataflow
+        (left_by T.below T.least t.dataflow (others ++ seen)) k d h }
+{}
+
+/// A bundle is in hand from its take on, and what it makes waits from then on, although it was not
+/// computed yet. Its times are pending at a reduction.
+pub fn taken_is_laid<T: Minimum>()
+    ensures { (p : Dataflow) → IsDataflow p → (w : State T) (number : ℕ) (bundle : Bundle T)
+        → IsTake T.below p w number bundle → IsStamped T.below bundle
+        → IsTrue (is_port (node_of p bundle.place.node) bundle.place.port)
+        → bundle.place.node < length p.nodes → (d : DeskView T) (more : Bool)
+        → IsOwn T.below T.joined T.least p w bundle.place.worker d Free
+        → IsOwn T.below T.joined T.least p (next_state T.below p w (Take number bundle))
+        bundle.place.worker d (Taken bundle more) }
+{}
+
+/// A worker that turned to held times knows how far the node's input frontier had come, and that
+/// stays so.
+pub fn turned_is_laid<T: Minimum>()
+    ensures { (p : Dataflow) → IsDataflow p → (w : State T) (k n : ℕ)
+        → IsTakeHeld T.below p w k n → (d : DeskView T) (upper : List T)
+        → ((t : T) → is_beyond T.below upper t
+        ≡ is_beyond T.below (input_frontier T.below p w n) t)
+        → IsOwn T.below T.joined T.least p w k d Free
+        → IsOwn T.below T.joined T.least p (next_state T.below p w (TakeHeld k n)) k d
+        (Turned n upper) }
+{}
+
+/// A worker may give nothing, and hold back what lies on the desk for the node that it has in hand.
+pub fn kept_is_held_back<T: Minimum>()
+    ensures { (p : Dataflow) → IsDataflow p → (w : State T) (k n : ℕ) → n < length p.nodes
+        → (d : DeskView T) (held : List T) (more : Bool)
+        → IsHeldFor T.below held (due_on d n (node_of p n))
+        → IsOwn T.below T.joined T.least p w k d (Kept n more)
+        → IsGive T.below p w (record { node = n; worker = k; updates = [] }) held []
+        × IsOwn T.below T.joined T.least p (give_state T.below p w
+        (record { node = n; worker = k; updates = [] }) held []) k d Free }
+{}
+
+/// What is ready may be given, at a node that is not arranged, and what lies on the desk for the node
+/// be held back.
+pub fn ready_is_given<T: Minimum>()
+    ensures { (p : Dataflow) → IsDataflow p → (w : State T) (k n : ℕ) → n < length p.nodes
+        → (d : DeskView T) (held : List T) (us : List (Update T)) (sent : List (Bundle T))
+        → arranged_by (node_of p n) ≡ None
+        → IsHeldFor T.below held (due_on d n (node_of p n))
+        → IsCut T.below p (record { node = n; worker = k; updates = us }) sent
+        → IsOwn T.below T.joined T.least p w k d (Ready n us)
+        → IsGive T.below p w (record { node = n; worker = k; updates = us }) held sent
+        × IsOwn T.below T.joined T.least p (give_state T.below p w
+        (record { node = n; worker = k; updates = us }) held sent) k d Free }
+{}
+
+/// What a bundle made lies on the desk, at a linear node: of what it made and what lay there before,
+/// the desk has what sums to the same, and no more.
+pub fn kept_is_laid<T: Minimum>()
+    ensures { (p : Dataflow) → IsDataflow p → (w : State T) (k : ℕ) (d c : DeskView T)
+        → AreSharing T.least p c → (bundle : Bundle T) (more : Bool)
+        → bundle.place.node < length p.nodes → IsTrue (is_linear (node_of p bundle.place.node))
+        → ((m : ℕ) → m ≢ bundle.place.node → IsSameAt m d c)
+        → ((start : List T) (inserted : List (Insertion T))
+        → IsArrangedOn T.below T.joined T.least p d bundle.place.node start inserted
+        → IsArrangedOn T.below T.joined T.least p c bundle.place.node start inserted)
+        → IsSplit T.below (linear_output (node_of p bundle.place.node) bundle.updates
+        ++ waits_on d bundle.place.node (node_of p bundle.place.node)) []
+        (waits_on c bundle.place.node (node_of p bundle.place.node))
+        → IsOwn T.below T.joined T.least p w k d (Taken bundle more)
+        → IsOwn T.below T.joined T.least p w k c (Kept bundle.place.node more) }
+{}
+
+/// What a bundle brought is pending at a reduction, which stands for it from then on.
+pub fn kept_is_reduced<T: Minimum>()
+    ensures { (p : Dataflow) → IsDataflow p → (w : State T) (k : ℕ) (d c : DeskView T)
+        → AreSharing T.least p c → (bundle : Bundle T) (more : Bool)
+        → bundle.place.node < length p.nodes → (kind : Kind) (source : ℕ)
+        → node_of p bundle.place.node ≡ Reduce kind source
+        → ((m : ℕ) → m ≢ bundle.place.node → IsSameAt m d c) → (r s : ReducingView T)
+        → slice_get d.reductions bundle.place.node ≡ Some (Some r)
+        → slice_get c.reductions bundle.place.node ≡ Some (Some s) → IsOfOneShape r s
+        → ((received emitted : List (Update T)) (upper : List T)
+        → IsReduced T.below T.joined T.least r received emitted
+        → IsTrue (all_beyond T.below upper (times bundle.updates))
+        → IsTrue (list_all (λ u. has_passed T.below upper u.time) emitted)
+        → IsReduced T.below T.joined T.least s (bundle.updates ++ received) emitted)
+        → ((received emitted : List (Update T))
+        → IsReduced T.below T.joined T.least r received emitted
+        → IsPendingAfter T.below (pending_of r) bundle.updates (pending_of s))
+        → IsOwn T.below T.joined T.least p w k d (Taken bundle more)
+        → IsOwn T.below T.joined T.least p w k c (Kept bundle.place.node more) }
+{}
+
+/// Of what lies on the desk for a node, a part is taken in hand to be given, and the rest stays: at a
+/// node that is not arranged, and no reduction.
+pub fn ready_is_laid<T: Minimum>()
+    ensures kept { (p : Dataflow) → IsDataflow p → (w : State T) (k : ℕ) (d c : DeskView T)
+        → AreSharing T.least p c → (n : ℕ) → n < length p.nodes
+        → ((m : ℕ) → m ≢ n → IsSameAt m d c) → (out : List (Update T))
+        → IsSplit T.below (waits_on d n (node_of p n)) out (waits_on c n (node_of p n))
+        → (more : Bool) → arranged_by (node_of p n) ≡ None → is_reduction (node_of p n) ≡ false
+        → slice_get c.joins n ≡ slice_get d.joins n
+        → IsOwn T.below T.joined T.least p w k d (Kept n more)
+        → IsOwn T.below T.joined T.least p w k c (Ready n out) }
+    ensures turned { (p : Dataflow) → IsDataflow p → (w : State T) (k : ℕ) (d c : DeskView T)
+        → AreSharing T.least p c → (n : ℕ) → n < length p.nodes
+        → ((m : ℕ) → m ≢ n → IsSameAt m d c) → (out : List (Update T))
+        → IsSplit T.below (waits_on d n (node_of p n)) out (waits_on c n (node_of p n))
+        → (upper : List T) → arranged_by (node_of p n) ≡ None
+        → is_reduction (node_of p n) ≡ false → slice_get c.joins n ≡ slice_get d.joins n
+        → IsOwn T.below T.joined T.least p w k d (Turned n upper)
+        → IsOwn T.below T.joined T.least p w k c (Ready n out) }
+{}
+
+/// At a reduction that the worker turned to, the answers at the times that its input frontier has
+/// passed are ready to be given, and the other times stay pending. The reduction reads the trace of
+/// its source on the same desk, in a state that a legal history leads to.
+pub fn found_is_laid<T: Minimum>()
+    ensures { (p : Dataflow) → IsDataflow p → (es : List (Event T))
+        → IsLegal T.below T.least p es → (k : ℕ) (d c : DeskView T)
+        → AreSharing T.least p c → (n : ℕ) → n < length p.nodes → (kind : Kind) (source : ℕ)
+        → node_of p n ≡ Reduce kind source → ((m : ℕ) → m ≢ n → IsSameAt m d c)
+        → (r s : ReducingView T) → slice_get d.reductions n ≡ Some (Some r)
+        → slice_get c.reductions n ≡ Some (Some s) → IsOfOneShape r s
+        → (a : ArrangementState T) → slice_get d.arrangements source ≡ Some (Some a)
+        → (upper : List T) (out : List (Update T))
+        → ((inserted : List (Insertion T)) (received emitted : List (Update T))
+        → Stands T.below a.spine inserted
+        → SumsToReceived T.below upper (all_updates inserted) received
+        → IsReduced T.below T.joined T.least r received emitted
+        → IsReduced T.below T.joined T.least s received (out ++ emitted))
+        → IsTrue (list_all (λ u. has_passed T.below upper u.time) out)
+        → IsTrue (all_beyond T.below upper (pending_of s))
+        → ((other : List T) → IsTrue (all_beyond T.below other (pending_of r))
+        → IsTrue (all_beyond T.below other (times out)))
+        → ((other : List T) → IsTrue (all_beyond T.below other (pending_of r))
+        → IsTrue (all_beyond T.below other (pending_of s)))
+        → IsOwn T.below T.joined T.least p (state_after T.below T.least p es) k d (Turned n upper)
+        → IsOwn T.below T.joined T.least p (state_after T.below T.least p es) k c (Ready n out) }
+{}
+
+/// At an arrange node that the worker turned to, a batch is sealed of what waits there. It is in hand,
+/// to be given and inserted, and the rest stays.
+pub fn sealed_is_laid<T: Minimum>()
+    ensures { (p : Dataflow) → IsDataflow p → (w : State T) (k : ℕ) (d c : DeskView T)
+        → AreSharing T.least p c → (n source key : ℕ) → n < length p.nodes
+        → node_of p n ≡ Arrange source key → ((m : ℕ) → m ≢ n → IsSameAt m d c)
+        → (upper : List T) (batch : BatchState T)
+        → IsSplit T.below (waits_on d n (node_of p n)) batch.updates (waits_on c n (node_of p n))
+        → batch.description.upper ≡ upper
+        → ((start : List T) (inserted : List (Insertion T))
+        → IsArrangedOn T.below T.joined T.least p d n start inserted
+        → IsArrangedOn T.below T.joined T.least p c n start inserted)
+        → IsNextBatch T.below T.joined T.least p c n batch.description.upper batch.updates
+        → IsOwn T.below T.joined T.least p w k d (Turned n upper)
+        → IsOwn T.below T.joined T.least p w k c (Sealed n batch) }
+{}
+
+/// A batch in hand may be given, and is inserted into the spine that the joins read; an empty one is
+/// given as nothing. What the worker holds at the node from then on is beyond the frontier at which
+/// the batch ends.
+pub fn sealed_is_given<T: Minimum>()
+    ensures some { (p : Dataflow) → IsDataflow p → (w : State T) (k n : ℕ) → n < length p.nodes
+        → (d : DeskView T) (batch : BatchState T) (held : List T)
+        → IsHeldFor T.below held (due_on d n (node_of p n))
+        → IsOwn T.below T.joined T.least p w k d (Sealed n batch) → batch.updates ≢ []
+        → IsCut T.below p (record { node = n; worker = k; updates = batch.updates })
+        (cut T.below p (record { node = n; worker = k; updates = batch.updates }))
+        → (c : DeskView T) → ((m : ℕ) → m ≢ n → IsSameAt m d c) → AreSharing T.least p c
+        → waits_on c n (node_of p n) ≡ waits_on d n (node_of p n)
+        → ((start : List T) (inserted : List (Insertion T))
+        → IsArrangedOn T.below T.joined T.least p d n start inserted
+        → IsArrangedOn T.below T.joined T.least p c n start
+        (record { upper = batch.description.upper; updates = batch.updates } ∷ inserted))
+        → IsGive T.below p w (record { node = n; worker = k; updates = batch.updates }) held
+        (cut T.below p (record { node = n; worker = k; updates = batch.updates }))
+        × IsOwn T.below T.joined T.least p (give_state T.below p w
+        (record { node = n; worker = k; updates = batch.updates }) held
+        (cut T.below p (record { node = n; worker = k; updates = batch.updates }))) k c Free }
+    ensures none { (p : Dataflow) → IsDataflow p → (w : State T) (k n : ℕ) → n < length p.nodes
+        → (d : DeskView T) (batch : BatchState T) (held : List T)
+        → IsHeldFor T.below held (due_on d n (node_of p n))
+        → IsOwn T.below T.joined T.least p w k d (Sealed n batch) → batch.updates ≡ []
+        → IsGive T.below p w (record { node = n; worker = k; updates = [] }) held []
+        × IsOwn T.below T.joined T.least p (give_state T.below p w
+        (record { node = n; worker = k; updates = [] }) held []) k d Free }
+    ensures beyond { (p : Dataflow) → IsDataflow p → (w : State T) (k n : ℕ)
+        → n < length p.nodes → (d : DeskView T) (batch : BatchState T) (held : List T)
+        → IsHeldFor T.below held (due_on d n (node_of p n))
+        → IsOwn T.below T.joined T.least p w k d (Sealed n batch)
+        → IsTrue (all_beyond T.below batch.description.upper held) }
+{}
