@@ -37,7 +37,7 @@ use Rattle.desk.proofs.KeptLemmas.{at_each, ready_idle, same_keeps, turned_idle}
 use Rattle.desk.proofs.ComputedLemmas.{computed_with}
 use Rattle.desk.proofs.ReducedLemmas.{law_at}
 
-is_arrange : (node : Node) (key : ℕ) → arranged_by node ≡ Some key → (source : ℕ) × (columns : ℕ) × (node ≡ Arrange source columns)
+pub is_arrange : (node : Node) (key : ℕ) → arranged_by node ≡ Some key → (source : ℕ) × (columns : ℕ) × (node ≡ Arrange source columns)
 is_arrange (Arrange source columns) key e = (source, columns, refl)
 is_arrange other key e = absurd (none-some key e)
 

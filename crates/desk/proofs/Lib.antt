@@ -1,4 +1,5 @@
 -- What events make of a worker's own.
+pub mod FirstLemmas
 pub mod OthersLemmas
 pub mod KeptLemmas
 pub mod JoinLemmas
@@ -9,4 +10,5 @@ pub mod ComputedLemmas
 pub mod LaidLemmas
 pub mod ReducedLemmas
 pub mod FoundLemmas
+pub mod JoinedLemmas
 pub mod SealedLemmas

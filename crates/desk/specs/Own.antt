@@ -26,8 +26,9 @@ use Rattle.histories.specs.Histories.Promises.{NeverGoesBack}
 use Rattle.operator.specs.Arrangements.{ArrangementState, AreInTurn, upper_of}
 use Rattle.operator.specs.Joins.{JoiningView}
 use Rattle.operator.specs.Reductions.{ReducingView, HasRoom, IsReduced, pending_of, state_key}
+use Rattle.operator_laws.specs.Joining.{on_top}
 use Rattle.operator_laws.specs.Reducing.{IsFound}
-use Rattle.operator_laws.specs.Working.{Works, IsWorking}
+use Rattle.operator_laws.specs.Working.{Works, IsWorking, first_works}
 use Rattle.desk.specs.declared.hand.Hand.{Hand}
 use Rattle.desk.specs.declared.hand.Hand.TheVariants.{Free, Taken, Kept, Turned, Ready, Sealed}
 
@@ -43,6 +44,10 @@ pub record Keeps (T : Type 0) : Type 0 where
   pub works : Works T
   pub received : ℕ → List (Update T)
   pub given : ℕ → List (Update T)
+
+-- what a worker keeps before the first event
+abbrev pub first_keeps : {T : Type 0} → T → Keeps T
+first_keeps minimum = record { works = first_works minimum; received = λ _. []; given = λ _. [] }
 
 module _ {T : Type 0} where
   -- the node of the piece in hand
@@ -236,6 +241,14 @@ module _ {T : Type 0} (below : T → T → Bool) (joined : T → T → T) (minim
     pub joining : (n l r : ℕ) → n < length p.nodes → node_of p n ≡ Join l r → IsJoinedOn p d h keeps.works n l r
     pub reducing : (n source : ℕ) (kind : Kind) → n < length p.nodes → node_of p n ≡ Reduce kind source
         → IsReducedOn p d h keeps n kind source
+
+  -- a join has taken up to a boundary at which an insertion of its source begins, and this is where
+  -- that one ends
+  abbrev pub IsNextBoundary : Dataflow → DeskView T → ℕ → List T → List T → Type 0
+  IsNextBoundary p d source boundary upper =
+      (start : List T) (inserted later taken : List (Insertion T)) (next : Insertion T)
+      → IsArrangedOn p d source start inserted → inserted ≡ on_top later (next ∷ taken)
+      → boundary ≡ reached (minimum ∷ []) taken → upper ≡ next.upper
 
   -- a batch in hand goes on from the spine of its arrange node, and ends where the rest on the desk
   -- begins

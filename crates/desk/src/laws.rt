@@ -8,30 +8,41 @@ ghost use Rattle.update.specs.declared.change.Update.{Update};
 ghost use Rattle.plan.specs.Nodes.{arranged_by, is_linear, is_reduction};
 ghost use Rattle.plan.specs.Changes.{has_passed};
 ghost use Rattle.plan.specs.declared.node.Kind.{Kind};
-ghost use Rattle.plan.specs.declared.node.Node.TheVariants.{Arrange, Reduce};
+ghost use Rattle.plan.specs.declared.node.Node.TheVariants.{Arrange, Join, Reduce};
 ghost use Rattle.batch.specs.Descriptions.{BatchState};
-ghost use Rattle.trace.specs.Readings.{Insertion, all_updates};
+ghost use Rattle.trace.specs.Readings.{Insertion, all_updates, reached};
+ghost use Rattle.join.specs.Pairs.{pairs};
 ghost use Rattle.spine.specs.Spines.{Stands};
 ghost use Rattle.linear.specs.Applied.{linear_output};
 ghost use Rattle.linear.specs.Ports.{is_port};
 ghost use Rattle.histories.specs.declared.event.Bundle.{Bundle};
 ghost use Rattle.histories.specs.declared.event.Event.{Event};
 ghost use Rattle.histories.specs.declared.event.Event.TheVariants.{Take, TakeHeld};
-ghost use Rattle.histories.specs.Histories.{IsGive, IsLegal, IsTake, IsTakeHeld, give_state, next_state, state_after};
+ghost use Rattle.histories.specs.Histories.{IsGive, IsLegal, IsTake, IsTakeHeld, give_state, initial_state, next_state, state_after};
 ghost use Rattle.histories.specs.Histories.Cuts.{cut};
 ghost use Rattle.histories.specs.Histories.Dataflows.{Dataflow, IsDataflow, node_of};
 ghost use Rattle.histories.specs.Histories.Outstanding.{input_frontier};
 ghost use Rattle.histories.specs.Histories.States.{State, times};
+ghost use Rattle.operator_laws.specs.Joining.{on_top};
+ghost use Rattle.operator.specs.Joins.{JoiningView};
 ghost use Rattle.operator.specs.Reductions.{IsPendingAfter, IsReduced, ReducingView, SumsToReceived, pending_of};
 ghost use Rattle.operator.specs.Arrangements.{ArrangementState};
 ghost use Rattle.shared_board.specs.declared.event.Doing.{Doing};
 ghost use Rattle.shared_board.specs.Tenures.{AreOn, Terms, events, left_by};
-ghost use Rattle.desk.specs.Own.{AreSharing, DeskView, IsArrangedOn, IsNextBatch, IsOfOneShape, IsOwn, IsSameAt, due_on, waits_on};
+ghost use Rattle.desk.specs.Own.{AreSharing, DeskView, IsArrangedOn, IsLaid, IsNextBatch, IsNextBoundary, IsOfOneShape, IsOwn, IsSameAt, due_on, first_keeps, waits_on};
 ghost use Rattle.operator_laws.specs.Gathering.{IsCut, IsHeldFor, IsSplit, IsStamped};
 ghost use Rattle.desk.specs.declared.hand.Hand.{Hand};
 ghost use Rattle.desk.specs.declared.hand.Hand.TheVariants.{Free, Kept, Ready, Sealed, Taken, Turned};
 
 use lattice::Minimum;
+
+/// A desk on which nothing was laid yet is right before the first event, for any worker of the plan.
+pub fn first_is_laid<T: Minimum>()
+    ensures { (p : Dataflow) → IsDataflow p → (k : ℕ) → k < p.workers → (d : DeskView T)
+        → AreSharing T.least p d
+        → IsLaid T.below T.joined T.least p d Free (first_keeps T.least)
+        → IsOwn T.below T.joined T.least p (initial_state T.below T.least p) k d Free }
+{}
 
 /// What others did leaves it.
 pub fn others_leave_it<T: Minimum>()
@@ -107,6 +118,48 @@ pub fn kept_is_laid<T: Minimum>()
         → IsSplit T.below (linear_output (node_of p bundle.place.node) bundle.updates
         ++ waits_on d bundle.place.node (node_of p bundle.place.node)) []
         (waits_on c bundle.place.node (node_of p bundle.place.node))
+        → IsOwn T.below T.joined T.least p w k d (Taken bundle more)
+        → IsOwn T.below T.joined T.least p w k c (Kept bundle.place.node more) }
+{}
+
+/// A join's pairs of a bundle with all that it took at its other port lie on the desk, and the join has
+/// then taken up to where the batch ends that the bundle was. Several bundles may wait at a port: the
+/// one in hand is of the batch that begins where the join had come to.
+pub fn kept_is_joined<T: Minimum>()
+    ensures left { (p : Dataflow) → IsDataflow p → (w : State T) (k : ℕ) (d c : DeskView T)
+        → AreSharing T.least p c → (bundle : Bundle T) (more : Bool)
+        → bundle.place.node < length p.nodes → (l r : ℕ)
+        → node_of p bundle.place.node ≡ Join l r
+        → ((m : ℕ) → m ≢ bundle.place.node → IsSameAt m d c) → (j i : JoiningView T)
+        → slice_get d.joins bundle.place.node ≡ Some (Some j)
+        → slice_get c.joins bundle.place.node ≡ Some (Some i)
+        → bundle.place.port ≡ 0 → (upper : List T) (looked : ℕ)
+        → i ≡ record j { state = record j.state { left = upper; looked = looked } }
+        → IsNextBoundary T.below T.joined T.least p d l j.state.left upper
+        → ((start : List T) (inserted later taken : List (Insertion T))
+        → IsArrangedOn T.below T.joined T.least p d r start inserted
+        → inserted ≡ on_top later taken → j.state.right ≡ reached (T.least ∷ []) taken
+        → IsSplit T.below (pairs T.joined j.state.key bundle.updates (all_updates taken)
+        ++ waits_on d bundle.place.node (node_of p bundle.place.node)) []
+        (waits_on c bundle.place.node (node_of p bundle.place.node)))
+        → IsOwn T.below T.joined T.least p w k d (Taken bundle more)
+        → IsOwn T.below T.joined T.least p w k c (Kept bundle.place.node more) }
+    ensures right { (p : Dataflow) → IsDataflow p → (w : State T) (k : ℕ) (d c : DeskView T)
+        → AreSharing T.least p c → (bundle : Bundle T) (more : Bool)
+        → bundle.place.node < length p.nodes → (l r : ℕ)
+        → node_of p bundle.place.node ≡ Join l r
+        → ((m : ℕ) → m ≢ bundle.place.node → IsSameAt m d c) → (j i : JoiningView T)
+        → slice_get d.joins bundle.place.node ≡ Some (Some j)
+        → slice_get c.joins bundle.place.node ≡ Some (Some i)
+        → bundle.place.port ≡ 1 → (upper : List T) (looked : ℕ)
+        → i ≡ record j { state = record j.state { right = upper; looked = looked } }
+        → IsNextBoundary T.below T.joined T.least p d r j.state.right upper
+        → ((start : List T) (inserted later taken : List (Insertion T))
+        → IsArrangedOn T.below T.joined T.least p d l start inserted
+        → inserted ≡ on_top later taken → j.state.left ≡ reached (T.least ∷ []) taken
+        → IsSplit T.below (pairs T.joined j.state.key (all_updates taken) bundle.updates
+        ++ waits_on d bundle.place.node (node_of p bundle.place.node)) []
+        (waits_on c bundle.place.node (node_of p bundle.place.node)))
         → IsOwn T.below T.joined T.least p w k d (Taken bundle more)
         → IsOwn T.below T.joined T.least p w k c (Kept bundle.place.node more) }
 {}
