@@ -12,3 +12,4 @@ pub mod ReducedLemmas
 pub mod FoundLemmas
 pub mod JoinedLemmas
 pub mod SealedLemmas
+pub mod MergedLemmas

@@ -242,6 +242,15 @@ module _ {T : Type 0} (below : T → T → Bool) (joined : T → T → T) (minim
     pub reducing : (n source : ℕ) (kind : Kind) → n < length p.nodes → node_of p n ≡ Reduce kind source
         → IsReducedOn p d h keeps n kind source
 
+  -- the desk has the same at a node, but that its arrangement was merged: it stands for what it stood
+  -- for before, and the same waits
+  pub record IsMergedAt (p : Dataflow) (n : ℕ) (d c : DeskView T) : Type 0 where
+    pub gathered : slice_get c.gathered n ≡ slice_get d.gathered n
+    pub joins : slice_get c.joins n ≡ slice_get d.joins n
+    pub reductions : slice_get c.reductions n ≡ slice_get d.reductions n
+    pub waiting : waiting_in (slice_get c.arrangements n) ≡ waiting_in (slice_get d.arrangements n)
+    pub arranged : (start : List T) (inserted : List (Insertion T)) → IsArrangedOn p d n start inserted → IsArrangedOn p c n start inserted
+
   -- a join has taken up to a boundary at which an insertion of its source begins, and this is where
   -- that one ends
   abbrev pub IsNextBoundary : Dataflow → DeskView T → ℕ → List T → List T → Type 0

@@ -29,7 +29,7 @@ ghost use Rattle.operator.specs.Reductions.{IsPendingAfter, IsReduced, ReducingV
 ghost use Rattle.operator.specs.Arrangements.{ArrangementState};
 ghost use Rattle.shared_board.specs.declared.event.Doing.{Doing};
 ghost use Rattle.shared_board.specs.Tenures.{AreOn, Terms, events, left_by};
-ghost use Rattle.desk.specs.Own.{AreSharing, DeskView, IsArrangedOn, IsLaid, IsNextBatch, IsNextBoundary, IsOfOneShape, IsOwn, IsSameAt, due_on, first_keeps, waits_on};
+ghost use Rattle.desk.specs.Own.{AreSharing, DeskView, IsArrangedOn, IsHandOn, IsLaid, IsMergedAt, IsNextBatch, IsNextBoundary, IsOfOneShape, IsOwn, IsSameAt, due_on, first_keeps, waits_on};
 ghost use Rattle.operator_laws.specs.Gathering.{IsCut, IsHeldFor, IsSplit, IsStamped};
 ghost use Rattle.desk.specs.declared.hand.Hand.{Hand};
 ghost use Rattle.desk.specs.declared.hand.Hand.TheVariants.{Free, Kept, Ready, Sealed, Taken, Turned};
@@ -283,4 +283,13 @@ pub fn sealed_is_given<T: Minimum>()
         → IsHeldFor T.below held (due_on d n (node_of p n))
         → IsOwn T.below T.joined T.least p w k d (Sealed n batch)
         → IsTrue (all_beyond T.below batch.description.upper held) }
+{}
+
+/// Merges leave a desk right, whatever is in hand: each arrangement stands for what it stood for, and
+/// has the same waiting. A batch in hand must still go on from its spine.
+pub fn merged_is_laid<T: Minimum>()
+    ensures { (p : Dataflow) (w : State T) (k : ℕ) (d c : DeskView T) → AreSharing T.least p c
+        → ((n : ℕ) → IsMergedAt T.below T.joined T.least p n d c) → (h : Hand T)
+        → IsHandOn T.below T.joined T.least p c h
+        → IsOwn T.below T.joined T.least p w k d h → IsOwn T.below T.joined T.least p w k c h }
 {}
