@@ -2,7 +2,7 @@
 pub mod FirstLemmas
 pub mod OthersLemmas
 pub mod KeptLemmas
-pub mod JoinLemmas
+pub mod TakenAtLemmas
 pub mod TakenLemmas
 pub mod TurnedLemmas
 pub mod GivenLemmas

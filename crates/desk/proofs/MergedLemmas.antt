@@ -1,7 +1,5 @@
 -- What merges on a desk leave of a worker's own.
-use Rattle.std.proofs.Common.{◌≡◌, ℕ, Bool, List, ◌++◌, sym, ap, ◌∙◌}
-use Rattle.std.specs.List.{slice_get}
-use Rattle.update.specs.declared.change.Update.{Update}
+use Rattle.std.proofs.Common.{◌≡◌, ℕ, Bool, ◌++◌, sym, ap, ◌∙◌}
 use Rattle.plan.specs.declared.node.Node.{Node}
 use Rattle.plan.specs.declared.node.Node.TheVariants.{Arrange}
 use Rattle.histories.specs.Histories.Dataflows.{Dataflow, node_of}

@@ -40,7 +40,7 @@ use Rattle.operator.specs.Reductions.{pending_of}
 use Rattle.desk.specs.Own.{DeskView, Keeps, IsOwn, in_hand_at, is_taken_at, made_of, made_of_pairs, waits_on}
 use Rattle.desk.specs.declared.hand.Hand.{Hand}
 use Rattle.desk.specs.declared.hand.Hand.TheVariants.{Free, Taken}
-use Rattle.desk.proofs.JoinLemmas.{left_taken, right_taken, reduce_taken, with_left, with_right, with_pending}
+use Rattle.desk.proofs.TakenAtLemmas.{left_taken, right_taken, reduce_taken, with_left, with_right, with_pending}
 use Rattle.desk.proofs.KeptLemmas.{AreSameAt, IsLaidAt, at_each, of_each, free_idle, laid_same, same_desk, taken_idle}
 
 -- ---- what a worker keeps at a linear node
