@@ -1,15 +1,20 @@
--- What events make of a worker's own.
-pub mod FirstLemmas
-pub mod OthersLemmas
-pub mod KeptLemmas
-pub mod TakenAtLemmas
-pub mod TakenLemmas
-pub mod TurnedLemmas
-pub mod GivenLemmas
-pub mod ComputedLemmas
-pub mod LaidLemmas
-pub mod ReducedLemmas
-pub mod FoundLemmas
-pub mod JoinedLemmas
-pub mod SealedLemmas
-pub mod MergedLemmas
+-- Lemmas of desks.
+pub mod ResultLemmas
+pub mod SizeLemmas
+pub mod LargeLemmas
+pub mod DeskLemmas
+pub mod BundleLemmas
+pub mod CauseLemmas
+pub mod LayingLemmas
+pub mod FindingLemmas
+pub mod FromLemmas
+pub mod EntryLemmas
+pub mod OpenLemmas
+pub mod SealLemmas
+pub mod PutAwayLemmas
+pub mod PlaceLemmas
+pub mod FlatLemmas
+pub mod ReadingLemmas
+pub mod PairingLemmas
+pub mod JoiningLemmas
+pub mod JoiningCauseLemmas

@@ -1,2 +1,6 @@
--- What a worker keeps, on its desk and in its hand.
-pub mod Own
+-- The definitions of a desk, and those of the laws that it keeps.
+pub use Rattle.desk_laws.specs.Own
+pub mod Desks
+pub mod Openings
+pub mod Sealings
+pub mod Joinings

@@ -1,184 +1,177 @@
-//! What a worker computes between two events, and what merges on its desk, make of its own. The
-//! functions do nothing.
-ghost use Rattle.std.specs.Prelude.{◌≡◌, ◌≢◌, ◌<◌, ℕ, Bool, false, List, [], ◌∷◌, ◌++◌, None, IsTrue, length, slice_get};
+//! What a bundle makes is laid on the desk. At a linear node it is gathered, at an arrange node it
+//! waits in the arrangement, and at a reduction its times are pending.
+ghost use Rattle.std.specs.Prelude.{◌≡◌, ◌<◌, ◌≤◌, ◌^◌, ℕ, List, [], ◌∷◌, Some, None, Bool, false, true, IfOk, IfErr, OnOk, OnErr, IsTrue, length, slice_get};
 ghost use Rattle.std.specs.List.{list_all};
 ghost use Rattle.lattice.specs.Frontiers.{all_beyond};
 ghost use Rattle.update.specs.declared.change.Update.{Update};
-ghost use Rattle.plan.specs.Nodes.{arranged_by, is_linear, is_reduction};
+ghost use Rattle.update.specs.declared.refusal.Refusal.TheVariants.{OutOfMemory};
+ghost use Rattle.update.specs.Refusals.{IsMemoryOrOverflow};
+ghost use Rattle.update.specs.Updates.{size};
 ghost use Rattle.plan.specs.Changes.{has_passed};
+ghost use Rattle.plan.specs.Nodes.{arranged_by, is_join, is_linear, node_at};
 ghost use Rattle.plan.specs.declared.node.Kind.{Kind};
 ghost use Rattle.plan.specs.declared.node.Node.TheVariants.{Arrange, Join, Reduce};
-ghost use Rattle.batch.specs.Descriptions.{BatchState};
-ghost use Rattle.trace.specs.Readings.{Insertion, all_updates, reached};
-ghost use Rattle.join.specs.Pairs.{pairs};
-ghost use Rattle.spine.specs.Spines.{Stands};
-ghost use Rattle.linear.specs.Applied.{linear_output};
-ghost use Rattle.histories.specs.declared.event.Bundle.{Bundle};
-ghost use Rattle.histories.specs.declared.event.Event.{Event};
-ghost use Rattle.histories.specs.Histories.{IsLegal, state_after};
-ghost use Rattle.histories.specs.Histories.Dataflows.{Dataflow, IsDataflow, node_of};
-ghost use Rattle.histories.specs.Histories.States.{State, times};
-ghost use Rattle.operator_laws.specs.Joining.{on_top};
-ghost use Rattle.operator.specs.Joins.{JoiningView};
-ghost use Rattle.operator.specs.Reductions.{IsPendingAfter, IsReduced, ReducingView, SumsToReceived, pending_of};
-ghost use Rattle.operator.specs.Arrangements.{ArrangementState};
-ghost use Rattle.desk.specs.Own.{AreSharing, DeskView, IsArrangedOn, IsHandOn, IsMergedAt, IsNextBatch, IsNextBoundary, IsOfOneShape, IsOwn, IsSameAt, waits_on};
-ghost use Rattle.operator_laws.specs.Gathering.{IsSplit};
-ghost use Rattle.desk.specs.declared.hand.Hand.{Hand};
-ghost use Rattle.desk.specs.declared.hand.Hand.TheVariants.{Kept, Ready, Sealed, Taken, Turned};
+ghost use Rattle.linear.specs.Applied.{Overflows, linear_output};
+ghost use Rattle.linear.specs.Widths.{are_wide, takes_rows};
+ghost use Rattle.histories.specs.Histories.Dataflows.{Dataflow};
+ghost use Rattle.histories.specs.Histories.States.{times};
+ghost use Rattle.operator.specs.Arrangements.{ArrangementState, rows_have, times_from};
+ghost use Rattle.operator.specs.Reductions.{ReducingView, IsPendingAfter, IsReduced, have_width, pending_of};
+ghost use Rattle.desk_laws.specs.Own.{IsOfOneShape};
+ghost use Rattle.desk_laws.specs.declared.hand.Hand.TheVariants.{Kept, Ready, Taken};
+ghost use Rattle.desk.specs.Desks.{IsLaidHand, IsLaidIn, IsReducedWith, IsSomeones, IsTooLarge, Leads};
 
+use crate::desk::Desk;
+use crate::finding::ready;
+use columns::UpdateList;
+use desk_laws::Hand;
 use lattice::Minimum;
+use machine::Bundle;
+use plan::{Node, NodeId, Plan};
+use std::alloc::Global;
+use update::{Refusal, Update};
 
-/// What a bundle made lies on the desk, at a linear node: of what it made and what lay there before,
-/// the desk has what sums to the same, and no more.
-pub fn kept_is_laid<T: Minimum>()
-    ensures { (p : Dataflow) → IsDataflow p → (w : State T) (k : ℕ) (d c : DeskView T)
-        → AreSharing T.least p c → (bundle : Bundle T) (more : Bool)
-        → bundle.place.node < length p.nodes → IsTrue (is_linear (node_of p bundle.place.node))
-        → ((m : ℕ) → m ≢ bundle.place.node → IsSameAt m d c)
-        → ((start : List T) (inserted : List (Insertion T))
-        → IsArrangedOn T.below T.joined T.least p d bundle.place.node start inserted
-        → IsArrangedOn T.below T.joined T.least p c bundle.place.node start inserted)
-        → IsSplit T.below (linear_output (node_of p bundle.place.node) bundle.updates
-        ++ waits_on d bundle.place.node (node_of p bundle.place.node)) []
-        (waits_on c bundle.place.node (node_of p bundle.place.node))
-        → IsOwn T.below T.joined T.least p w k d (Taken bundle more)
-        → IsOwn T.below T.joined T.least p w k c (Kept bundle.place.node more) }
-{}
+// What a linear node makes of updates.
+fn applied<T: Minimum>(
+    alloc: Global,
+    operator: &Node,
+    updates: &UpdateList<T>,
+) -> Result<Vec<Update<T>>, Refusal>
+    requires linear { IsTrue (is_linear operator.now) }
+    requires rows { IsTrue (takes_rows operator.now updates.now) }
+    ensures applied { IfOk result (λ out. out.items ≡ linear_output operator.now updates.now) }
+    ensures refused { IfErr result (IsMemoryOrOverflow (Overflows operator.now updates.now)) }
+{
+    let updates = updates.to_vec(alloc)?;
+    let out = linear::apply(operator, updates)?;
+    Ok(out)
+}
 
-/// A join's pairs of a bundle with all that it took at its other port lie on the desk, and the join has
-/// then taken up to where the batch ends that the bundle was. Several bundles may wait at a port: the
-/// one in hand is of the batch that begins where the join had come to.
-pub fn kept_is_joined<T: Minimum>()
-    ensures left { (p : Dataflow) → IsDataflow p → (w : State T) (k : ℕ) (d c : DeskView T)
-        → AreSharing T.least p c → (bundle : Bundle T) (more : Bool)
-        → bundle.place.node < length p.nodes → (l r : ℕ)
-        → node_of p bundle.place.node ≡ Join l r
-        → ((m : ℕ) → m ≢ bundle.place.node → IsSameAt m d c) → (j i : JoiningView T)
-        → slice_get d.joins bundle.place.node ≡ Some (Some j)
-        → slice_get c.joins bundle.place.node ≡ Some (Some i)
-        → bundle.place.port ≡ 0 → (upper : List T) (looked : ℕ)
-        → i ≡ record j { state = record j.state { left = upper; looked = looked } }
-        → IsNextBoundary T.below T.joined T.least p d l j.state.left upper
-        → ((start : List T) (inserted later taken : List (Insertion T))
-        → IsArrangedOn T.below T.joined T.least p d r start inserted
-        → inserted ≡ on_top later taken → j.state.right ≡ reached (T.least ∷ []) taken
-        → IsSplit T.below (pairs T.joined j.state.key bundle.updates (all_updates taken)
-        ++ waits_on d bundle.place.node (node_of p bundle.place.node)) []
-        (waits_on c bundle.place.node (node_of p bundle.place.node)))
-        → IsOwn T.below T.joined T.least p w k d (Taken bundle more)
-        → IsOwn T.below T.joined T.least p w k c (Kept bundle.place.node more) }
-    ensures right { (p : Dataflow) → IsDataflow p → (w : State T) (k : ℕ) (d c : DeskView T)
-        → AreSharing T.least p c → (bundle : Bundle T) (more : Bool)
-        → bundle.place.node < length p.nodes → (l r : ℕ)
-        → node_of p bundle.place.node ≡ Join l r
-        → ((m : ℕ) → m ≢ bundle.place.node → IsSameAt m d c) → (j i : JoiningView T)
-        → slice_get d.joins bundle.place.node ≡ Some (Some j)
-        → slice_get c.joins bundle.place.node ≡ Some (Some i)
-        → bundle.place.port ≡ 1 → (upper : List T) (looked : ℕ)
-        → i ≡ record j { state = record j.state { right = upper; looked = looked } }
-        → IsNextBoundary T.below T.joined T.least p d r j.state.right upper
-        → ((start : List T) (inserted later taken : List (Insertion T))
-        → IsArrangedOn T.below T.joined T.least p d l start inserted
-        → inserted ≡ on_top later taken → j.state.left ≡ reached (T.least ∷ []) taken
-        → IsSplit T.below (pairs T.joined j.state.key (all_updates taken) bundle.updates
-        ++ waits_on d bundle.place.node (node_of p bundle.place.node)) []
-        (waits_on c bundle.place.node (node_of p bundle.place.node)))
-        → IsOwn T.below T.joined T.least p w k d (Taken bundle more)
-        → IsOwn T.below T.joined T.least p w k c (Kept bundle.place.node more) }
-{}
+impl<T: Minimum> Desk<T> {
+    // Gathers what a linear node makes of updates. Nothing else on the desk changes.
+    fn gather(
+        &mut self,
+        alloc: Global,
+        operator: &Node,
+        node: NodeId,
+        updates: &UpdateList<T>,
+    ) -> Result<(), Refusal>
+        requires place { node < length self.old.gathered }
+        requires linear { IsTrue (is_linear operator.now) }
+        requires plain { arranged_by operator.now ≡ None }
+        requires rows { IsTrue (takes_rows operator.now updates.now) }
+        ensures laid { OnOk result ((p : Dataflow) → node_at p.nodes node ≡ operator.now
+            → IsLaidIn T.below T.joined T.least p node
+            (linear_output operator.now updates.now) self.old self.new) }
+        ensures same { OnErr result (self.new ≡ self.old) }
+        ensures refused { IfErr result (IsMemoryOrOverflow (Overflows operator.now updates.now)) }
+    {
+        let out = applied(alloc, operator, updates)?;
+        self.gathered[node.number()].append(alloc, out)?;
+        Ok(())
+    }
 
-/// What a bundle brought is pending at a reduction, which stands for it from then on.
-pub fn kept_is_reduced<T: Minimum>()
-    ensures { (p : Dataflow) → IsDataflow p → (w : State T) (k : ℕ) (d c : DeskView T)
-        → AreSharing T.least p c → (bundle : Bundle T) (more : Bool)
-        → bundle.place.node < length p.nodes → (kind : Kind) (source : ℕ)
-        → node_of p bundle.place.node ≡ Reduce kind source
-        → ((m : ℕ) → m ≢ bundle.place.node → IsSameAt m d c) → (r s : ReducingView T)
-        → slice_get d.reductions bundle.place.node ≡ Some (Some r)
-        → slice_get c.reductions bundle.place.node ≡ Some (Some s) → IsOfOneShape r s
-        → ((received emitted : List (Update T)) (upper : List T)
-        → IsReduced T.below T.joined T.least r received emitted
-        → IsTrue (all_beyond T.below upper (times bundle.updates))
-        → IsTrue (list_all (λ u. has_passed T.below upper u.time) emitted)
-        → IsReduced T.below T.joined T.least s (bundle.updates ++ received) emitted)
-        → ((received emitted : List (Update T))
-        → IsReduced T.below T.joined T.least r received emitted
-        → IsPendingAfter T.below (pending_of r) bundle.updates (pending_of s))
-        → IsOwn T.below T.joined T.least p w k d (Taken bundle more)
-        → IsOwn T.below T.joined T.least p w k c (Kept bundle.place.node more) }
-{}
+    // Puts updates into the arrangement of a node, where they wait. Nothing else on the desk changes.
+    fn arrange(
+        &mut self,
+        alloc: Global,
+        node: NodeId,
+        updates: &UpdateList<T>,
+    ) -> Result<(), Refusal>
+        requires there { (a : ArrangementState T) × (slice_get self.old.arrangements node ≡ Some (Some a))
+            × IsTrue (rows_have a.width updates.now) }
+        requires times { IsTrue (times_from T.below T.least updates.now) }
+        ensures laid { OnOk result ((p : Dataflow) (source key : ℕ)
+            → node_at p.nodes node ≡ Arrange source key
+            → IsLaidIn T.below T.joined T.least p node updates.now self.old self.new) }
+        ensures same { OnErr result (self.new ≡ self.old) }
+        ensures only { IfErr result (λ refused. refused ≡ OutOfMemory) }
+    {
+        let mut updates = updates.to_vec(alloc)?;
+        match &mut self.arrangements[node.number()] {
+            Some(arrangement) => arrangement.take_in(&mut updates),
+            None => unreachable!(),
+        }
+    }
 
-/// Of what lies on the desk for a node, a part is taken in hand to be given, and the rest stays: at a
-/// node that is not arranged, and no reduction.
-pub fn ready_is_laid<T: Minimum>()
-    ensures kept { (p : Dataflow) → IsDataflow p → (w : State T) (k : ℕ) (d c : DeskView T)
-        → AreSharing T.least p c → (n : ℕ) → n < length p.nodes
-        → ((m : ℕ) → m ≢ n → IsSameAt m d c) → (out : List (Update T))
-        → IsSplit T.below (waits_on d n (node_of p n)) out (waits_on c n (node_of p n))
-        → (more : Bool) → arranged_by (node_of p n) ≡ None → is_reduction (node_of p n) ≡ false
-        → slice_get c.joins n ≡ slice_get d.joins n
-        → IsOwn T.below T.joined T.least p w k d (Kept n more)
-        → IsOwn T.below T.joined T.least p w k c (Ready n out) }
-    ensures turned { (p : Dataflow) → IsDataflow p → (w : State T) (k : ℕ) (d c : DeskView T)
-        → AreSharing T.least p c → (n : ℕ) → n < length p.nodes
-        → ((m : ℕ) → m ≢ n → IsSameAt m d c) → (out : List (Update T))
-        → IsSplit T.below (waits_on d n (node_of p n)) out (waits_on c n (node_of p n))
-        → (upper : List T) → arranged_by (node_of p n) ≡ None
-        → is_reduction (node_of p n) ≡ false → slice_get c.joins n ≡ slice_get d.joins n
-        → IsOwn T.below T.joined T.least p w k d (Turned n upper)
-        → IsOwn T.below T.joined T.least p w k c (Ready n out) }
-{}
+    // A reduction takes updates: their times are pending from then on. Nothing else on the desk
+    // changes.
+    fn reduce(
+        &mut self,
+        alloc: Global,
+        node: NodeId,
+        updates: &UpdateList<T>,
+    ) -> Result<(), Refusal>
+        requires there { (r : ReducingView T) × (slice_get self.old.reductions node ≡ Some (Some r))
+            × IsTrue (have_width r.width updates.now) }
+        requires later { IsTrue (all_beyond T.below (T.least ∷ []) (times updates.now)) }
+        ensures reduced { OnOk result
+            (IsReducedWith T.below T.joined T.least node updates.now self.old self.new) }
+        ensures same { OnErr result (self.new ≡ self.old) }
+        ensures refused { IfErr result (IsMemoryOrOverflow (2 ^ 63 ≤ size updates.now)) }
+    {
+        let updates = updates.to_vec(alloc)?;
+        match &mut self.reductions[node.number()] {
+            Some(reduction) => reduction.take(alloc, &self.start, updates),
+            None => unreachable!(),
+        }
+    }
 
-/// At a reduction that the worker turned to, the answers at the times that its input frontier has
-/// passed are ready to be given, and the other times stay pending. The reduction reads the trace of
-/// its source on the same desk, in a state that a legal history leads to.
-pub fn found_is_laid<T: Minimum>()
-    ensures { (p : Dataflow) → IsDataflow p → (es : List (Event T))
-        → IsLegal T.below T.least p es → (k : ℕ) (d c : DeskView T)
-        → AreSharing T.least p c → (n : ℕ) → n < length p.nodes → (kind : Kind) (source : ℕ)
-        → node_of p n ≡ Reduce kind source → ((m : ℕ) → m ≢ n → IsSameAt m d c)
-        → (r s : ReducingView T) → slice_get d.reductions n ≡ Some (Some r)
-        → slice_get c.reductions n ≡ Some (Some s) → IsOfOneShape r s
-        → (a : ArrangementState T) → slice_get d.arrangements source ≡ Some (Some a)
-        → (upper : List T) (out : List (Update T))
-        → ((inserted : List (Insertion T)) (received emitted : List (Update T))
-        → Stands T.below a.spine inserted
-        → SumsToReceived T.below upper (all_updates inserted) received
-        → IsReduced T.below T.joined T.least r received emitted
-        → IsReduced T.below T.joined T.least s received (out ++ emitted))
-        → IsTrue (list_all (λ u. has_passed T.below upper u.time) out)
-        → IsTrue (all_beyond T.below upper (pending_of s))
-        → ((other : List T) → IsTrue (all_beyond T.below other (pending_of r))
-        → IsTrue (all_beyond T.below other (times out)))
-        → ((other : List T) → IsTrue (all_beyond T.below other (pending_of r))
-        → IsTrue (all_beyond T.below other (pending_of s)))
-        → IsOwn T.below T.joined T.least p (state_after T.below T.least p es) k d (Turned n upper)
-        → IsOwn T.below T.joined T.least p (state_after T.below T.least p es) k c (Ready n out) }
-{}
+    // Lays what a bundle makes on the desk, at a node that is no join. If it is refused, then nothing
+    // has changed.
+    fn take_in(
+        &mut self,
+        alloc: Global,
+        plan: &Plan,
+        bundle: &Bundle<T>,
+        more: bool,
+    ) -> Result<(), Refusal>
+        requires someones { IsSomeones T.below T.joined T.least plan.now self.old
+            (Taken bundle.now more) }
+        requires other { is_join (node_at plan.now bundle.now.place.node) ≡ false }
+        ensures leads { OnOk result (Leads T.below T.joined T.least plan.now self.old
+            (Taken bundle.now more) self.new (Kept bundle.now.place.node more)) }
+        ensures same { OnErr result (self.new ≡ self.old) }
+        ensures refused { IfErr result (IsMemoryOrOverflow (IsTooLarge T.below T.joined T.least T.cmp
+            plan.now self.old (Taken bundle.now more))) }
+    {
+        let node = bundle.place.node;
+        let operator = plan.node(node);
+        match operator {
+            Node::Arrange { .. } => self.arrange(alloc, node, &bundle.updates),
+            Node::Reduce { .. } => self.reduce(alloc, node, &bundle.updates),
+            _ => self.gather(alloc, operator, node, &bundle.updates),
+        }
+    }
 
-/// At an arrange node that the worker turned to, a batch is sealed of what waits there. It is in hand,
-/// to be given and inserted, and the rest stays.
-pub fn sealed_is_laid<T: Minimum>()
-    ensures { (p : Dataflow) → IsDataflow p → (w : State T) (k : ℕ) (d c : DeskView T)
-        → AreSharing T.least p c → (n source key : ℕ) → n < length p.nodes
-        → node_of p n ≡ Arrange source key → ((m : ℕ) → m ≢ n → IsSameAt m d c)
-        → (upper : List T) (batch : BatchState T)
-        → IsSplit T.below (waits_on d n (node_of p n)) batch.updates (waits_on c n (node_of p n))
-        → batch.description.upper ≡ upper
-        → ((start : List T) (inserted : List (Insertion T))
-        → IsArrangedOn T.below T.joined T.least p d n start inserted
-        → IsArrangedOn T.below T.joined T.least p c n start inserted)
-        → IsNextBatch T.below T.joined T.least p c n batch.description.upper batch.updates
-        → IsOwn T.below T.joined T.least p w k d (Turned n upper)
-        → IsOwn T.below T.joined T.least p w k c (Sealed n batch) }
-{}
-
-/// Merges leave a desk right, whatever is in hand: each arrangement stands for what it stood for, and
-/// has the same waiting. A batch in hand must still go on from its spine.
-pub fn merged_is_laid<T: Minimum>()
-    ensures { (p : Dataflow) (w : State T) (k : ℕ) (d c : DeskView T) → AreSharing T.least p c
-        → ((n : ℕ) → IsMergedAt T.below T.joined T.least p n d c) → (h : Hand T)
-        → IsHandOn T.below T.joined T.least p c h
-        → IsOwn T.below T.joined T.least p w k d h → IsOwn T.below T.joined T.least p w k c h }
-{}
+    // Lays what a bundle makes on the desk. The pairs of a join are ready at once. If it is refused,
+    // then nothing has changed.
+    pub(crate) fn lay(
+        &mut self,
+        alloc: Global,
+        plan: &Plan,
+        bundle: &Bundle<T>,
+        more: bool,
+    ) -> Result<Hand<T>, Refusal>
+        requires someones { IsSomeones T.below T.joined T.least plan.now self.old
+            (Taken bundle.now more) }
+        ensures leads { IfOk result (λ hand. Leads T.below T.joined T.least plan.now self.old
+            (Taken bundle.now more) self.new hand) }
+        ensures laid { IfOk result (λ hand. IsLaidHand bundle.now.place.node hand) }
+        ensures same { OnErr result (self.new ≡ self.old) }
+        ensures refused { IfErr result (IsMemoryOrOverflow (IsTooLarge T.below T.joined T.least T.cmp
+            plan.now self.old (Taken bundle.now more))) }
+    {
+        let node = bundle.place.node;
+        match plan.node(node) {
+            Node::Join { left, right } => {
+                let pairs = self.join(alloc, plan, bundle, more, *left, *right)?;
+                Ok(ready(node, pairs))
+            }
+            _ => {
+                self.take_in(alloc, plan, bundle, more)?;
+                Ok(Hand::Kept { node, more })
+            }
+        }
+    }
+}

@@ -1,23 +1,26 @@
-//! Desk: what one worker among many keeps between two of its steps, and what each event makes of it.
+//! Desk: what one worker among many keeps between two of its steps, and what it computes without the
+//! board.
 //!
-//! The definition to know is `IsOwn` (`specs/Own.antt`): a desk and a [`Hand`] are right for a worker in a
-//! state. It begins with [`first_is_laid`], and what others do leaves it ([`others_leave_it`]). Then the
-//! hand goes from `Free` by a take ([`taken_is_laid`], [`turned_is_laid`]), by what is computed of it
-//! ([`kept_is_laid`] at a linear node, [`kept_is_joined`], [`kept_is_reduced`]; [`ready_is_laid`],
-//! [`found_is_laid`], [`sealed_is_laid`]), and by a give back to `Free` ([`kept_is_held_back`],
-//! [`ready_is_given`], [`sealed_is_given`]). A refusal leaves desk and hand as they are, so any of it may
-//! be tried again. [`merged_is_laid`] is for merges. The functions do nothing: cite their clauses.
+//! A worker that took a piece has it in its [`Hand`]. [`Desk::compute`] takes the hand as far as it goes
+//! without the board: what a bundle makes is laid on the desk, or made ready to be given. What is then
+//! held at the node ([`Desk::held`]) and given is the worker's, who enters the board. A batch that was
+//! given is put away ([`Desk::put_away`]).
+//!
+//! Crate `desk_laws` says of which states a desk and a hand are right, and why each of these is allowed.
+//! A refusal for want of memory leaves a desk and a hand that are as right as before, so any call may be
+//! made again.
 #![tactic(auto)]
 
-mod giving;
-mod hand;
+mod computing;
+mod desk;
+mod finding;
+mod gathered;
+mod holding;
+mod joining;
 mod laying;
-mod taking;
+mod opening;
+mod putting_away;
+mod sealing;
 
-pub use giving::{kept_is_held_back, ready_is_given, sealed_is_given};
-pub use hand::Hand;
-pub use laying::{
-    found_is_laid, kept_is_joined, kept_is_laid, kept_is_reduced, merged_is_laid, ready_is_laid,
-    sealed_is_laid,
-};
-pub use taking::{first_is_laid, others_leave_it, taken_is_laid, turned_is_laid};
+pub use desk::Desk;
+pub use desk_laws::{Hand, Output};

@@ -8,7 +8,7 @@ use Rattle.std.specs.Prelude.{eqb}
 use Rattle.std.proofs.lemmas.Bool.{and_parts, and_from}
 use Rattle.std.proofs.lemmas.List.Elements.{All-weaker, All-push, All-set}
 use Rattle.std.proofs.lemmas.List.Folds.{list_all-append}
-use Rattle.std.proofs.lemmas.Option.{slice_get-get_or}
+use Rattle.std.proofs.lemmas.Option.{get_or_from_slice_get, slice_get-get_or, slice_get_within}
 use Rattle.lattice.specs.Order.{PartialOrderLaws}
 use Rattle.lattice.specs.Frontiers.{all_beyond}
 use Rattle.lattice.proofs.FrontierLemmas.{beyond_itself, all_beyond_later}
@@ -40,7 +40,7 @@ module _ {T : Type 0} where
   among_more u [] b m = absurd m
   among_more u (x ∷ bs) b m = ⊎_elim (λ e. inl e) (λ n. inr (among_more u bs b n)) m
 
-  boundary_more : (s : SpineState T) (b : BatchState T) (reserved : Bool) (u : List T) → Contains (boundaries s) u → Contains (boundaries (with_batch s b reserved)) u
+  pub boundary_more : (s : SpineState T) (b : BatchState T) (reserved : Bool) (u : List T) → Contains (boundaries s) u → Contains (boundaries (with_batch s b reserved)) u
   boundary_more s b reserved u h =
       contains_among u (boundaries (with_batch s b reserved)) (⊎_elim (λ e. inl e) (λ m. inr (among_more u s.list.batches b m)) (among_contains u (boundaries s) h))
 
@@ -215,20 +215,30 @@ module _ {T : Type 0} (below : T → T → Bool) (o : PartialOrderLaws below) (l
         waiting_times = is.waiting_times;
       })
 
+  -- each reader asks for boundaries from one on that the spine has reached
+  pub reader_behind : (a : ArrangementState T) (i : ℕ) (h : HoldState T) → IsArrangement below least a → slice_get a.holds i ≡ Some h → IsTrue (all_beyond below h.physical (upper_of a.spine))
+  reader_behind a i h is at =
+      let reader = subst (IsReader below least a.spine) (get_or_from_slice_get a.holds i h h at) (is.readers i h (slice_get_within a.holds i h at)) in
+      reader.behind
+
   -- a reader has got on
   module _ (cmp : T → T → Ordering) (total : IsTotalOrder cmp) where
-    pub arrangement_moved : (a : ArrangementState T) (s : SpineState T) (i : ℕ) (from to : HoldState T) → slice_get a.holds i ≡ Some from → to ≡ record { logical = least ∷ []; physical = upper_of a.spine }
+    pub arrangement_moved : (a : ArrangementState T) (s : SpineState T) (i : ℕ) (from to : HoldState T) (u : List T) → slice_get a.holds i ≡ Some from → to ≡ record { logical = least ∷ []; physical = u }
+        → Contains (boundaries a.spine) u → IsTrue (all_beyond below u (upper_of a.spine))
         → IsMoved from to a.spine.holds s.holds → s.list ≡ a.spine.list → IsSinceOf below cmp s.holds s.since → IsArrangement below least a
         → IsArrangement below least (record a { spine = s; holds = set a.holds i to })
-    arrangement_moved a s i from to at e moved list since is =
-        let upper : upper_of s ≡ upper_of a.spine = ap (λ (l : BatchListState T). end_of l.start l.batches) list in
+    arrangement_moved a s i from to u at e there behind moved list since is =
+        let physical : to.physical ≡ u = ap (λ (h : HoldState T). h.physical) e in
+        let reader : IsReader below least a.spine to = record {
+          logical = ap (λ (h : HoldState T). h.logical) e;
+          boundary = subst (Contains (boundaries a.spine)) (sym physical) there;
+          behind = subst (λ F. IsTrue (all_beyond below F (upper_of a.spine))) (sym physical) behind;
+        } in
         let content : stored s ≡ stored a.spine = ap (λ (l : BatchListState T). all_content updates_of l.batches) list in
         let own = set a.holds i to in
         let same = own_moved a.holds i from to a.spine.holds s.holds at moved is.holds in
         let some : 0 < length own = (let l = length-set a.holds i to in let old = is.own in omega (arith, l, old)) in
-        let readers = All-set (IsReader below least s) a.holds i to
-        (reader_at_upper s to (ap (λ (h : HoldState T). h.logical) e) (ap (λ (h : HoldState T). h.physical) e ∙ sym upper))
-        (readers_kept a.spine s a.holds list is.readers) in
+        let readers = readers_kept a.spine s own list (All-set (IsReader below least a.spine) a.holds i to reader is.readers) in
         let logical = All-weaker (IsReader below least s) (λ h. h.logical ≡ least ∷ []) (λ h r. r.logical) own readers in
         record {
           holds = same;

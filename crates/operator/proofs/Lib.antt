@@ -2,6 +2,8 @@ pub mod ArrangementLemmas
 pub mod FrontLemmas
 pub mod HoldLemmas
 pub mod TurnLemmas
+pub mod OpenLemmas
+pub mod BoundaryAfterLemmas
 pub mod JoinSideLemmas
 pub mod JoinAnswerLemmas
 pub mod DistinctLemmas

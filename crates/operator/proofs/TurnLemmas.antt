@@ -14,7 +14,7 @@ use Rattle.operator_laws.specs.Joining.{on_top}
 
 module _ {T : Type 0} {below : T → T → Bool} (o : PartialOrderLaws below) where
   -- between a frontier and itself there is no time
-  none_between : (F G : List T) → IsTrue (all_beyond below F G) → (us : List (Update T)) → IsTrue (all_between below G F us) → us ≡ []
+  pub none_between : (F G : List T) → IsTrue (all_beyond below F G) → (us : List (Update T)) → IsTrue (all_between below G F us) → us ≡ []
   none_between F G on [] h = refl
   none_between F G on (u ∷ us) h =
       let first = and_parts (is_between below G F u.time) (all_between below G F us) h in
@@ -28,7 +28,7 @@ module _ {T : Type 0} {below : T → T → Bool} (o : PartialOrderLaws below) wh
 
   module _ (start : List T) where
     -- what comes first is in turn
-    firsts : (later h : List (Insertion T)) → AreInTurn below start (on_top later h) → AreInTurn below start h
+    pub firsts : (later h : List (Insertion T)) → AreInTurn below start (on_top later h) → AreInTurn below start h
     firsts [] h all = all
     firsts (i ∷ later) h all = (firsts later (i ∷ h) all).1
 

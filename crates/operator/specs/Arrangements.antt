@@ -9,8 +9,9 @@ use Rattle.trace.specs.Readings.{Insertion, reached}
 use Rattle.batch.specs.Descriptions.{BatchState}
 use Rattle.trace.specs.BatchLists.{end_of, insertion_of}
 use Rattle.trace.specs.Holds.{HoldState}
-use Rattle.spine.specs.Holding.{AreSameHolds}
+use Rattle.spine.specs.Holding.{AreSameHolds, forbids}
 use Rattle.spine.specs.Spines.{SpineState, Stands, boundaries, stored}
+use Rattle.operator_laws.specs.Joining.{on_top}
 
 -- how many columns the rows have, the batches that were inserted, the updates whose times the input
 -- frontier has not passed, and the holds: the arrangement's own, and then one for each reader
@@ -81,6 +82,14 @@ module _ {T : Type 0} (below : T → T → Bool) where
   abbrev pub AreInTurn : List T → List (Insertion T) → Type 0
   AreInTurn start [] = ⊤
   AreInTurn start (i ∷ h) = IsInTurn (reached start h) i × AreInTurn start h
+
+  -- where the oldest so many of the insertions ended, the spine still has a boundary, if some reader
+  -- may ask for it
+  abbrev pub IsOpen : SpineState T → List (Insertion T) → Type 0
+  IsOpen s inserted =
+      (later taken : List (Insertion T)) → inserted ≡ on_top later taken
+      → IsTrue (forbids below s.holds (reached s.list.start taken))
+      → Contains (boundaries s) (reached s.list.start taken)
 
 -- the arrangement after it kept a batch: one without updates is not inserted. The readers' holds
 -- stay

@@ -10,7 +10,8 @@
 //!
 //! The invariant is the record `IsArrangement`: the holds are the spine's, each asks for a boundary
 //! that the spine has, and rows and times are as the plan says.
-ghost use Rattle.std.specs.Prelude.{◌≡◌, ◌≢◌, ◌<◌, ◌≤◌, ◌∷◌, ◌++◌, [], true, suc, set, length, vec_len, vec_capacity, List, ℤ, Bool, IfOk, IfErr, OnOk, OnErr, IsTrue};
+ghost use Rattle.std.specs.Prelude.{◌≡◌, ◌≢◌, ◌<◌, ◌≤◌, ◌∷◌, ◌++◌, [], true, suc, set, length, slice_get, vec_len, vec_capacity, List, Some, ℤ, Bool, IfOk, IfErr, OnOk, OnErr, IsTrue};
+ghost use Rattle.std.specs.List.{Contains};
 ghost use Rattle.lattice.specs.Frontiers.{all_beyond};
 ghost use Rattle.update.specs.declared.refusal.Refusal.{Refusal};
 ghost use Rattle.update.specs.Refusals.{IsMemoryOrOverflow};
@@ -19,9 +20,11 @@ ghost use Rattle.batch.specs.Batches.{IsSealed};
 ghost use Rattle.batch.specs.Intervals.{all_between, is_interval_of, passed_updates, open_updates};
 ghost use Rattle.trace.specs.Readings.{Insertion};
 ghost use Rattle.trace.specs.BatchLists.{Continues, insertion_of};
-ghost use Rattle.spine.specs.Spines.{Stands};
-ghost use Rattle.operator.specs.Arrangements.{IsArrangement, IsNew, rows_have, times_from, times_of, upper_of};
+ghost use Rattle.trace.specs.Holds.{HoldState};
+ghost use Rattle.spine.specs.Spines.{Stands, boundaries};
+ghost use Rattle.operator.specs.Arrangements.{AreInTurn, IsArrangement, IsNew, IsOpen, rows_have, times_from, times_of, upper_of};
 
+mod boundary;
 mod laws;
 mod pending;
 
@@ -179,6 +182,9 @@ impl<T: Minimum> Arrangement<T> {
         }) }
         ensures stands { OnOk result ((h : List (Insertion T)) → Stands T.below self.old.spine h
             → Stands T.below self.new.spine h) }
+        ensures open { OnOk result ((h : List (Insertion T)) → Stands T.below self.old.spine h
+            → AreInTurn T.below self.old.spine.list.start h → IsOpen T.below self.old.spine h
+            → IsOpen T.below self.new.spine h) }
         ensures same { OnErr result (self.new ≡ self.old) }
         ensures only { IfErr result (λ refused. refused ≡ Refusal.OutOfMemory) }
     {
@@ -277,6 +283,8 @@ impl<T: Minimum> Arrangement<T> {
         }) }
         ensures stands { (h : List (Insertion T)) → Stands T.below self.old.spine h
             → Stands T.below self.new.spine h }
+        ensures open { (h : List (Insertion T)) → IsOpen T.below self.old.spine h
+            → IsOpen T.below self.new.spine h }
         ensures same { OnErr result (self.new ≡ self.old) }
         ensures only { IfErr result (λ refused. refused ≡ Refusal.OutOfMemory) }
     {
@@ -305,6 +313,8 @@ impl<T: Minimum> Arrangement<T> {
         ensures upper { upper_of self.new.spine ≡ batch.description.upper }
         ensures stands { (h : List (Insertion T)) → Stands T.below self.old.spine h
             → Stands T.below self.new.spine (insertion_of batch ∷ h) }
+        ensures open { (h : List (Insertion T)) → IsOpen T.below self.old.spine h
+            → IsOpen T.below self.new.spine (insertion_of batch ∷ h) }
     {
         known_forward(&batch);
         self.spine.insert(batch).unwrap();
@@ -330,9 +340,48 @@ impl<T: Minimum> Arrangement<T> {
         ensures upper { upper_of self.new.spine ≡ upper_of self.old.spine }
         ensures stands { (h : List (Insertion T)) → Stands T.below self.old.spine h
             → Stands T.below self.new.spine h }
+        ensures open { (h : List (Insertion T)) → IsOpen T.below self.old.spine h
+            → IsOpen T.below self.new.spine h }
     {
         let batches = all_batches(&self.spine).len() as u64;
         let _done = self.spine.work(fuel_for(more as u64, batches));
+    }
+
+    /// Tells the spine that a reader, by the number of its hold, has taken all that was inserted up
+    /// to a boundary: one that the spine has, and at or after the reader's own. From then on the
+    /// reader asks for boundaries from there on, and the spine may merge what is before. If memory
+    /// for frontiers was refused, then nothing has changed: [`Refusal::OutOfMemory`] only.
+    ///
+    /// Cost: linear in the number of holds, since every logical frontier is the least time.
+    pub fn advance(
+        &mut self,
+        alloc: Global,
+        reader: usize,
+        boundary: &Antichain<T>,
+    ) -> Result<(), Refusal>
+        requires reader { reader < length self.old.holds }
+        requires boundary { Contains (boundaries self.old.spine) boundary.now }
+        requires forward { (hold : HoldState T) → slice_get self.old.holds reader ≡ Some hold
+            → IsTrue (all_beyond T.below hold.physical boundary.now) }
+        requires behind { IsTrue (all_beyond T.below boundary.now (upper_of self.old.spine)) }
+        ensures moved { OnOk result (self.new ≡ record self.old {
+          spine = record self.old.spine { holds = self.new.spine.holds };
+          holds = set self.old.holds reader record {
+            logical = T.least ∷ [];
+            physical = boundary.now;
+          };
+        }) }
+        ensures stands { (h : List (Insertion T)) → Stands T.below self.old.spine h
+            → Stands T.below self.new.spine h }
+        ensures open { OnOk result ((h : List (Insertion T)) → IsOpen T.below self.old.spine h
+            → IsOpen T.below self.new.spine h) }
+        ensures same { OnErr result (self.new ≡ self.old) }
+        ensures only { IfErr result (λ refused. refused ≡ Refusal.OutOfMemory) }
+    {
+        let logical = Antichain::from_elem(alloc, T::minimum());
+        let hold = &mut self.holds[reader];
+        self.spine.advance_hold(alloc, hold, &logical, boundary)?;
+        Ok(())
     }
 
     /// Tells the spine that a reader, by the number of its hold, has taken all that was inserted,
@@ -356,12 +405,13 @@ impl<T: Minimum> Arrangement<T> {
         }) }
         ensures stands { (h : List (Insertion T)) → Stands T.below self.old.spine h
             → Stands T.below self.new.spine h }
+        ensures open { OnOk result ((h : List (Insertion T)) → IsOpen T.below self.old.spine h
+            → IsOpen T.below self.new.spine h) }
         ensures same { OnErr result (self.new ≡ self.old) }
         ensures only { IfErr result (λ refused. refused ≡ Refusal.OutOfMemory) }
     {
-        let logical = Antichain::from_elem(alloc, T::minimum());
-        let hold = &mut self.holds[reader];
-        self.spine.advance_hold(alloc, hold, &logical, upper)?;
+        let _spine = self.trace();
+        self.advance(alloc, reader, upper)?;
         Ok(())
     }
 

@@ -17,10 +17,7 @@ use std::alloc::Global;
 use update::{Refusal, Update};
 
 // The antichain of a frontier.
-pub(crate) fn antichain_of<T: Lattice>(
-    alloc: Global,
-    frontier: &[T],
-) -> Result<Antichain<T>, Refusal>
+pub fn antichain_of<T: Lattice>(alloc: Global, frontier: &[T]) -> Result<Antichain<T>, Refusal>
     requires { IsFrontier T.below T.cmp frontier.now }
     ensures is { IfOk result (λ made. made ≡ frontier.now) }
     ensures only { IfErr result (λ refused. refused ≡ Refusal.OutOfMemory) }

@@ -139,6 +139,22 @@ impl<T: Minimum> Joining<T> {
         self.right_hold
     }
 
+    /// The boundary up to which the left side was taken, a frontier. Takes no memory.
+    pub fn left(&self) -> &[T]
+        ensures value { result.now ≡ self.now.state.left }
+        ensures frontier { IsFrontier T.below T.cmp self.now.state.left }
+    {
+        self.state.left()
+    }
+
+    /// The boundary up to which the right side was taken, a frontier. Takes no memory.
+    pub fn right(&self) -> &[T]
+        ensures value { result.now ≡ self.now.state.right }
+        ensures frontier { IsFrontier T.below T.cmp self.now.state.right }
+    {
+        self.state.right()
+    }
+
     /// Tells the prover that the widths fit the key, and that both boundaries are frontiers. Costs
     /// nothing.
     pub fn known(&self)

@@ -11,7 +11,7 @@ ghost use Rattle.std.specs.List.{Contains};
 ghost use Rattle.lattice.specs.Frontiers.{all_beyond};
 ghost use Rattle.update.specs.declared.refusal.Refusal.{Refusal};
 ghost use Rattle.trace.specs.Readings.{Insertion, all_content};
-ghost use Rattle.trace.specs.BatchLists.{Continues, end_of, insertion_of, updates_of};
+ghost use Rattle.trace.specs.BatchLists.{Continues, IsBatchList, end_of, insertion_of, updates_of};
 ghost use Rattle.spine.specs.Holding.{IsSinceOf, IsMoved, IsWithout};
 ghost use Rattle.spine.specs.Spines.{SpineState, Stands, stored};
 
@@ -246,6 +246,15 @@ impl<T: Lattice> Spine<T> {
     {
         end_hold(&mut self.holds, hold);
         refill(&mut self.since, self.holds.as_slice());
+    }
+
+    /// The batches in order, each of which continues those before it. Sums are read through
+    /// [`Trace`]; this tells where the boundaries are, and in which order. Takes no memory.
+    pub fn batches(&self) -> &[Batch<T>]
+        ensures value { result.now ≡ self.now.list.batches }
+        ensures known { IsBatchList T.below T.cmp self.now.list }
+    {
+        self.levels.batches()
     }
 
     /// How many updates were copied in merges, since the spine was made. The count stays at its

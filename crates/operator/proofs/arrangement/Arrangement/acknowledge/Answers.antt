@@ -1,101 +1,29 @@
-use Rattle.std.proofs.Common.{◌≡◌, List, [], ◌∷◌, IsTrue, Some, slice_get, sym, ◌∙◌, ap, subst}
-use Rattle.std.proofs.Common.{set, get_or, length, ◌<◌, Err, ⊎_elim, rules}
-use Rattle.std.proofs.lemmas.List.{set-get_or}
-use Rattle.std.proofs.lemmas.Option.{slice_get-get_or}
-use Rattle.std.proofs.lemmas.Result.{err_from_is_err_and}
+use Rattle.std.proofs.Common.{IsTrue, sym, subst, rules}
+use Rattle.std.specs.List.{Contains}
 use Rattle.lattice.specs.Frontiers.{all_beyond}
 use Rattle.lattice.proofs.FrontierLemmas.{beyond_itself}
-use Rattle.trace.specs.Holds.{HoldState}
-use Rattle.trace.specs.BatchLists.{BatchListState}
-use Rattle.trace.proofs.BoundaryLemmas.{frontiers_decided}
-use Rattle.spine.specs.Spines.{SpineState, Stands}
-use Rattle.operator.specs.Arrangements.{ArrangementState, IsReader, upper_of}
-use Rattle.operator.proofs.ArrangementLemmas.{arrangement_moved}
-use Rattle.operator.proofs.HoldLemmas.{own_found}
+use Rattle.trace.proofs.BatchListLemmas.{reached_boundary}
+use Rattle.spine.specs.Spines.{boundaries}
+use Rattle.operator.specs.Arrangements.{upper_of}
+use Rattle.operator.proofs.ArrangementLemmas.{reader_behind}
 use Rattle.operator.proofs.arrangement.Arrangement.acknowledge.Goals as goal
 
-pub advance_hold-requires : goal.advance_hold-requires
-advance_hold-requires g c =
-    let items = c.self.inside.holds.items in
-    let i = c.args.reader in
-    let d = c.index_mut-hold.result.now in
-    let within : i < length items = subst (λ (x : ArrangementState g.row.T.Denot). i < length x.holds) (sym c.self.view_is) c.requires.reader in
-    let at : slice_get items i ≡ Some d = slice_get-get_or items i d within ∙ ap (λ (h : HoldState g.row.T.Denot). Some h) (sym c.index_mut-hold.ensures.value) in (
-      search rules,
-      own_found g.T.PartialEq.eq (frontiers_decided g.met.T.Ord.matches_eq g.met.T.Ord.total g.met.T.Lattice.extends.exact) items c.self.inside.spine.holds i d at c.self.invariant.0.holds,
-    )
-
-pub returns-in_err-advance_hold-clause-same : goal.returns-in_err-advance_hold-clause-same
-returns-in_err-advance_hold-clause-same g c =
-    let p = err_from_is_err_and c.from_residual.result c.from_residual.ensures.1 in
-    let same = c.in_err-advance_hold.ensures.same in
-    let items = c.self.inside.holds.items in
-    let i = c.args.reader in
-    let d = c.index_mut-hold.result.now in
-    let holds : set items i c.advance_hold.new.hold ≡ items = ap (set items i) (same.1 ∙ c.index_mut-hold.ensures.value) ∙ set-get_or items i d in
-    let view : ArrangementState g.row.T.Denot = record { width = c.self.inside.width; spine = c.self.inside.spine; waiting = c.self.inside.waiting.updates; holds = items } in
-    let now : ArrangementState g.row.T.Denot = record view { spine = c.advance_hold.new.self; holds = set items i c.advance_hold.new.hold } in
-    let back : now ≡ view = λ j. record view { spine = same.0 j; holds = holds j } in
-    rw p.1 (back ∙ c.self.view_is)
-
-pub returns-in_err-advance_hold-clause-only : goal.returns-in_err-advance_hold-clause-only
-returns-in_err-advance_hold-clause-only g c =
+pub advance-requires : goal.advance-requires
+advance-requires g c =
     let below = g.T.PartialOrder.below in
     let o = g.met.T.PartialOrder.order in
-    let p = err_from_is_err_and c.from_residual.result c.from_residual.ensures.1 in
-    let items = c.self.inside.holds.items in
-    let i = c.args.reader in
-    let d = c.index_mut-hold.result.now in
-    let s = c.self.inside.spine in
-    let within : i < length items = subst (λ (x : ArrangementState g.row.T.Denot). i < length x.holds) (sym c.self.view_is) c.requires.reader in
-    let there : get_or items i d ≡ d = sym c.index_mut-hold.ensures.value in
-    let reader : IsReader below g.T.Minimum.least s d = subst (IsReader below g.T.Minimum.least s) there (c.self.invariant.0.readers i d within) in
-    let logical = c.from_elem-logical.ensures ∙ ap (λ (t : g.row.T.Denot). t ∷ []) c.minimum.ensures ∙ sym reader.logical in
-    let physical = c.requires.upper ∙ ap (λ (x : ArrangementState g.row.T.Denot). upper_of x.spine) (sym c.self.view_is) in
-    rw (p.1, p.2) (⊎_elim (λ m. m) (λ n. absurd (c.in_err-advance_hold.ensures.forward.0 (ap (λ r. Err r) n) (
-      subst (λ F. IsTrue (all_beyond below d.logical F)) (sym logical) (beyond_itself o d.logical),
-      subst (λ F. IsTrue (all_beyond below d.physical F)) (sym physical) reader.behind,
-    ))) c.in_err-advance_hold.ensures.only)
-
-pub invariant_of-self-2 : goal.invariant_of-self-2
-invariant_of-self-2 g c =
-    let below = g.T.PartialOrder.below in
-    let items = c.self.inside.holds.items in
-    let i = c.args.reader in
-    let d = c.index_mut-hold.result.now in
-    let s = c.self.inside.spine in
-    let a : ArrangementState g.row.T.Denot = record { width = c.self.inside.width; spine = s; waiting = c.self.inside.waiting.updates; holds = items } in
-    let within : i < length items = subst (λ (x : ArrangementState g.row.T.Denot). i < length x.holds) (sym c.self.view_is) c.requires.reader in
-    let at : slice_get items i ≡ Some d = slice_get-get_or items i d within ∙ ap (λ (h : HoldState g.row.T.Denot). Some h) (sym c.index_mut-hold.ensures.value) in
-    let logical = c.from_elem-logical.ensures ∙ ap (λ (t : g.row.T.Denot). t ∷ []) c.minimum.ensures in
-    let physical = c.requires.upper ∙ ap (λ (x : ArrangementState g.row.T.Denot). upper_of x.spine) (sym c.self.view_is) in
-    let ok = c.in_ok-advance_hold.ensures in
-    let to : c.advance_hold.new.hold ≡ record { logical = g.T.Minimum.least ∷ []; physical = upper_of s } = ok.moved ∙ λ j. record { logical = logical j; physical = physical j } in
-    let list = ap (λ (x : SpineState g.row.T.Denot). x.list) ok.kept in (
-      arrangement_moved below g.met.T.PartialOrder.order g.T.Minimum.least g.T.Ord.cmp g.met.T.Ord.total a c.advance_hold.new.self i d c.advance_hold.new.hold at to ok.entry list ok.since c.self.invariant.0,
-      c.self.invariant.1 ∙ sym (ap (λ (l : BatchListState g.row.T.Denot). l.worker) list),
-      c.self.invariant.2 ∙ sym (ap (λ (l : BatchListState g.row.T.Denot). l.node) list),
+    let s = c.args.self.now.spine in
+    let upper = upper_of s in
+    let back = sym c.requires.upper in (
+      search rules,
+      (
+        c.requires.reader,
+        (
+          subst (Contains (boundaries s)) back (reached_boundary s.list),
+          (
+            (λ hold at. subst (λ F. IsTrue (all_beyond below hold.physical F)) back (reader_behind below o g.T.Minimum.least c.args.self.now c.args.reader hold c.trace-spine.ensures.known at)),
+            subst (λ F. IsTrue (all_beyond below F upper)) back (beyond_itself o upper),
+          ),
+        ),
+      ),
     )
-
-pub returns-clause-moved : goal.returns-clause-moved
-returns-clause-moved g c =
-    let items = c.self.inside.holds.items in
-    let i = c.args.reader in
-    let s = c.self.inside.spine in
-    let t = c.advance_hold.new.self in
-    let least : List g.row.T.Denot = g.T.Minimum.least ∷ [] in
-    let a : ArrangementState g.row.T.Denot = record { width = c.self.inside.width; spine = s; waiting = c.self.inside.waiting.updates; holds = items } in
-    let logical = c.from_elem-logical.ensures ∙ ap (λ (x : g.row.T.Denot). x ∷ []) c.minimum.ensures in
-    let physical = c.requires.upper ∙ ap (λ (x : ArrangementState g.row.T.Denot). upper_of x.spine) (sym c.self.view_is) in
-    let ok = c.in_ok-advance_hold.ensures in
-    let to : c.advance_hold.new.hold ≡ record { logical = least; physical = upper_of s } = ok.moved ∙ λ j. record { logical = logical j; physical = physical j } in
-    let since : t.since ≡ s.since = (invariant_of-self-2 g c).0.since ∙ sym c.self.invariant.0.since in
-    let spine : t ≡ record s { holds = t.holds } = ok.kept ∙ λ j. record s { since = since j; holds = t.holds } in
-    let now : ArrangementState g.row.T.Denot = record a { spine = t; holds = set items i c.advance_hold.new.hold } in
-    let step : now ≡ record a { spine = record s { holds = t.holds }; holds = set items i (record { logical = least; physical = upper_of s }) } =
-    λ j. record a { spine = spine j; holds = set items i (to j) } in
-    step ∙ ap (λ (x : ArrangementState g.row.T.Denot). record x { spine = record x.spine { holds = t.holds }; holds = set x.holds i (record { logical = least; physical = upper_of x.spine }) }) c.self.view_is
-
-pub returns-clause-stands : goal.returns-clause-stands
-returns-clause-stands g c h stands =
-    c.in_ok-advance_hold.ensures.stands h (subst (λ (x : ArrangementState g.row.T.Denot). Stands g.T.PartialOrder.below x.spine h) (sym c.self.view_is) stands)

@@ -1,8 +1,9 @@
-use Rattle.std.proofs.Common.{List, [], ◌∷◌, ◌++◌, sym, ◌∙◌, ap, subst}
+use Rattle.std.proofs.Common.{List, [], ◌∷◌, ◌++◌, refl, sym, ◌∙◌, ap, subst}
 use Rattle.trace.specs.Holds.{HoldState}
 use Rattle.spine.specs.Spines.{SpineState, Stands}
-use Rattle.operator.specs.Arrangements.{ArrangementState}
+use Rattle.operator.specs.Arrangements.{ArrangementState, AreInTurn, IsOpen, upper_of}
 use Rattle.operator.proofs.ArrangementLemmas.{arrangement_held}
+use Rattle.operator.proofs.OpenLemmas.{open_held}
 use Rattle.operator.proofs.arrangement.Arrangement.add_reader.Goals as goal
 
 pub invariant_of-self-2 : goal.invariant_of-self-2
@@ -18,3 +19,14 @@ invariant_of-self-2 g c =
 pub returns-clause-stands : goal.returns-clause-stands
 returns-clause-stands g c h stands =
     c.in_ok-hold.ensures.stands h (subst (λ (a : ArrangementState g.row.T.Denot). Stands g.T.PartialOrder.below a.spine h) (sym c.self.view_is) stands)
+
+pub returns-clause-open : goal.returns-clause-open
+returns-clause-open g c h stands all is =
+    let below = g.T.PartialOrder.below in
+    let s = c.self.inside.spine in
+    let back = sym c.self.view_is in
+    let k : HoldState g.row.T.Denot = record { logical = s.since; physical = upper_of s } in
+    open_held g.met.T.PartialOrder.order s c.hold.new.self k h refl c.in_ok-hold.ensures.held
+    (subst (λ (a : ArrangementState g.row.T.Denot). Stands below a.spine h) back stands)
+    (subst (λ (a : ArrangementState g.row.T.Denot). AreInTurn below a.spine.list.start h) back all)
+    (subst (λ (a : ArrangementState g.row.T.Denot). IsOpen below a.spine h) back is)

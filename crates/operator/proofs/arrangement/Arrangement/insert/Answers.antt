@@ -1,10 +1,12 @@
-use Rattle.std.proofs.Common.{◌≡◌, IsTrue, sym, ◌∙◌, ap, subst}
+use Rattle.std.proofs.Common.{◌≡◌, ◌∷◌, IsTrue, sym, ◌∙◌, ap, subst}
 use Rattle.std.proofs.lemmas.Result.{IfOk-at_ok}
 use Rattle.lattice.specs.Frontiers.{all_beyond}
+use Rattle.trace.specs.BatchLists.{insertion_of}
 use Rattle.trace.proofs.BoundaryLemmas.{end-append}
 use Rattle.spine.specs.Spines.{SpineState}
-use Rattle.operator.specs.Arrangements.{ArrangementState, rows_have, upper_of}
+use Rattle.operator.specs.Arrangements.{ArrangementState, IsOpen, rows_have, upper_of}
 use Rattle.operator.proofs.ArrangementLemmas.{arrangement_inserted, with_batch}
+use Rattle.operator.proofs.OpenLemmas.{open_inserted}
 use Rattle.operator.proofs.arrangement.Arrangement.insert.Goals as goal
 
 pub invariant_of-self : goal.invariant_of-self
@@ -29,3 +31,12 @@ returns-clause-upper g c =
     let b = c.args.batch in
     let inserted : c.insert.new.self ≡ with_batch s b c.insert.new.self.list.reserved = IfOk-at_ok (λ _. c.insert.new.self ≡ with_batch s b c.insert.new.self.list.reserved) c.unwrap.ensures c.insert.ensures.inserted in
     ap (λ (x : SpineState g.row.T.Denot). upper_of x) inserted ∙ end-append s.list.start s.list.batches b
+
+pub returns-clause-open : goal.returns-clause-open
+returns-clause-open g c h is =
+    let below = g.T.PartialOrder.below in
+    let s = c.self.inside.spine in
+    let b = c.args.batch in
+    let inserted : c.insert.new.self ≡ with_batch s b c.insert.new.self.list.reserved = IfOk-at_ok (λ _. c.insert.new.self ≡ with_batch s b c.insert.new.self.list.reserved) c.unwrap.ensures c.insert.ensures.inserted in
+    subst (λ (x : SpineState g.row.T.Denot). IsOpen below x (insertion_of b ∷ h)) (sym inserted)
+    (open_inserted below s b c.insert.new.self.list.reserved h (subst (λ (x : ArrangementState g.row.T.Denot). IsOpen below x.spine h) (sym c.self.view_is) is))

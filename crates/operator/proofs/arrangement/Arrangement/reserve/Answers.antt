@@ -1,6 +1,6 @@
 use Rattle.std.proofs.Common.{sym, ◌∙◌, ap, subst}
 use Rattle.spine.specs.Spines.{SpineState, Stands}
-use Rattle.operator.specs.Arrangements.{ArrangementState}
+use Rattle.operator.specs.Arrangements.{ArrangementState, IsOpen}
 use Rattle.operator.proofs.ArrangementLemmas.{arrangement_reserved, stands_reserved}
 use Rattle.std.proofs.Common.{true}
 use Rattle.operator.proofs.arrangement.Arrangement.reserve.Goals as goal
@@ -19,3 +19,9 @@ returns-clause-stands g c h stands =
     let below = g.T.PartialOrder.below in
     stands_reserved below g.met.T.PartialOrder.order g.T.Minimum.least c.self.inside.spine c.reserve.new.self true c.in_ok-reserve.ensures.room h
     (subst (λ (x : ArrangementState g.row.T.Denot). Stands below x.spine h) (sym c.self.view_is) stands)
+
+pub returns-clause-open : goal.returns-clause-open
+returns-clause-open g c h is =
+    let below = g.T.PartialOrder.below in
+    subst (λ (x : SpineState g.row.T.Denot). IsOpen below x h) (sym c.in_ok-reserve.ensures.room)
+    (subst (λ (x : ArrangementState g.row.T.Denot). IsOpen below x.spine h) (sym c.self.view_is) is)

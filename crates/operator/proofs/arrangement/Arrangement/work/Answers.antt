@@ -1,7 +1,8 @@
-use Rattle.std.proofs.Common.{sym, ◌∙◌, ap}
+use Rattle.std.proofs.Common.{sym, ◌∙◌, ap, subst}
 use Rattle.spine.specs.Spines.{SpineState}
-use Rattle.operator.specs.Arrangements.{ArrangementState, upper_of}
+use Rattle.operator.specs.Arrangements.{ArrangementState, IsOpen, upper_of}
 use Rattle.operator.proofs.ArrangementLemmas.{arrangement_worked, upper_worked}
+use Rattle.operator.proofs.OpenLemmas.{open_worked}
 use Rattle.operator.proofs.arrangement.Arrangement.work.Goals as goal
 
 pub invariant_of-self : goal.invariant_of-self
@@ -19,3 +20,10 @@ returns-clause-upper g c =
     let worked = c.work-done.ensures.worked in
     upper_worked g.T.PartialOrder.below g.met.T.PartialOrder.order g.T.Minimum.least worked.0 worked.1 c.self.inside.spine c.work-done.new.self worked.3
     ∙ ap (λ (a : ArrangementState g.row.T.Denot). upper_of a.spine) c.self.view_is
+
+pub returns-clause-open : goal.returns-clause-open
+returns-clause-open g c h is =
+    let below = g.T.PartialOrder.below in
+    let worked = c.work-done.ensures.worked in
+    open_worked below worked.0 worked.1 c.self.inside.spine c.work-done.new.self h worked.3
+    (subst (λ (a : ArrangementState g.row.T.Denot). IsOpen below a.spine h) (sym c.self.view_is) is)

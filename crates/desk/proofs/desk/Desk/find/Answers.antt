@@ -1,0 +1,110 @@
+-- What a reduction answers.
+use Rattle.std.proofs.Common.{◌≡◌, Bool, true, false, ◌||◌, IsTrue, List, arith, length, set, Option, Some, get_or, slice_get, sym, refl, subst, ap, ◌∙◌}
+use Rattle.std.specs.List.{list_all}
+use Rattle.std.proofs.lemmas.Option.{none-some, slice_get_within}
+use Rattle.lattice.specs.Frontiers.{is_beyond}
+use Rattle.update.specs.Refusals.{IsMemoryOrOverflow}
+use Rattle.trace.specs.Readings.{Insertion, all_updates}
+use Rattle.spine.specs.Spines.{SpineState, Stands}
+use Rattle.update.specs.declared.change.Update.{Update}
+use Rattle.plan.specs.Changes.{has_passed}
+use Rattle.operator.specs.Reductions.{IsOverfullWith, IsReduced, ReducingView, SumsToReceived}
+use Rattle.desk_laws.specs.Own.{DeskView}
+use Rattle.desk_laws.specs.declared.hand.Hand.TheVariants.{Ready, Turned}
+use Rattle.desk.specs.Desks.{IsTooLarge, Leads}
+use Rattle.desk.proofs.DeskLemmas.{found_at, set_same}
+use Rattle.desk.proofs.FindingLemmas.{found_large, found_ok}
+use Rattle.desk.proofs.ResultLemmas.{if_err_from, if_ok_by, memory_or, on_err_by}
+use Rattle.desk.proofs.desk.Desk.find.Goals as goal
+
+or_same : (b : Bool) → (b || false) ≡ b
+or_same true = refl
+or_same false = refl
+
+pub arrangement_at-requires : goal.arrangement_at-requires
+arrangement_at-requires g c =
+    let r = c.requires.read in
+    (r.0, subst (λ (x : DeskView g.row.T.Denot). slice_get x.arrangements c.args.source ≡ Some (Some r.0)) (sym c.self.view_is) r.1)
+
+pub index_mut-requires : goal.index_mut-requires
+index_mut-requires g c =
+    let r = c.requires.there in
+    let l = slice_get_within c.args.self.now.reductions c.args.node (Some r.0) r.1 in
+    let same = ap length (ap (λ (z : DeskView _). z.reductions) c.self.view_is) in
+    omega (arith, l, same, c.self.inside.reductions.ok.0, c.number.ensures)
+
+pub ready-requires : goal.ready-requires
+ready-requires g c = record {
+  whole = λ t. ap (λ F. is_beyond g.T.PartialOrder.below F t) (ap (λ (s : SpineState g.row.T.Denot). s.since) c.trace-source.ensures.value ∙ c.trace-source.ensures.known.since) ∙ or_same (g.T.PartialOrder.below g.T.Minimum.least t);
+}
+
+pub unreachable-requires : goal.unreachable-requires
+unreachable-requires g c =
+    let r = c.requires.there in
+    let there = subst (λ (x : DeskView g.row.T.Denot). slice_get x.reductions c.args.node ≡ Some (Some r.0)) (sym c.self.view_is) r.1 in
+    let mine = found_at c.self.inside.reductions.items c.number.result c.args.node c.index_mut.result.now (Some r.0) c.number.ensures c.index_mut.ensures.value there in
+    none-some r.0 (sym c.in-None.is ∙ mine)
+
+pub returns-clause-leads : goal.returns-clause-leads
+returns-clause-leads g c =
+    let inside = c.self.inside in
+    let below = g.T.PartialOrder.below in
+    let joined = g.T.Lattice.joined in
+    let least = g.T.Minimum.least in
+    let n = c.args.node in
+    let d : DeskView g.row.T.Denot = record {
+      gathered = inside.gathered.items;
+      arrangements = inside.arrangements.items;
+      joins = inside.joins.items;
+      reductions = inside.reductions.items;
+    } in
+    let r = c.requires.there in
+    let there = subst (λ (x : DeskView g.row.T.Denot). slice_get x.reductions n ≡ Some (Some r.0)) (sym c.self.view_is) r.1 in
+    let mine = found_at inside.reductions.items c.number.result n c.index_mut.result.now (Some r.0) c.number.ensures c.index_mut.ensures.value there in
+    let here = there ∙ ap Some (sym mine ∙ c.in-Some.is) in
+    let after = record d { reductions = set d.reductions c.number.result (Some c.ready.new.self) } in
+    let x = c.ready.ensures in
+    if_ok_by c.ready.result (λ out leads. subst (λ y. Leads below joined least c.args.plan.now y (Turned n c.args.upper.now) after (Ready n out)) c.self.view_is leads)
+    (found_ok below joined g.T.Lattice.met least g.met.T.PartialOrder.order g.met.T.Lattice.bounds c.args.plan.now d n c.requires.reduces.0 c.args.source c.requires.reduces.1 c.args.upper.now c.in-Some.reduction c.ready.new.self here c.arrangement_at.result.now c.arrangement_at.ensures.there
+    c.trace-source.result.now c.trace-source.ensures.value c.number.result c.number.ensures c.ready.result x.kept x.stands x.settled x.later x.out_beyond x.rest_beyond)
+
+pub returns-clause-same : goal.returns-clause-same
+returns-clause-same g c =
+    let inside = c.self.inside in
+    on_err_by c.ready.result (λ same.
+    let now = ap Some same ∙ sym c.in-Some.is in
+    ap (λ (reductions : List (Option (ReducingView g.row.T.Denot))). record {
+      gathered = inside.gathered.items;
+      arrangements = inside.arrangements.items;
+      joins = inside.joins.items;
+      reductions = reductions;
+    }) (set_same inside.reductions.items c.number.result (Some c.ready.new.self) (now ∙ (c.index_mut.ensures.value ∙ ap (λ x. get_or inside.reductions.items c.number.result x) (sym now))))
+    ∙ c.self.view_is) c.ready.ensures.same
+
+pub returns-clause-refused : goal.returns-clause-refused
+returns-clause-refused g c =
+    let inside = c.self.inside in
+    let below = g.T.PartialOrder.below in
+    let joined = g.T.Lattice.joined in
+    let least = g.T.Minimum.least in
+    let n = c.args.node in
+    let upper = c.args.upper.now in
+    let d : DeskView g.row.T.Denot = record {
+      gathered = inside.gathered.items;
+      arrangements = inside.arrangements.items;
+      joins = inside.joins.items;
+      reductions = inside.reductions.items;
+    } in
+    let r = c.requires.there in
+    let there = subst (λ (x : DeskView g.row.T.Denot). slice_get x.reductions n ≡ Some (Some r.0)) (sym c.self.view_is) r.1 in
+    let mine = found_at inside.reductions.items c.number.result n c.index_mut.result.now (Some r.0) c.number.ensures c.index_mut.ensures.value there in
+    let here = there ∙ ap Some (sym mine ∙ c.in-Some.is) in
+    let trace = c.trace-source.result.now in
+    let reduction = c.in-Some.reduction in
+    let too_large = IsTooLarge below joined least g.T.Ord.cmp c.args.plan.now c.args.self.now (Turned n upper) in
+    if_err_from c.ready.result
+    (IsMemoryOrOverflow ((inserted : List (Insertion g.row.T.Denot)) (received emitted : List (Update g.row.T.Denot)) → Stands below trace inserted → SumsToReceived below upper (all_updates inserted) received → IsReduced below joined least reduction received emitted → IsTrue (list_all (λ u. has_passed below upper u.time) emitted) → IsOverfullWith below reduction received upper))
+    (IsMemoryOrOverflow too_large)
+    (λ e m. memory_or (λ cause.
+    subst (λ y. IsTooLarge below joined least g.T.Ord.cmp c.args.plan.now y (Turned n upper)) c.self.view_is
+    (found_large below joined least g.met.T.PartialOrder.order g.T.Ord.cmp c.args.plan.now d n c.requires.reduces.0 c.args.source c.requires.reduces.1 upper reduction here c.arrangement_at.result.now c.arrangement_at.ensures.there trace c.trace-source.ensures.value cause)) m) c.ready.ensures.refused

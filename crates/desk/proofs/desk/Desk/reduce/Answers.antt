@@ -1,0 +1,71 @@
+use Rattle.std.proofs.Common.{rules, ◌≡◌, List, [], ◌∷◌, Option, Some, set, get_or, slice_get, IsTrue, sym, subst, ap, ◌∙◌}
+use Rattle.std.proofs.lemmas.Option.{none-some, same_Some}
+use Rattle.lattice.specs.Frontiers.{all_beyond}
+use Rattle.histories.specs.Histories.States.{times}
+use Rattle.operator.specs.Reductions.{ReducingView, have_width}
+use Rattle.desk_laws.specs.Own.{DeskView}
+use Rattle.desk.specs.Desks.{IsReducedWith}
+use Rattle.desk.proofs.DeskLemmas.{found_at, reduced_after, set_same}
+use Rattle.desk.proofs.ResultLemmas.{on_err_by, on_ok_three}
+use Rattle.desk.proofs.desk.Desk.reduce.Goals as goal
+
+pub take-requires : goal.take-requires
+take-requires g c =
+    let r = c.requires.there in
+    let us = c.in_ok-updates.updates.items in
+    let there = subst (λ (x : DeskView g.row.T.Denot). slice_get x.reductions c.args.node ≡ Some (Some r.0)) (sym c.self.view_is) r.1 in
+    let mine = found_at c.self.inside.reductions.items c.number.result c.args.node c.index_mut.result.now (Some r.0) c.number.ensures c.index_mut.ensures.value there in
+    let same = same_Some r.0 c.in-Some.reduction (sym mine ∙ c.in-Some.is) in (
+      search rules,
+      (
+        c.self.invariant,
+        (
+          subst (λ us. IsTrue (all_beyond g.T.PartialOrder.below (g.T.Minimum.least ∷ []) (times us))) (sym c.in_ok-updates.ensures.copied) c.requires.later,
+          subst (λ (a : ReducingView g.row.T.Denot). IsTrue (have_width a.width us)) same (subst (λ us. IsTrue (have_width r.0.width us)) (sym c.in_ok-updates.ensures.copied) r.2),
+        ),
+      ),
+    )
+
+pub unreachable-requires : goal.unreachable-requires
+unreachable-requires g c =
+    let r = c.requires.there in
+    let there = subst (λ (x : DeskView g.row.T.Denot). slice_get x.reductions c.args.node ≡ Some (Some r.0)) (sym c.self.view_is) r.1 in
+    let mine = found_at c.self.inside.reductions.items c.number.result c.args.node c.index_mut.result.now (Some r.0) c.number.ensures c.index_mut.ensures.value there in
+    none-some r.0 (sym c.in-None.is ∙ mine)
+
+pub returns-clause-reduced : goal.returns-clause-reduced
+returns-clause-reduced g c =
+    let inside = c.self.inside in
+    let below = g.T.PartialOrder.below in
+    let joined = g.T.Lattice.joined in
+    let least = g.T.Minimum.least in
+    let n = c.args.node in
+    let d : DeskView g.row.T.Denot = record {
+      gathered = inside.gathered.items;
+      arrangements = inside.arrangements.items;
+      joins = inside.joins.items;
+      reductions = inside.reductions.items;
+    } in
+    let r = c.requires.there in
+    let there = subst (λ (x : DeskView g.row.T.Denot). slice_get x.reductions n ≡ Some (Some r.0)) (sym c.self.view_is) r.1 in
+    let mine = found_at inside.reductions.items c.number.result n c.index_mut.result.now (Some r.0) c.number.ensures c.index_mut.ensures.value there in
+    let here = there ∙ ap Some (sym mine ∙ c.in-Some.is) in
+    let after = record d { reductions = set d.reductions c.number.result (Some c.take.new.self) } in
+    on_ok_three c.take.result (λ kept stands pending.
+    subst (λ x. IsReducedWith below joined least n c.args.updates.now x after) c.self.view_is
+    (subst (λ us. IsReducedWith below joined least n us d after) c.in_ok-updates.ensures.copied
+    (reduced_after below joined least n d c.in-Some.reduction c.take.new.self c.in_ok-updates.updates.items c.number.result c.number.ensures here kept stands pending)))
+    c.take.ensures.kept c.take.ensures.stands c.take.ensures.pending
+
+pub returns-clause-same : goal.returns-clause-same
+returns-clause-same g c =
+    let inside = c.self.inside in
+    on_err_by c.take.result (λ same.
+    let now = ap Some same ∙ sym c.in-Some.is in
+    ap (λ (reductions : List (Option (ReducingView g.row.T.Denot))). record {
+      gathered = inside.gathered.items;
+      arrangements = inside.arrangements.items;
+      joins = inside.joins.items;
+      reductions = reductions;
+    }) (set_same inside.reductions.items c.number.result (Some c.take.new.self) (now ∙ (c.index_mut.ensures.value ∙ ap (λ x. get_or inside.reductions.items c.number.result x) (sym now))))
+    ∙ c.self.view_is) c.take.ensures.same

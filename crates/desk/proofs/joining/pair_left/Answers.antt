@@ -1,0 +1,83 @@
+use Rattle.std.proofs.Common.{rules, ◌≡◌, ◌⊎◌, ◌*◌, ◌^◌, ◌≤◌, ◌+◌, ◌-◌, IsTrue, sym, subst}
+use Rattle.lattice.specs.Frontiers.{all_beyond}
+use Rattle.update.specs.Updates.{IsConsolidated, size}
+use Rattle.update.specs.Refusals.{IsMemoryOrOverflow}
+use Rattle.batch.specs.Intervals.{is_interval_of}
+use Rattle.trace.specs.Readings.{all_updates}
+use Rattle.join.specs.Pairs.{pairs}
+use Rattle.join.specs.Sides.{all_rows_have}
+use Rattle.operator.specs.Arrangements.{times_from}
+use Rattle.operator_laws.specs.Joining.{IsAnswer}
+use Rattle.desk.specs.Joinings.{ArePairsLarge, IsEndAfter, IsNextOf, IsPaired, taken_up_to}
+use Rattle.desk.proofs.PairingLemmas.{ends_there, next_interval, next_there, other_readable, other_rows, other_since, side_from}
+use Rattle.desk.proofs.ResultLemmas.{if_err_from, if_ok_back, if_ok_from, memory_or, on_ok_back}
+use Rattle.desk.proofs.joining.pair_left.Goals as goal
+
+pub arrangement_at-source-requires : goal.arrangement_at-source-requires
+arrangement_at-source-requires g c = (c.requires.next.arrangement, c.requires.next.there)
+
+pub next_end-requires : goal.next_end-requires
+next_end-requires g c =
+    let source = c.arrangement_at-source.result.now in
+    (search rules, (c.args.updates.now, subst (λ F. IsNextOf g.T.PartialOrder.below g.T.Minimum.least source F c.args.updates.now) (sym c.left.ensures.value) (next_there c.requires.next source c.arrangement_at-source.ensures.there)))
+
+pub arrangement_at-other-requires : goal.arrangement_at-other-requires
+arrangement_at-other-requires g c = (c.requires.next.opposite, c.requires.next.opposite_there)
+
+pub take_left-requires : goal.take_left-requires
+take_left-requires g c =
+    let below = g.T.PartialOrder.below in
+    let least = g.T.Minimum.least in
+    let j = c.args.joining.now in
+    let y = c.requires.next in
+    let source = c.arrangement_at-source.result.now in
+    let other = c.arrangement_at-other.result.now in
+    let end = c.in_ok-end.end in
+    let known = c.trace.ensures.known in
+    let spine = c.trace.result.now in
+    let value = c.trace.ensures.value in
+    let there = c.arrangement_at-other.ensures.there in
+    let vec = sym c.in_ok-updates.ensures.copied in
+    let ends = subst (λ F. IsEndAfter below least source F end) c.left.ensures.value c.in_ok-end.ensures.ends in
+    let rows = subst (λ us. IsTrue (all_rows_have j.left_width us)) vec y.rows in
+    let times = subst (λ us. IsTrue (times_from below least us)) vec y.times in
+    let between = subst (λ us. IsTrue (is_interval_of below j.state.left end us)) vec (next_interval y source c.arrangement_at-source.ensures.there g.met.T.PartialOrder.order end ends) in
+    (search rules, (rows, (times, (between, (other_readable y other there known spine value, (other_rows y other there known spine value, other_since y other there known spine value))))))
+
+pub returns-clause-paired : goal.returns-clause-paired
+returns-clause-paired g c =
+    let below = g.T.PartialOrder.below in
+    let joined = g.T.Lattice.joined in
+    let least = g.T.Minimum.least in
+    let cmp = g.T.Ord.cmp in
+    let j = c.args.joining.now in
+    let us = c.args.updates.now in
+    let y = c.requires.next in
+    let source = c.arrangement_at-source.result.now in
+    let other = c.arrangement_at-other.result.now in
+    let end = c.in_ok-end.end in
+    let ends = subst (λ F. IsEndAfter below least source F end) c.left.ensures.value c.in_ok-end.ensures.ends in
+    if_ok_from c.take_left.result (λ out. IsPaired below least joined cmp 0 c.args.arrangements.now.items c.args.left c.args.right j us out.items c.take_left.new.self) (λ out e. record {
+      fitting = c.known.ensures.fitting;
+      upper = end;
+      looked = c.take_left.new.self.state.looked;
+      moved = on_ok_back {P = c.take_left.new.self ≡ taken_up_to 0 end c.take_left.new.self.state.looked j} c.take_left.result out e c.take_left.ensures.acknowledged;
+      forward = subst (λ F. IsTrue (all_beyond below F end)) c.left.ensures.value c.in_ok-end.ensures.forward;
+      ends = λ a there. ends_there c.args.arrangements.now.items c.args.left source a j.state.left end c.arrangement_at-source.ensures.there there ends;
+      answers = λ a there inserted later taken reading.
+          let side = side_from y other c.arrangement_at-other.ensures.there c.trace.ensures.known c.trace.result.now c.trace.ensures.value a there inserted later taken reading in
+          subst (λ us. IsAnswer below (pairs joined j.state.key us (all_updates taken)) us (all_updates taken) out.items) c.in_ok-updates.ensures.copied
+          (if_ok_back c.take_left.result (λ out. IsAnswer below (pairs joined j.state.key c.in_ok-updates.updates.items (all_updates taken)) c.in_ok-updates.updates.items (all_updates taken) out.items) out e (c.take_left.ensures.answer inserted taken side));
+      consolidated = if_ok_back c.take_left.result (λ out. IsConsolidated cmp out.items) out e c.take_left.ensures.consolidated;
+      wide = if_ok_back c.take_left.result (λ out. IsTrue (all_rows_have (j.left_width + j.right_width - j.state.key) out.items)) out e c.take_left.ensures.width;
+    })
+
+pub returns-clause-refused : goal.returns-clause-refused
+returns-clause-refused g c =
+    let below = g.T.PartialOrder.below in
+    let least = g.T.Minimum.least in
+    let y = c.requires.next in
+    let other = c.arrangement_at-other.result.now in
+    if_err_from c.take_left.result _ (IsMemoryOrOverflow (ArePairsLarge below least 0 c.args.arrangements.now.items c.args.right c.args.joining.now c.args.updates.now)) (λ refusal refused. memory_or {Q = ArePairsLarge below least 0 c.args.arrangements.now.items c.args.right c.args.joining.now c.args.updates.now} (λ large a there inserted later taken reading.
+    let side = side_from y other c.arrangement_at-other.ensures.there c.trace.ensures.known c.trace.result.now c.trace.ensures.value a there inserted later taken reading in
+    subst (λ us. (2 ^ 63 ≤ size us) ⊎ (2 ^ 63 ≤ size us * size (all_updates taken))) c.in_ok-updates.ensures.copied (large inserted taken side)) refused) c.take_left.ensures.refused

@@ -1,6 +1,0 @@
-use Rattle.desk.proofs.ReducedLemmas.{kept_reduce}
-use Rattle.desk.proofs.laying.kept_is_reduced.Goals as goal
-
-pub returns : goal.returns
-returns g c p q w k d e sharing bundle more within kind source at desks r s there then shape stands pends x =
-    kept_reduce g.T.PartialOrder.below g.T.Lattice.joined g.T.Lattice.met g.T.Minimum.least g.met.T.PartialOrder.order g.met.T.Lattice.bounds p q w k d e sharing bundle more within kind source at desks r s there then shape stands pends x

@@ -1,0 +1,38 @@
+-- What a turn to held times makes of a worker's own.
+use Rattle.std.proofs.Common.{◌≡◌, ℕ, Bool, cond, not, List, Some, sym, refl, ap, ◌∙◌, subst}
+use Rattle.std.proofs.lemmas.Bool.{eq-eqb}
+use Rattle.lattice.specs.Order.{PartialOrderLaws}
+use Rattle.lattice.specs.Frontiers.{is_beyond}
+use Rattle.histories.specs.declared.event.Event.TheVariants.{TakeHeld}
+use Rattle.histories.specs.Histories.Dataflows.{Dataflow, IsDataflow}
+use Rattle.histories.specs.Histories.Outstanding.{input_frontier}
+use Rattle.histories.specs.Histories.States.{State}
+use Rattle.histories.specs.Histories.{IsTakeHeld, next_state}
+use Rattle.operator_laws.specs.Working.{IsWorkingAt}
+use Rattle.operator_laws.proofs.ReducingLemmas.{turned_was}
+use Rattle.operator_laws.proofs.WorkingLemmas.{same_working}
+use Rattle.desk_laws.specs.Own.{DeskView, IsOwn}
+use Rattle.desk_laws.specs.declared.hand.Hand.TheVariants.{Free, Turned}
+use Rattle.desk_laws.proofs.KeptLemmas.{at_each, of_each, free_idle, laid_same, same_desk, same_keeps, turned_idle}
+
+pub turned_lem : {T : Type 0} (below : T → T → Bool) (joined : T → T → T) (minimum : T) (o : PartialOrderLaws below) (p : Dataflow) (q : IsDataflow p) (w : State T) (k n : ℕ) → IsTakeHeld below p w k n → (d : DeskView T) (upper : List T)
+    → ((t : T) → is_beyond below upper t ≡ is_beyond below (input_frontier below p w n) t) → IsOwn below joined minimum p w k d Free → IsOwn below joined minimum p (next_state below p w (TakeHeld k n)) k d (Turned n upper)
+turned_lem below joined minimum o p q w k n turn d upper same x = record {
+  worker = x.worker;
+  keeps = x.keeps;
+  keeping = record {
+    working = same_working below o p q w k x.keeps.works x.keeping.working (TakeHeld k n) turn refl;
+    received = x.keeping.received;
+    given = x.keeping.given;
+  };
+  laid = of_each below joined minimum p d (Turned n upper) x.keeps (λ m l. laid_same below joined minimum p m d d (same_desk m d) x.keeps x.keeps (same_keeps m x.keeps) Free (Turned n upper) (free_idle m) (turned_idle m n upper) (at_each below joined minimum p d Free x.keeps x.laid m l));
+  hand = ap (λ b. cond b (Some n) (w.hand k)) (eq-eqb k k refl);
+  come = record {
+    come = λ t h. sym (ap not (same t)) ∙ h;
+    was = λ t h. turned_was below o p w n k t (sym (ap not (same t)) ∙ h);
+    after = λ source key e t h. ap not (same t) ∙ (subst (λ node. IsWorkingAt below p w k x.keeps.works n node) e (x.keeping.working n turn.within)).passed t h;
+    on = λ source kind e t h. ap not (same t) ∙ (subst (λ node. IsWorkingAt below p w k x.keeps.works n node) e (x.keeping.working n turn.within)).passed t h;
+  };
+  on = tt;
+  sharing = x.sharing;
+}

@@ -1,0 +1,3 @@
+-- What a worker keeps, on its desk and in its hand.
+pub mod Outputs
+pub mod Own

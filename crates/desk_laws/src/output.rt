@@ -1,0 +1,103 @@
+//! What a worker has ready to be given. Most nodes make a list. A reduction makes columns, and a list of
+//! columns asks for memory. That may be refused after the reduction has answered, and then its answer
+//! would be lost. So an output has either form, and it is made a list before it is given.
+ghost use Rattle.std.specs.Prelude.{◌≡◌, IfErr, IfOk};
+ghost use Rattle.update.specs.declared.refusal.Refusal.TheVariants.{OutOfMemory};
+
+use columns::{Columns, UpdateList};
+use lattice::Lattice;
+use std::alloc::Global;
+use std::marker::Model;
+use update::Refusal;
+
+// The form of an output.
+#[derive(Drop)]
+pub(crate) enum Form<T> {
+    // A list.
+    Listed(UpdateList<T>),
+    // Column by column, as a reduction answers.
+    Answered(Columns<T>),
+}
+
+/// Updates that are ready to be given. A contract sees the list of them.
+#[derive(Drop)]
+pub struct Output<T> {
+    form: Form<T>,
+}
+
+impl<T> Model for Output<T> {
+    ghost use Rattle.std.specs.Prelude.{List};
+    ghost use Rattle.update.specs.declared.change.Update.{Update};
+    ghost use Rattle.desk_laws.specs.Outputs.{put_out};
+
+    ghost Value = { List (Update T) };
+
+    ghost view = { λ o. put_out o.form };
+}
+
+impl<T: Lattice> Output<T> {
+    /// The output as a list that can be given. If memory was refused, the output comes back as it was.
+    ///
+    /// Cost: none, or a copy of the answer of a reduction.
+    pub fn into_list(self, alloc: Global) -> Result<UpdateList<T>, Output<T>>
+        ensures list { IfOk result (λ list. list ≡ self) }
+        ensures returned { IfErr result (λ back. back ≡ self) }
+    {
+        let Output { form } = self;
+        match form {
+            Form::Listed(list) => Ok(list),
+            Form::Answered(columns) => listed(alloc, columns),
+        }
+    }
+
+    /// A copy of the output, as a list that can be given. Refused only with `OutOfMemory`.
+    ///
+    /// Cost: one step for each column of each row.
+    pub fn to_list(&self, alloc: Global) -> Result<UpdateList<T>, Refusal>
+        ensures list { IfOk result (λ list. list ≡ self.now) }
+        ensures refused { IfErr result (λ refusal. refusal ≡ OutOfMemory) }
+    {
+        match &self.form {
+            Form::Listed(list) => list.copy(alloc),
+            Form::Answered(columns) => Ok(columns.to_vec(alloc)?.into()),
+        }
+    }
+}
+
+// The updates of columns as a list. If memory was refused, they come back.
+fn listed<T: Lattice>(alloc: Global, columns: Columns<T>) -> Result<UpdateList<T>, Output<T>>
+    ensures list { IfOk result (λ list. list ≡ columns) }
+    ensures returned { IfErr result (λ back. back ≡ columns) }
+{
+    let copied = columns.to_vec(alloc);
+    match copied {
+        Ok(updates) => Ok(updates.into()),
+        Err(_refused) => Err(columns.into()),
+    }
+}
+
+/// Takes no memory.
+impl<T> From<UpdateList<T>> for Output<T> {
+    ghost use Rattle.std.specs.Prelude.{◌≡◌};
+
+    ghost from_gives = { λ v r. r ≡ v };
+
+    fn from(list: UpdateList<T>) -> Output<T> {
+        Output {
+            form: Form::Listed(list),
+        }
+    }
+}
+
+/// Takes no memory.
+impl<T> From<Columns<T>> for Output<T> {
+    ghost use Rattle.std.specs.Prelude.{◌≡◌};
+
+    ghost from_gives = { λ v r. r ≡ v };
+
+    fn from(columns: Columns<T>) -> Output<T> {
+        Output {
+            form: Form::Answered(columns),
+        }
+    }
+}

@@ -1,0 +1,6 @@
+-- What tenures, takes and gives make of a worker.
+pub mod TenureLemmas
+pub mod TakenLemmas
+pub mod SentLemmas
+pub mod GivenLemmas
+pub mod WorkerLemmas

@@ -1,0 +1,14 @@
+use Rattle.std.proofs.Common.{IsTrue, sym, subst}
+use Rattle.plan.specs.Widths.{width_of}
+use Rattle.linear.specs.Widths.{are_wide}
+use Rattle.histories.specs.Histories.Dataflows.{Dataflow}
+use Rattle.shared_board.specs.Widths.{are_wide_for}
+use Rattle.steps.proofs.SentLemmas.{sent_wide}
+use Rattle.steps.proofs.giving.send.Goals as goal
+
+pub try_give-answer-requires-clause-wide : goal.try_give-answer-requires-clause-wide
+try_give-answer-requires-clause-wide g c =
+    let made = c.in-Ok.cut in
+    subst (λ (p : Dataflow). IsTrue (are_wide_for p made.sent)) c.requires.routing
+    (sent_wide c.args.routing.now c.args.emission made.sent c.in-Ok.ensures.whole c.in-Ok.ensures.filled
+    (subst (λ (p : Dataflow). IsTrue (are_wide (width_of p.nodes c.args.emission.node) c.args.emission.updates)) (sym c.requires.routing) c.requires.wide))

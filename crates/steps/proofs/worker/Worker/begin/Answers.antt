@@ -1,0 +1,13 @@
+use Rattle.std.proofs.Common.{subst}
+use Rattle.steps.specs.Steps.{HasTriedToTake}
+use Rattle.steps.proofs.WorkerLemmas.{took_one}
+use Rattle.steps.proofs.worker.Worker.begin.Goals as goal
+
+pub returns-clause-step : goal.returns-clause-step
+returns-clause-step g c =
+    let below = g.T.PartialOrder.below in
+    let least = g.T.Minimum.least in
+    let old = c.args.self.now in
+    let mid = c.take.new.self in
+    took_one below least c.args.pick old mid c.compute.new.self c.requires.free
+    (subst (HasTriedToTake below least c.args.pick old.known mid.known mid.hand) c.in-Took.is c.in_ok-step.ensures.tried) c.in_ok-compute.ensures.known c.in_ok-compute.ensures.node

@@ -1,0 +1,137 @@
+-- What a step of a worker adds to what it has seen, and what it then has in hand. Each step is one
+-- event, or none.
+use Rattle.std.specs.Prelude.{◌≡◌, ℕ, ◌↔◌, ◌⊎◌, Bool, false, List, [], Some, IsTrue}
+use Rattle.std.specs.declared.cmp.Ordering.{Ordering}
+use Rattle.update.specs.declared.change.Update.{Update}
+use Rattle.update.specs.declared.refusal.Refusal.{Refusal}
+use Rattle.update.specs.declared.refusal.Refusal.TheVariants.{OutOfMemory, Overflow, Failed}
+use Rattle.hub.specs.Known.{Known}
+use Rattle.histories.specs.declared.event.Bundle.{Bundle}
+use Rattle.histories.specs.declared.event.Emission.{Emission}
+use Rattle.histories.specs.declared.event.Event.TheVariants.{Give, Look}
+use Rattle.histories.specs.Histories.Cuts.{cut}
+use Rattle.histories.specs.Histories.Dataflows.{Dataflow}
+use Rattle.machine.specs.Boards.Pieces.{HasNoPiece}
+use Rattle.shared_board.specs.declared.event.Doing.{Doing}
+use Rattle.shared_board.specs.declared.board.taking.Taken.{Taken as Piece}
+use Rattle.shared_board.specs.declared.board.taking.Taken.TheVariants.{Bundled, Turned as turned_piece, Nothing}
+use Rattle.shared_board.specs.Found.{WasQuiet, dataflow_of}
+use Rattle.shared_board.specs.Pieces.{IsTakenIn}
+use Rattle.shared_board.specs.Tenures.{Adds, state_found}
+use Rattle.operator_laws.specs.Gathering.{IsCut}
+use Rattle.desk_laws.specs.Own.{DeskView, hand_node}
+use Rattle.desk_laws.specs.declared.hand.Hand.{Hand}
+use Rattle.desk_laws.specs.declared.hand.Hand.TheVariants.{Free, Taken, Turned, Ready, Sealed}
+use Rattle.desk.specs.Desks.{IsPutAway}
+use Rattle.steps.specs.declared.step.Step.{Step}
+use Rattle.steps.specs.declared.step.Step.TheVariants.{Took, Gave, Idle, Busy}
+use Rattle.steps.specs.Workers.{WorkerView, HasSeenTooLarge}
+
+-- ---- one attempt to enter the board
+
+module _ {T : Type 0} where
+  -- the hand with what was found on the board, and what the step is then
+  abbrev pub hand_with : Piece T → Hand T
+  hand_with (Bundled bundle more) = Taken bundle more
+  hand_with (turned_piece node upper) = Turned node upper
+  hand_with (Nothing quiet) = Free
+
+  abbrev pub step_with : Piece T → Step
+  step_with (Bundled bundle more) = Took
+  step_with (turned_piece node upper) = Took
+  step_with (Nothing quiet) = Idle quiet
+
+  -- what is given of what is in hand: nothing of what is kept
+  abbrev pub output_of : Hand T → List (Update T)
+  output_of (Ready node updates) = updates
+  output_of (Sealed node batch) = batch.updates
+  output_of other = []
+
+  -- the actor has seen nothing new, or it has looked
+  abbrev pub LooksAtMost : Known (Doing T) → Known (Doing T) → Type 0
+  LooksAtMost old new = (new ≡ old) ⊎ Adds old (Look old.number) new
+
+  -- the actor gave something at a node
+  pub record HasGivenAt (n : ℕ) (old new : Known (Doing T)) : Type 0 where
+    pub given : Emission T
+    pub held : List T
+    pub sent : List (Bundle T)
+    pub adds : Adds old (Give given held sent) new
+    pub worker : given.worker ≡ old.number
+    pub node : given.node ≡ n
+
+  -- another actor had the board, or this was given
+  abbrev pub HasTriedToGive : ℕ → Known (Doing T) → Known (Doing T) → Hand T → Hand T → Step → Type 0
+  HasTriedToGive n old new before after step = ((step ≡ Busy) × (new ≡ old) × (after ≡ before))
+      ⊎ ((step ≡ Gave) × (after ≡ Free) × HasGivenAt n old new)
+
+module _ {T : Type 0} (below : T → T → Bool) where
+  -- another actor had the board, or this was given, cut along the edges of the plan
+  abbrev pub HasSent : Known (Doing T) → Known (Doing T) → Emission T → List T → Step → Type 0
+  HasSent old new g held step = ((step ≡ Busy) × (new ≡ old))
+      ⊎ ((step ≡ Gave) × IsCut below (dataflow_of old) g (cut below (dataflow_of old) g)
+      × Adds old (Give g held (cut below (dataflow_of old) g)) new)
+
+module _ {T : Type 0} (below : T → T → Bool) (joined : T → T → T) (minimum : T) where
+  -- what was in hand is done with: a batch was put away, and otherwise the desk is as it was
+  abbrev pub IsPutDown : Dataflow → Hand T → DeskView T → DeskView T → Type 0
+  IsPutDown p (Sealed node batch) d c = IsPutAway below joined minimum p node batch d c
+  IsPutDown p other d c = c ≡ d
+
+module _ {T : Type 0} (below : T → T → Bool) (minimum : T) where
+  -- a computation was refused: for want of memory, or because a number was too large. Then the worker
+  -- has failed
+  abbrev pub HasStopped : (T → T → Ordering) → WorkerView T → Refusal → Type 0
+  HasStopped cmp w refusal = ((refusal ≡ OutOfMemory) × (w.failed ≡ false))
+      ⊎ ((refusal ≡ Overflow) × IsTrue w.failed × HasSeenTooLarge below minimum cmp w.known)
+
+module _ {T : Type 0} (below : T → T → Bool) (minimum : T) (pick : ℕ) where
+  -- another actor had the board, or this was found there
+  abbrev pub HasTriedToTake : Known (Doing T) → Known (Doing T) → Hand T → Step → Type 0
+  HasTriedToTake old new hand step = ((step ≡ Busy) × (new ≡ old) × (hand ≡ Free))
+      ⊎ ((piece : Piece T) × (step ≡ step_with piece) × (hand ≡ hand_with piece)
+      × IsTakenIn below minimum old new pick piece)
+
+  -- ---- a step
+
+  -- the worker had nothing in hand, and took the piece of this number
+  pub record HasTaken (old new : WorkerView T) : Type 0 where
+    pub free : old.hand ≡ Free
+    pub piece : Piece T
+    pub some : step_with piece ≡ Took
+    pub taken : IsTakenIn below minimum old.known new.known pick piece
+    pub node : hand_node new.hand ≡ hand_node (hand_with piece)
+
+  -- the worker gave at the node of the piece that it had in hand, and is done with it
+  pub record HasGiven (old new : WorkerView T) : Type 0 where
+    pub node : ℕ
+    pub had : hand_node old.hand ≡ Some node
+    pub gave : HasGivenAt node old.known new.known
+    pub free : new.hand ≡ Free
+
+  -- the worker had nothing in hand, and there was no piece for it. It knows whether the board was quiet
+  pub record IsIdle (quiet : Bool) (old new : WorkerView T) : Type 0 where
+    pub had : old.hand ≡ Free
+    pub looked : Adds old.known (Look old.known.number) new.known
+    pub none : HasNoPiece below (dataflow_of old.known) (state_found below minimum new.known) old.known.number
+    pub quiet_is : IsTrue quiet ↔ WasQuiet below minimum old.known new.known
+    pub free : new.hand ≡ Free
+
+  -- what each answer of a step means
+  abbrev pub IsStep : WorkerView T → WorkerView T → Step → Type 0
+  IsStep old new Took = HasTaken old new
+  IsStep old new Gave = HasGiven old new
+  IsStep old new (Idle quiet) = IsIdle quiet old new
+  IsStep old new Busy = (new.known ≡ old.known) × (hand_node new.hand ≡ hand_node old.hand)
+
+  -- a step that was refused for want of memory may have looked, or taken a piece. What was in hand
+  -- still is, and the next step goes on with it
+  abbrev pub IsHalted : WorkerView T → WorkerView T → Type 0
+  IsHalted old new = (LooksAtMost old.known new.known × (hand_node new.hand ≡ hand_node old.hand)) ⊎ HasTaken old new
+
+  -- what each refusal of a step means
+  abbrev pub IsStepRefusal : (T → T → Ordering) → WorkerView T → WorkerView T → Refusal → Type 0
+  IsStepRefusal cmp old new OutOfMemory = (new.failed ≡ false) × IsHalted old new
+  IsStepRefusal cmp old new Overflow = IsTrue new.failed × HasSeenTooLarge below minimum cmp new.known
+  IsStepRefusal cmp old new Failed = IsTrue old.failed × (new ≡ old)
+  IsStepRefusal cmp old new other = ⊥

@@ -1,0 +1,19 @@
+//! Steps: a worker of any number, among any workers and clients, as a user of the board runs it.
+//!
+//! A [`Worker`] is an actor of the board with its desk, and with what it has in hand. A call of
+//! [`Worker::step`] tries once to enter the board, and never waits: another actor may have the board
+//! just then. With nothing in hand the worker takes a piece and computes it. With a piece in hand it
+//! gives what it computed. So each step is one event, or none.
+//!
+//! That desk and hand are right for what the worker has seen is the invariant of the type. So a step
+//! may be made at any time, and after any refusal. A worker that met a number which 64 bits cannot say
+//! has failed, and takes no more steps.
+#![tactic(auto)]
+
+mod giving;
+mod step;
+mod taking;
+mod worker;
+
+pub use step::Step;
+pub use worker::Worker;

@@ -1,0 +1,191 @@
+//! A worker: an actor of the board, its desk, and what it has in hand.
+//!
+//! Its invariant (`IsWorker`, `specs/Workers`) says that desk and hand are right for the state that
+//! the worker left last. What others do leaves them so, and so does each of the worker's own events,
+//! and what it computes between two of them. Each method here is one of these, and none of them asks
+//! anything of the state.
+ghost use Rattle.std.specs.Prelude.{◌≡◌, ◌<◌, ℕ, Some, None, true, false, IfErr, IfOk, OnOk, IsTrue};
+ghost use Rattle.update.specs.Refusals.{IsMemoryOrOverflow};
+ghost use Rattle.update.specs.declared.refusal.Refusal.TheVariants.{OutOfMemory, Overflow};
+ghost use Rattle.histories.specs.declared.event.Event.TheVariants.{Look};
+ghost use Rattle.shared_board.specs.Tenures.{Adds, IsActor, IsFirst, terms_for};
+ghost use Rattle.desk_laws.specs.Own.{hand_node};
+ghost use Rattle.desk_laws.specs.declared.hand.Hand.TheVariants.{Free};
+ghost use Rattle.desk.specs.Desks.{IsComputed};
+ghost use Rattle.steps.specs.Steps.{HasStopped, HasTriedToGive, HasTriedToTake, LooksAtMost};
+ghost use Rattle.steps.specs.Workers.{HasSeenTooLarge, IsRightOf};
+
+use crate::giving::give;
+use crate::step::Step;
+use crate::taking::take_piece;
+use desk::{Desk, Hand};
+use lattice::Minimum;
+use machine::Routing;
+use plan::{NodeId, Plan};
+use shared_board::{Actor, BoardProtocol};
+use std::alloc::Global;
+use std::marker::Model;
+use update::Refusal;
+
+/// A worker of a board. A contract sees what it has seen, its desk, its hand, and whether it failed.
+#[derive(Drop)]
+pub struct Worker<T: Minimum, P: BoardProtocol<T>> {
+    actor: Actor<T, P>,
+    number: usize,
+    plan: Plan,
+    routing: Routing,
+    desk: Desk<T>,
+    hand: Hand<T>,
+    failed: bool,
+}
+
+impl<T: Minimum, P: BoardProtocol<T>> Model for Worker<T, P> {
+    ghost use Rattle.steps.specs.Workers.{IsWorker, WorkerView};
+
+    ghost Value = { WorkerView T };
+
+    ghost view = { λ w. record { known = w.actor; desk = w.desk; hand = w.hand; failed = w.failed } };
+
+    ghost invariant = { λ w. IsWorker T.below T.joined T.least T.cmp w.plan w.routing w.number
+        (record { known = w.actor; desk = w.desk; hand = w.hand; failed = w.failed }) };
+}
+
+impl<T: Minimum, P: BoardProtocol<T>> Worker<T, P> {
+    /// The worker of an actor that has looked once at its board, as [`shared_board::open`] makes it.
+    /// The plan and the number of workers are those with which the board was opened. Refused only with
+    /// `OutOfMemory`.
+    ///
+    /// Cost: the square of the nodes, of which a plan has at most 256.
+    pub fn new(
+        alloc: Global,
+        actor: Actor<T, P>,
+        plan: &Plan,
+        workers: usize,
+        number: usize,
+    ) -> Result<Worker<T, P>, Refusal>
+        requires worker { number < workers }
+        requires first { (clients : ℕ) × IsFirst (terms_for plan.now workers clients) number actor }
+        ensures known { IfOk result (λ w. w.known ≡ actor) }
+        ensures free { IfOk result (λ w. (w.hand ≡ Free) × (w.failed ≡ false)) }
+        ensures refused { IfErr result (λ refusal. refusal ≡ OutOfMemory) }
+    {
+        actor.known();
+        let plan = plan.clone()?;
+        let routing = Routing::of(alloc, &plan, workers)?;
+        let desk = Desk::new(alloc, &plan, number)?;
+        Ok(Worker {
+            actor,
+            number,
+            plan,
+            routing,
+            desk,
+            hand: Hand::Free,
+            failed: false,
+        })
+    }
+
+    /// Costs nothing. It tells the prover what holds of each worker.
+    pub fn known(&self)
+        ensures actor { IsActor T.below T.least self.now.known }
+        ensures right { self.now.failed ≡ false
+            → IsRightOf T.below T.joined T.least self.now.known self.now.desk self.now.hand }
+        ensures large { IsTrue self.now.failed
+            → HasSeenTooLarge T.below T.least T.cmp self.now.known }
+    {
+        self.actor.known();
+    }
+
+    // Whether an earlier step met a number that is too large.
+    pub(crate) fn has_failed(&self) -> bool
+        ensures { result ≡ self.now.failed }
+    {
+        self.failed
+    }
+
+    // The node of the piece in hand.
+    pub(crate) fn node(&self) -> Option<NodeId>
+        ensures node { result ≡ hand_node self.now.hand }
+        ensures free { result ≡ None → self.now.hand ≡ Free }
+    {
+        node_of(&self.hand)
+    }
+
+    // Tries to take the piece of this number.
+    pub(crate) fn take(&mut self, pick: usize) -> Result<Step, Refusal>
+        requires going { self.old.failed ≡ false }
+        requires free { self.old.hand ≡ Free }
+        ensures going { self.new.failed ≡ false }
+        ensures tried { IfOk result
+            (HasTriedToTake T.below T.least pick self.old.known self.new.known self.new.hand) }
+        ensures refused { IfErr result (λ refusal. (refusal ≡ OutOfMemory)
+            × (self.new.hand ≡ Free)
+            × Adds self.old.known (Look self.old.known.number) self.new.known) }
+    {
+        take_piece(&mut self.actor, &mut self.hand, pick)
+    }
+
+    // Computes what is in hand as far as it goes without the board. With an overflow the worker fails.
+    pub(crate) fn compute(&mut self, alloc: Global) -> Result<(), Refusal>
+        requires going { self.old.failed ≡ false }
+        ensures known { self.new.known ≡ self.old.known }
+        ensures node { hand_node self.new.hand ≡ hand_node self.old.hand }
+        ensures computed { OnOk result (IsComputed self.new.hand × (self.new.failed ≡ false)) }
+        ensures refused { IfErr result (HasStopped T.below T.least T.cmp self.new) }
+    {
+        self.actor.known();
+        let Err(refusal) = self.desk.compute(alloc, &self.plan, &mut self.hand) else {
+            return Ok(());
+        };
+        self.failed = is_overflow(refusal);
+        Err(refusal)
+    }
+
+    // Tries to give what is in hand at its node.
+    pub(crate) fn give(&mut self, alloc: Global, node: NodeId) -> Result<Step, Refusal>
+        requires going { self.old.failed ≡ false }
+        requires node { hand_node self.old.hand ≡ Some node }
+        requires computed { IsComputed self.old.hand }
+        ensures going { self.new.failed ≡ false }
+        ensures tried { IfOk result (HasTriedToGive node self.old.known self.new.known
+            self.old.hand self.new.hand) }
+        ensures refused { IfErr result (λ refusal. (refusal ≡ OutOfMemory)
+            × (self.new.hand ≡ self.old.hand) × LooksAtMost self.old.known self.new.known) }
+    {
+        give(
+            alloc,
+            &self.plan,
+            &self.routing,
+            &mut self.actor,
+            &mut self.desk,
+            &mut self.hand,
+            node,
+            self.number,
+        )
+    }
+}
+
+// The node of the piece in hand.
+fn node_of<T: Minimum>(hand: &Hand<T>) -> Option<NodeId>
+    ensures node { result ≡ hand_node hand.now }
+    ensures free { result ≡ None → hand.now ≡ Free }
+{
+    match hand {
+        Hand::Free => None,
+        Hand::Taken { bundle, .. } => Some(bundle.place.node),
+        Hand::Kept { node, .. } => Some(*node),
+        Hand::Turned { node, .. } => Some(*node),
+        Hand::Ready { node, .. } => Some(*node),
+        Hand::Sealed { node, .. } => Some(*node),
+    }
+}
+
+// Whether a number was too large.
+fn is_overflow(refusal: Refusal) -> bool
+    ensures overflow { refusal ≡ Overflow → result ≡ true }
+    ensures other { refusal ≡ OutOfMemory → result ≡ false }
+{
+    match refusal {
+        Refusal::Overflow => true,
+        _ => false,
+    }
+}
