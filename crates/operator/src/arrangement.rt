@@ -10,7 +10,7 @@
 //!
 //! The invariant is the record `IsArrangement`: the holds are the spine's, each asks for a boundary
 //! that the spine has, and rows and times are as the plan says.
-ghost use Rattle.std.specs.Prelude.{◌≡◌, ◌≢◌, ◌<◌, ◌≤◌, ◌∷◌, ◌++◌, [], true, suc, set, length, slice_get, vec_len, vec_capacity, List, Some, ℤ, Bool, IfOk, IfErr, OnOk, OnErr, IsTrue};
+ghost use Rattle.std.specs.Prelude.{◌≡◌, ◌≢◌, ◌<◌, ◌≤◌, ◌∷◌, ◌++◌, ◌^◌, ◌↔◌, [], true, suc, set, length, slice_get, vec_len, vec_capacity, List, Some, ℤ, Bool, IfOk, IfErr, OnOk, OnErr, IsTrue};
 ghost use Rattle.std.specs.List.{Contains};
 ghost use Rattle.lattice.specs.Frontiers.{all_beyond};
 ghost use Rattle.update.specs.declared.refusal.Refusal.{Refusal};
@@ -18,10 +18,10 @@ ghost use Rattle.update.specs.Refusals.{IsMemoryOrOverflow};
 ghost use Rattle.update.specs.Updates.{total_where, HasLargeTotal, size};
 ghost use Rattle.batch.specs.Batches.{IsSealed};
 ghost use Rattle.batch.specs.Intervals.{all_between, is_interval_of, passed_updates, open_updates};
-ghost use Rattle.trace.specs.Readings.{Insertion};
+ghost use Rattle.trace.specs.Readings.{Insertion, all_updates};
 ghost use Rattle.trace.specs.BatchLists.{Continues, insertion_of};
 ghost use Rattle.trace.specs.Holds.{HoldState};
-ghost use Rattle.spine.specs.Spines.{Stands, boundaries};
+ghost use Rattle.spine.specs.Spines.{IsDone, Stands, boundaries};
 ghost use Rattle.operator.specs.Arrangements.{AreInTurn, IsArrangement, IsNew, IsOpen, rows_have, times_from, times_of, upper_of};
 
 mod boundary;
@@ -345,6 +345,39 @@ impl<T: Minimum> Arrangement<T> {
     {
         let batches = all_batches(&self.spine).len() as u64;
         let _done = self.spine.work(fuel_for(more as u64, batches));
+    }
+
+    /// Lets the spine merge batches with so much fuel, one unit for each update that is copied. True if
+    /// and only if nothing is left to do: some reader may ask for each boundary between two batches. A
+    /// merge that is not whole when the fuel ends goes on with the next call. No reader notices.
+    ///
+    /// If it is refused, then some may have been done, and the merge that was refused is given up.
+    ///
+    /// - [`Refusal::Overflow`] only if the absolute diffs of all that was inserted sum to 2^63 or more.
+    /// - [`Refusal::OutOfMemory`] only if memory for a merged batch was refused.
+    ///
+    /// Cost: that of [`Spine::work`].
+    pub fn merge(&mut self, fuel: u64) -> Result<bool, Refusal>
+        ensures kept { self.new ≡ record self.old {
+          spine = record self.old.spine {
+            list = record self.old.spine.list {
+              batches = self.new.spine.list.batches;
+              reserved = self.new.spine.list.reserved;
+            };
+            progress = self.new.spine.progress;
+          };
+        } }
+        ensures upper { upper_of self.new.spine ≡ upper_of self.old.spine }
+        ensures stands { (h : List (Insertion T)) → Stands T.below self.old.spine h
+            → Stands T.below self.new.spine h }
+        ensures open { (h : List (Insertion T)) → IsOpen T.below self.old.spine h
+            → IsOpen T.below self.new.spine h }
+        ensures done { IfOk result (λ done. (done ≡ true) ↔ IsDone T.below self.new.spine) }
+        ensures idle { fuel ≡ 0 → self.new ≡ self.old }
+        ensures refused { IfErr result (IsMemoryOrOverflow ((h : List (Insertion T))
+            → Stands T.below self.old.spine h → 2 ^ 63 ≤ size (all_updates h))) }
+    {
+        self.spine.work(fuel)
     }
 
     /// Tells the spine that a reader, by the number of its hold, has taken all that was inserted up
