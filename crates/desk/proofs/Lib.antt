@@ -18,3 +18,6 @@ pub mod ReadingLemmas
 pub mod PairingLemmas
 pub mod JoiningLemmas
 pub mod JoiningCauseLemmas
+pub mod TidyLemmas
+pub mod FollowLemmas
+pub mod SettleLemmas

@@ -21,6 +21,7 @@ mod laying;
 mod opening;
 mod putting_away;
 mod sealing;
+mod tidying;
 
 pub use desk::Desk;
 pub use desk_laws::{Hand, Output};

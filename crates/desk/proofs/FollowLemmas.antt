@@ -1,0 +1,223 @@
+-- What a join asks of the arrangements of its sources when its holds follow it.
+use Rattle.std.proofs.Common.{◌≡◌, ◌≢◌, ℕ, zero, suc, ◌+◌, ◌<◌, Bool, true, false, eqb, List, [], ◌∷◌, length, set, Some, IsTrue, sym, refl, ap, ◌∙◌, subst, arith, true≢false}
+use Rattle.std.specs.Prelude.{Result, Ok, Err}
+use Rattle.std.specs.Result.{OnErr, OnOk}
+use Rattle.std.specs.List.{slice_get}
+use Rattle.std.specs.declared.cmp.Ordering.{Ordering}
+use Rattle.std.proofs.lemmas.Bool.{eqb-true, eqb-false}
+use Rattle.lattice.specs.Order.{PartialOrderLaws}
+use Rattle.plan.specs.Nodes.{is_join, is_linear, key_width, node_at, sources}
+use Rattle.plan.specs.declared.node.Node.{Node}
+use Rattle.plan.specs.declared.node.Node.TheVariants.{Join}
+use Rattle.plan.proofs.KeyLemmas.{source_arranged}
+use Rattle.plan.proofs.PlanLemmas.{source_smaller}
+use Rattle.batch.specs.Descriptions.{BatchState}
+use Rattle.trace.specs.Readings.{Insertion, reached}
+use Rattle.histories.specs.Histories.{state_after}
+use Rattle.histories.specs.Histories.Dataflows.{Dataflow, IsDataflow, node_of, source_of}
+use Rattle.histories.specs.Histories.States.{State}
+use Rattle.operator.specs.Arrangements.{ArrangementState}
+use Rattle.operator.specs.Joins.{JoiningView}
+use Rattle.operator_laws.specs.Joining.{on_top}
+use Rattle.operator_laws.specs.Working.{IsWorkingAt, Works}
+use Rattle.desk_laws.specs.Own.{AreSharing, DeskView, HasHold, IsArrangedOn, IsJoinedOn, IsTakenBefore, ReadsAt, boundary_at, hold_at, is_taken_at}
+use Rattle.desk_laws.specs.declared.hand.Hand.{Hand}
+use Rattle.desk_laws.specs.declared.hand.Hand.TheVariants.{Sealed, Taken}
+use Rattle.desk_laws.proofs.FoundLemmas.{is_arrange}
+use Rattle.desk.specs.Desks.{IsRight, IsSomeones}
+use Rattle.desk.specs.Openings.{on_plan}
+use Rattle.desk.specs.Tidying.{HasMoved, IsFollowed, IsFollowedAt, IsTooLargeOn, LeadsOn, MayMove, MayTidy, is_sealed}
+use Rattle.desk.proofs.EntryLemmas.{one_entry, with_arrangement}
+use Rattle.desk.proofs.FromLemmas.{large_before, leads_same, leads_then, someones_then}
+use Rattle.desk.proofs.TidyLemmas.{leads_with, now_followed, reads_in, sharing_moved, stays_followed}
+
+-- a node that is a join
+pub is_a_join : (node : Node) → is_join node ≡ true → (l : ℕ) × (r : ℕ) × (node ≡ Join l r)
+is_a_join (Join l r) h = (l, r, refl)
+is_a_join other h = absurd (true≢false (sym h))
+
+module _ {T : Type 0} where
+  -- what was taken are the oldest insertions, also without the bundle in hand
+  taken_first : (h : Hand T) (n port : ℕ) (all taken inserted later : List (Insertion T)) → IsTakenBefore h n port all taken → inserted ≡ on_top later all → (k : List (Insertion T)) × (inserted ≡ on_top k taken)
+  taken_first (Taken bundle more) n port all taken inserted later t q = by (is_taken_at (Taken bundle more) n port) refl
+    where
+      by : (e : Bool) → is_taken_at (Taken bundle more) n port ≡ e → (k : List (Insertion T)) × (inserted ≡ on_top k taken)
+      by true e = let y = t.newest bundle more refl e in (y.0 ∷ later, q ∙ ap (on_top later) y.1)
+      by false e = (later, q ∙ ap (on_top later) (t.same e))
+  taken_first other n port all taken inserted later t q = (later, q ∙ ap (on_top later) (t.same refl))
+
+-- no batch is in hand
+pub not_sealed : {T : Type 0} (h : Hand T) → ((node : ℕ) (batch : BatchState T) → h ≢ Sealed node batch) → is_sealed h ≡ false
+not_sealed (Sealed node batch) far = absurd (far node batch refl)
+not_sealed other far = refl
+
+-- ---- a join is a reader of the arrangements of its sources
+
+module _ {T : Type 0} (below : T → T → Bool) (joined : T → T → T) (minimum : T) (p : Dataflow) (q : IsDataflow p) (w : State T) (k : ℕ) (d : DeskView T) (h : Hand T) (x : IsRight below joined minimum p w k d h) (n port s : ℕ) (j : JoiningView T) (r : ReadsAt p d n port s j) where
+  abbrev works : Works T
+  works = x.own.keeps.works
+
+  arranged : (l rr : ℕ) → node_of p n ≡ Join l rr → IsArrangedOn below joined minimum p d s (works.start s) (works.inserted s)
+  arranged l rr e =
+      let less = source_smaller p.nodes q.plan n port s r.reads in
+      let arrange = is_arrange (node_of p s) (key_width p.nodes (node_of p n)) (source_arranged p.nodes q.plan n port s r.within (ap is_linear e) r.reads) in
+      x.own.laid.arranged s arrange.0 arrange.1 (let inside = r.within in omega (arith, less, inside)) arrange.2
+
+  -- its hold may move to where it has come
+  may_move : (l rr : ℕ) → node_of p n ≡ Join l rr → (all taken later : List (Insertion T)) → IsTakenBefore h n port all taken → works.inserted s ≡ on_top later all → boundary_at port j ≡ reached (minimum ∷ []) taken
+      → (a : ArrangementState T) × (slice_get d.arrangements s ≡ Some (Some a)) × MayMove below minimum a (hold_at port j) (boundary_at port j)
+  may_move l rr e all taken later before queued ends =
+      let y = arranged l rr e in
+      let h_at = x.own.sharing.held n port s j r in
+      let same : h_at.arrangement ≡ y.arrangement = one_entry d.arrangements s h_at.arrangement y.arrangement h_at.there y.there in
+      let first = taken_first h n port all taken (works.inserted s) later before queued in (
+        y.arrangement,
+        y.there,
+        record {
+          inserted = works.inserted s;
+          later = first.0;
+          taken = taken;
+          reading = record {
+            stands = y.spine.stands;
+            start = y.spine.start;
+            in_turn = y.spine.in_turn;
+            «open» = y.spine.«open»;
+            all = first.1;
+            ends = ends;
+            number = hold_at port j;
+            hold = record { logical = minimum ∷ []; physical = h_at.physical };
+            held = ap (λ (z : ArrangementState T). slice_get z.holds (hold_at port j)) (sym same) ∙ h_at.hold;
+            behind = h_at.behind;
+          };
+          is = refl;
+        },
+      )
+
+module _ {T : Type 0} (below : T → T → Bool) (joined : T → T → T) (minimum : T) (p : Dataflow) (q : IsDataflow p) (w : State T) (k : ℕ) (d : DeskView T) (h : Hand T) (x : IsRight below joined minimum p w k d h) (n s : ℕ) (j : JoiningView T) where
+  same_some : (a b : ℕ) → Some a ≡ Some b → a ≡ b
+  same_some a b e = cc
+
+  at_port : (port l rr : ℕ) → node_of p n ≡ Join l rr → ReadsAt p d n port s j → (a : ArrangementState T) × (slice_get d.arrangements s ≡ Some (Some a)) × MayMove below minimum a (hold_at port j) (boundary_at port j)
+  at_port zero l rr e r =
+      let lies = x.own.laid.joining n l rr r.within e in
+      let is : lies.join ≡ j = one_entry d.joins n lies.join j lies.there r.there in
+      let here = subst (λ node. IsWorkingAt below p w k x.own.keeps.works n node) e (x.own.keeping.working n r.within) in
+      let at : l ≡ s = same_some l s (sym (ap (λ node. slice_get (sources node) 0) e) ∙ r.reads) in
+      may_move below joined minimum p q w k d h x n 0 s j r l rr e (x.own.keeps.works.left n) lies.left here.1.later lies.at_left (subst (λ z. x.own.keeps.works.inserted z ≡ on_top here.1.later (x.own.keeps.works.left n)) at here.1.all)
+      (ap (λ (z : JoiningView T). z.state.left) (sym is) ∙ lies.left_boundary)
+  at_port (suc zero) l rr e r =
+      let lies = x.own.laid.joining n l rr r.within e in
+      let is : lies.join ≡ j = one_entry d.joins n lies.join j lies.there r.there in
+      let here = subst (λ node. IsWorkingAt below p w k x.own.keeps.works n node) e (x.own.keeping.working n r.within) in
+      let at : rr ≡ s = same_some rr s (sym (ap (λ node. slice_get (sources node) 1) e) ∙ r.reads) in
+      may_move below joined minimum p q w k d h x n 1 s j r l rr e (x.own.keeps.works.right n) lies.right here.2.later lies.at_right (subst (λ z. x.own.keeps.works.inserted z ≡ on_top here.2.later (x.own.keeps.works.right n)) at here.2.all)
+      (ap (λ (z : JoiningView T). z.state.right) (sym is) ∙ lies.right_boundary)
+  at_port (suc (suc port)) l rr e r = absurd (none (sym (ap (λ node. slice_get (sources node) (suc (suc port))) e) ∙ r.reads))
+    where
+      none : slice_get (l ∷ rr ∷ []) (suc (suc port)) ≡ Some s → ⊥
+      none z = cc
+
+-- ---- the whole call
+
+module _ {T : Type 0} (below : T → T → Bool) (joined : T → T → T) (minimum : T) (plan : List Node) where
+  pub leads_on_same : (d : DeskView T) → LeadsOn below joined minimum plan d d
+  leads_on_same d h e = leads_same below joined minimum plan d h
+
+  pub leads_on_then : (d c b : DeskView T) → LeadsOn below joined minimum plan d c → LeadsOn below joined minimum plan c b → LeadsOn below joined minimum plan d b
+  leads_on_then d c b first second h e = leads_then below joined minimum plan d c h h (first h e) b h (second h e)
+
+  pub may_then : (d c : DeskView T) → LeadsOn below joined minimum plan d c → MayTidy below joined minimum plan d → MayTidy below joined minimum plan c
+  may_then d c leads (h, e, x) = (h, e, someones_then below joined minimum plan d c h h (leads h e) x)
+
+  pub large_on_before : (d c : DeskView T) → LeadsOn below joined minimum plan d c → (cmp : T → T → Ordering) → IsTooLargeOn below joined minimum plan cmp c → IsTooLargeOn below joined minimum plan cmp d
+  large_on_before d c leads cmp large h e = large_before below joined minimum plan d c h h (leads h e) cmp (large h e)
+
+  module _ (d : DeskView T) (n port s : ℕ) (may : MayTidy below joined minimum plan d) (reads : (j : JoiningView T) × ReadsAt (on_plan plan) d n port s j) where
+    pub there_to_follow : (j : JoiningView T) × (slice_get d.joins n ≡ Some (Some j)) × (a : ArrangementState T) × (slice_get d.arrangements s ≡ Some (Some a)) × MayMove below minimum a (hold_at port j) (boundary_at port j)
+    there_to_follow = by may
+      where
+        by : MayTidy below joined minimum plan d → (j : JoiningView T) × (slice_get d.joins n ≡ Some (Some j)) × (a : ArrangementState T) × (slice_get d.arrangements s ≡ Some (Some a)) × MayMove below minimum a (hold_at port j) (boundary_at port j)
+        by (h, e, x) =
+            let r = reads_in x.dataflow plan d n port s reads.0 x.nodes reads.1 in
+            let join = is_a_join (node_of x.dataflow n) r.join in
+            let at = at_port below joined minimum x.dataflow x.is (state_after below minimum x.dataflow x.events) x.worker d h x.right n s reads.0 port join.0 join.1 join.2 r in
+            (reads.0, r.there, at.0, at.1, at.2)
+
+    module _ (o : PartialOrderLaws below) (a b : ArrangementState T) (own : slice_get d.arrangements s ≡ Some (Some a)) (moved : HasMoved below minimum (hold_at port reads.0) (boundary_at port reads.0) a b) where
+      leads_moved : LeadsOn below joined minimum plan d (with_arrangement s b d)
+      leads_moved = leads_with below joined minimum d s a b own moved.alike plan (λ p nodes sharing. sharing_moved below minimum o p d n port s reads.0 (reads_in p plan d n port s reads.0 nodes reads.1) sharing a b own moved)
+
+      here_moved : IsFollowedAt minimum plan (with_arrangement s b d) n port
+      here_moved = by may
+        where
+          by : MayTidy below joined minimum plan d → IsFollowedAt minimum plan (with_arrangement s b d) n port
+          by (h, e, x) = now_followed below minimum o x.dataflow d n port s reads.0 (reads_in x.dataflow plan d n port s reads.0 x.nodes reads.1) x.right.own.sharing a b own moved plan x.nodes
+
+      stays_moved : (m at : ℕ) → IsFollowedAt minimum plan d m at → IsFollowedAt minimum plan (with_arrangement s b d) m at
+      stays_moved m at = by may
+        where
+          by : MayTidy below joined minimum plan d → IsFollowedAt minimum plan d m at → IsFollowedAt minimum plan (with_arrangement s b d) m at
+          by (h, e, x) = stays_followed below minimum o x.dataflow d n port s reads.0 (reads_in x.dataflow plan d n port s reads.0 x.nodes reads.1) x.right.own.sharing a b own moved plan x.nodes m at
+
+    -- a hold of this arrangement has moved, on another desk
+    abbrev pub Moves : DeskView T → ArrangementState T → Type 0
+    Moves c a = (b : ArrangementState T) × (c ≡ with_arrangement s b d) × HasMoved below minimum (hold_at port reads.0) (boundary_at port reads.0) a b
+
+    module _ (o : PartialOrderLaws below) (c : DeskView T) {A E : Type 0} where
+      pub leads_followed : (res : Result A E) → ((a : ArrangementState T) → slice_get d.arrangements s ≡ Some (Some a) → OnOk res (Moves c a)) → OnErr res (c ≡ d) → LeadsOn below joined minimum plan d c
+      leads_followed (Ok y) moved same =
+          let there = there_to_follow in
+          let m = moved there.2 there.3 in
+          subst (LeadsOn below joined minimum plan d) (sym m.1) (leads_moved o there.2 m.0 there.3 m.2)
+      leads_followed (Err e) moved same = subst (LeadsOn below joined minimum plan d) (sym same) (leads_on_same d)
+
+      pub here_followed : (res : Result A E) → ((a : ArrangementState T) → slice_get d.arrangements s ≡ Some (Some a) → OnOk res (Moves c a)) → OnOk res (IsFollowedAt minimum plan c n port)
+      here_followed (Ok y) moved =
+          let there = there_to_follow in
+          let m = moved there.2 there.3 in
+          subst (λ (z : DeskView T). IsFollowedAt minimum plan z n port) (sym m.1) (here_moved o there.2 m.0 there.3 m.2)
+      here_followed (Err e) moved = tt
+
+      pub still_followed : (res : Result A E) → ((a : ArrangementState T) → slice_get d.arrangements s ≡ Some (Some a) → OnOk res (Moves c a)) → OnErr res (c ≡ d) → (m at : ℕ) → IsFollowedAt minimum plan d m at → IsFollowedAt minimum plan c m at
+      still_followed (Ok y) moved same m at x =
+          let there = there_to_follow in
+          let z = moved there.2 there.3 in
+          subst (λ (c : DeskView T). IsFollowedAt minimum plan c m at) (sym z.1) (stays_moved o there.2 z.0 there.3 z.2 m at x)
+      still_followed (Err e) moved same m at x = subst (λ (c : DeskView T). IsFollowedAt minimum plan c m at) (sym same) x
+
+  -- ---- both ports of a join
+
+  module _ (d : DeskView T) (n : ℕ) (within : n < length plan) (may : MayTidy below joined minimum plan d) where
+    module _ (l r : ℕ) (e : node_at plan n ≡ Join l r) where
+      join_there : (j : JoiningView T) × (slice_get d.joins n ≡ Some (Some j))
+      join_there = by may
+        where
+          by : MayTidy below joined minimum plan d → (j : JoiningView T) × (slice_get d.joins n ≡ Some (Some j))
+          by (h, f, x) = let lies = x.right.own.laid.joining n l r (subst (λ nodes. n < length nodes) (sym x.nodes) within) (ap (λ nodes. node_at nodes n) x.nodes ∙ e) in (lies.join, lies.there)
+
+      pub reads_left : (j : JoiningView T) × ReadsAt (on_plan plan) d n 0 l j
+      reads_left = (join_there.0, record { within = within; join = ap is_join e; reads = ap (λ node. slice_get (sources node) 0) e; there = join_there.1 })
+
+      pub reads_right : (j : JoiningView T) × ReadsAt (on_plan plan) d n 1 r j
+      reads_right = (join_there.0, record { within = within; join = ap is_join e; reads = ap (λ node. slice_get (sources node) 1) e; there = join_there.1 })
+
+  -- a join has no more than two ports
+  pub both_followed : (d : DeskView T) (n l r : ℕ) → node_at plan n ≡ Join l r → IsFollowedAt minimum plan d n 0 → IsFollowedAt minimum plan d n 1 → IsFollowed minimum plan d n
+  both_followed d n l r e first second zero = first
+  both_followed d n l r e first second (suc zero) = second
+  both_followed d n l r e first second (suc (suc port)) = λ source j reads a there. absurd (none source (sym (ap (λ node. slice_get (sources node) (suc (suc port))) e) ∙ reads.reads))
+    where
+      none : (source : ℕ) → slice_get (l ∷ r ∷ []) (suc (suc port)) ≡ Some source → ⊥
+      none source z = cc
+
+  -- at a node that is no join nothing is to be followed
+  pub none_followed : (d : DeskView T) (n : ℕ) → is_join (node_at plan n) ≡ false → IsFollowed minimum plan d n
+  none_followed d n e port = λ source j reads a there. absurd (true≢false (sym reads.join ∙ e))
+
+  -- one node more
+  pub followed_more : (d c : DeskView T) (n node : ℕ) → node ≡ n → ((m : ℕ) → m < n → IsFollowed minimum plan d m) → ((m i : ℕ) → IsFollowedAt minimum plan d m i → IsFollowedAt minimum plan c m i) → IsFollowed minimum plan c node → (m : ℕ) → m < n + 1 → IsFollowed minimum plan c m
+  followed_more d c n node same before stays here m l = by (eqb m n) refl
+    where
+      by : (b : Bool) → eqb m n ≡ b → IsFollowed minimum plan c m
+      by true e = subst (IsFollowed minimum plan c) (same ∙ sym (eqb-true m n e)) here
+      by false e = λ port. stays m port (before m (let far = eqb-false m n e in omega (arith, l, far)) port)

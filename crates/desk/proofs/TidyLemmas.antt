@@ -1,0 +1,246 @@
+-- What moved holds and merged batches leave of a worker's desk.
+use Rattle.std.proofs.Common.{◌≡◌, ◌≢◌, ℕ, zero, suc, ◌+◌, ◌<◌, ◌≤◌, ◌^◌, Bool, true, false, eqb, List, [], ◌∷◌, length, set, Option, Some, IsTrue, sym, refl, ap, ◌∙◌, subst, arith, true≢false}
+use Rattle.std.specs.List.{slice_get}
+use Rattle.std.specs.declared.cmp.Ordering.{Ordering}
+use Rattle.std.proofs.lemmas.Bool.{eqb-true, eqb-false}
+use Rattle.lattice.specs.Order.{PartialOrderLaws}
+use Rattle.lattice.specs.Frontiers.{all_beyond}
+use Rattle.lattice.proofs.FrontierLemmas.{all_beyond_later, beyond_itself}
+use Rattle.update.specs.Updates.{size}
+use Rattle.plan.specs.Nodes.{is_join, is_linear, is_reduction, key_width, node_at, sources}
+use Rattle.plan.specs.declared.node.Node.{Node}
+use Rattle.plan.specs.declared.node.Node.TheVariants.{Join}
+use Rattle.plan.proofs.KeyLemmas.{source_arranged}
+use Rattle.plan.proofs.PlanLemmas.{source_smaller}
+use Rattle.trace.specs.Holds.{HoldState}
+use Rattle.trace.specs.Readings.{Insertion, all_updates, reached}
+use Rattle.spine.specs.Spines.{Stands}
+use Rattle.histories.specs.declared.event.Bundle.{Bundle}
+use Rattle.histories.specs.declared.event.Event.{Event}
+use Rattle.histories.specs.Histories.{IsLegal, state_after}
+use Rattle.histories.specs.Histories.Dataflows.{Dataflow, IsDataflow, node_of, source_of}
+use Rattle.histories.specs.Histories.Promises.{changes_in}
+use Rattle.histories.specs.Histories.States.{State}
+use Rattle.operator.specs.Arrangements.{AreInTurn, ArrangementState, upper_of}
+use Rattle.operator.specs.Joins.{JoiningView}
+use Rattle.operator.proofs.TurnLemmas.{firsts}
+use Rattle.operator_laws.specs.Joining.{IsQueued, on_top}
+use Rattle.operator_laws.specs.Working.{IsWorkingAt, Works}
+use Rattle.shared_board.specs.Large.{HasNoSmallBound}
+use Rattle.desk_laws.specs.Own.{AreSharing, DeskView, HasHold, IsArrangedOn, IsHandOn, IsJoinedOn, IsMergedAt, IsSpineAt, IsTakenBefore, ReadsAt, boundary_at, hold_at, is_taken_at, waiting_in}
+use Rattle.desk_laws.specs.declared.hand.Hand.{Hand}
+use Rattle.desk_laws.specs.declared.hand.Hand.TheVariants.{Sealed, Taken}
+use Rattle.desk_laws.proofs.FoundLemmas.{is_arrange}
+use Rattle.desk_laws.proofs.MergedLemmas.{merged_lem}
+use Rattle.desk.specs.Desks.{IsOnPlan, IsRight, IsSomeones, Leads}
+use Rattle.desk.specs.Joinings.{IsReading}
+use Rattle.desk.specs.Openings.{on_plan}
+use Rattle.desk.specs.Tidying.{HasMoved, IsAlike, IsFollowedAt, IsSettled, LeadsOn, MayMove, MayTidy, is_sealed}
+use Rattle.desk.proofs.EntryLemmas.{get_own, get_set, one_entry, with_arrangement}
+
+-- ---- how far a reader has come
+
+module _ {T : Type 0} {below : T → T → Bool} (o : PartialOrderLaws below) (start : List T) where
+  -- what comes later goes on from what was taken
+  pub reached_on : (later h : List (Insertion T)) → AreInTurn below start (on_top later h) → IsTrue (all_beyond below (reached start h) (reached start (on_top later h)))
+  reached_on [] h all = beyond_itself o (reached start h)
+  reached_on (i ∷ later) h all = all_beyond_later o (reached start h) i.upper (reached start (on_top later (i ∷ h))) (firsts o start later (i ∷ h) all).0.forward (reached_on later (i ∷ h) all)
+
+  -- so a reader is not ahead of the spine
+  pub reading_behind : (minimum : T) (a : ArrangementState T) (inserted later taken : List (Insertion T)) (boundary : List T) → start ≡ minimum ∷ [] → IsReading below minimum a inserted later taken boundary → IsTrue (all_beyond below boundary (upper_of a.spine))
+  reading_behind minimum a inserted later taken boundary e r =
+      let ends : upper_of a.spine ≡ reached start (on_top later taken) = r.stands.upper ∙ ((λ i. reached ((r.start ∙ sym e) i) inserted) ∙ ap (reached start) r.all) in
+      let turn : AreInTurn below start (on_top later taken) = subst (AreInTurn below start) r.all (subst (λ F. AreInTurn below F inserted) (sym e) r.in_turn) in
+      subst (λ F. IsTrue (all_beyond below boundary F)) (sym ends) (subst (λ F. IsTrue (all_beyond below F (reached start (on_top later taken)))) (sym (r.ends ∙ ap (λ F. reached F taken) (sym e))) (reached_on later taken turn))
+
+-- ---- another arrangement that stands for the same
+
+module _ {T : Type 0} (below : T → T → Bool) (joined : T → T → T) (minimum : T) (d : DeskView T) (n : ℕ) (a b : ArrangementState T) (own : slice_get d.arrangements n ≡ Some (Some a)) (like : IsAlike below a b) where
+  abbrev c : DeskView T
+  c = with_arrangement n b d
+
+  there_now : slice_get c.arrangements n ≡ Some (Some b)
+  there_now = get_own d.arrangements n (Some b) (Some a) own
+
+  module _ (p : Dataflow) where
+    spine_on : (inserted : List (Insertion T)) → IsSpineAt below joined minimum p n inserted a → IsSpineAt below joined minimum p n inserted b
+    spine_on inserted z = record {
+      width = like.width ∙ z.width;
+      start = like.start ∙ z.start;
+      stands = like.stands inserted z.stands;
+      in_turn = z.in_turn;
+      «open» = like.whole inserted z.«open»;
+    }
+
+    pub merged_at : (m : ℕ) → IsMergedAt below joined minimum p m d c
+    merged_at m = by (eqb m n) refl
+      where
+        by : (e : Bool) → eqb m n ≡ e → IsMergedAt below joined minimum p m d c
+        by true e =
+            let at = eqb-true m n e in
+            let mine : slice_get d.arrangements m ≡ Some (Some a) = ap (slice_get d.arrangements) at ∙ own in
+            let now : slice_get c.arrangements m ≡ Some (Some b) = ap (slice_get c.arrangements) at ∙ there_now in
+            record {
+              gathered = refl;
+              joins = refl;
+              reductions = refl;
+              waiting = ap waiting_in now ∙ (like.waiting ∙ sym (ap waiting_in mine));
+              arranged = λ start inserted y. record {
+                arrangement = b;
+                there = now;
+                spine = subst (λ k. IsSpineAt below joined minimum p k inserted b) (sym at) (spine_on inserted (subst (λ k. IsSpineAt below joined minimum p k inserted a) at (subst (IsSpineAt below joined minimum p m inserted) (one_entry d.arrangements m y.arrangement a y.there mine) y.spine)));
+                begins = y.begins;
+              };
+            }
+        by false e =
+            let same : slice_get c.arrangements m ≡ slice_get d.arrangements m = get_set d.arrangements n m (Some b) (eqb-false m n e) in
+            record {
+              gathered = refl;
+              joins = refl;
+              reductions = refl;
+              waiting = ap waiting_in same;
+              arranged = λ start inserted y. record { arrangement = y.arrangement; there = same ∙ y.there; spine = y.spine; begins = y.begins };
+            }
+
+    -- no batch in hand says anything of the desk
+    hand_on : (h : Hand T) → is_sealed h ≡ false → IsHandOn below joined minimum p c h
+    hand_on (Sealed node batch) e = absurd (true≢false e)
+    hand_on other e = tt
+
+    pub right_on : AreSharing below minimum p c → (w : State T) (k : ℕ) (h : Hand T) → is_sealed h ≡ false → IsRight below joined minimum p w k d h → IsRight below joined minimum p w k c h
+    right_on sharing w k h e x = record {
+      own = merged_lem below joined minimum p d c merged_at w k sharing h (hand_on h e) x.own;
+      on_plan = record { places = x.on_plan.places; wide = x.on_plan.wide; joins = x.on_plan.joins; hand = x.on_plan.hand };
+    }
+
+  -- whoever had the desk has the other, if the joins still share it
+  pub leads_with : (plan : List Node) → ((p : Dataflow) → p.nodes ≡ plan → AreSharing below minimum p d → AreSharing below minimum p c) → LeadsOn below joined minimum plan d c
+  leads_with plan sharing h e p q nodes es legal k x = right_on p (sharing p nodes x.own.sharing) (state_after below minimum p es) k h e x
+
+-- ---- a hold that moves
+
+-- who reads there before reads there after
+pub reads_back : {T : Type 0} (p : Dataflow) (d : DeskView T) (s : ℕ) (b : ArrangementState T) (n port source : ℕ) (j : JoiningView T) → ReadsAt p (with_arrangement s b d) n port source j → ReadsAt p d n port source j
+reads_back p d s b n port source j r = record { within = r.within; join = r.join; reads = r.reads; there = r.there }
+
+-- the plan alone says who reads
+pub reads_in : {T : Type 0} (p : Dataflow) (plan : List Node) (d : DeskView T) (n port source : ℕ) (j : JoiningView T) → p.nodes ≡ plan → ReadsAt (on_plan plan) d n port source j → ReadsAt p d n port source j
+reads_in p plan d n port source j e r =
+    let s = subst (λ nodes. ReadsAt (on_plan nodes) d n port source j) (sym e) r in
+    record { within = s.within; join = s.join; reads = s.reads; there = s.there }
+
+pub reads_out : {T : Type 0} (p : Dataflow) (plan : List Node) (d : DeskView T) (n port source : ℕ) (j : JoiningView T) → p.nodes ≡ plan → ReadsAt p d n port source j → ReadsAt (on_plan plan) d n port source j
+reads_out p plan d n port source j e r =
+    subst (λ nodes. ReadsAt (on_plan nodes) d n port source j) e (record { within = r.within; join = r.join; reads = r.reads; there = r.there })
+
+module _ {T : Type 0} (below : T → T → Bool) (minimum : T) (o : PartialOrderLaws below) (p : Dataflow) (d : DeskView T) (n port s : ℕ) (j : JoiningView T) (reads : ReadsAt p d n port s j) (sharing : AreSharing below minimum p d) (a b : ArrangementState T) (own : slice_get d.arrangements s ≡ Some (Some a))
+    (moved : HasMoved below minimum (hold_at port j) (boundary_at port j) a b) where
+  abbrev to : DeskView T
+  to = with_arrangement s b d
+
+  abbrev new_hold : HoldState T
+  new_hold = record { logical = minimum ∷ []; physical = boundary_at port j }
+
+  mine : HasHold below minimum d s (hold_at port j) (boundary_at port j)
+  mine = sharing.held n port s j reads
+
+  mine_is : mine.arrangement ≡ a
+  mine_is = one_entry d.arrangements s mine.arrangement a mine.there own
+
+  b_there : slice_get to.arrangements s ≡ Some (Some b)
+  b_there = get_own d.arrangements s (Some b) (Some a) own
+
+  -- the hold that moved
+  pub moved_hold : slice_get b.holds (hold_at port j) ≡ Some new_hold
+  moved_hold = ap (λ hs. slice_get hs (hold_at port j)) moved.holds ∙ get_own a.holds (hold_at port j) new_hold (record { logical = minimum ∷ []; physical = mine.physical }) (ap (λ (z : ArrangementState T). slice_get z.holds (hold_at port j)) (sym mine_is) ∙ mine.hold)
+
+  -- the others
+  pub other_hold : (number : ℕ) → number ≢ hold_at port j → slice_get b.holds number ≡ slice_get a.holds number
+  other_hold number far = ap (λ hs. slice_get hs number) moved.holds ∙ get_set a.holds (hold_at port j) number new_hold far
+
+  -- a hold of that number at this arrangement is of this port of this join
+  alone : (m at : ℕ) (i : JoiningView T) → ReadsAt p d m at s i → hold_at at i ≡ hold_at port j → boundary_at at i ≡ boundary_at port j
+  alone m at i r e =
+      let same = sharing.apart m at n port s i j r reads e in
+      let is : i ≡ j = one_entry d.joins n i j (ap (slice_get d.joins) (sym same.0) ∙ r.there) reads.there in
+      λ k. boundary_at (same.1 k) (is k)
+
+  step : (m at source : ℕ) (i : JoiningView T) → ReadsAt p d m at source i → HasHold below minimum d source (hold_at at i) (boundary_at at i) → (e : Bool) → eqb source s ≡ e → HasHold below minimum to source (hold_at at i) (boundary_at at i)
+  step m at source i r h true e =
+      let here = eqb-true source s e in
+      let r_here = subst (λ z. ReadsAt p d m at z i) here r in
+      let is : h.arrangement ≡ a = one_entry d.arrangements s h.arrangement a (ap (slice_get d.arrangements) (sym here) ∙ h.there) own in
+      let there : slice_get to.arrangements source ≡ Some (Some b) = ap (slice_get to.arrangements) here ∙ b_there in
+      by there is r_here (eqb (hold_at at i) (hold_at port j)) refl
+    where
+      by : slice_get to.arrangements source ≡ Some (Some b) → h.arrangement ≡ a → ReadsAt p d m at s i → (f : Bool) → eqb (hold_at at i) (hold_at port j) ≡ f → HasHold below minimum to source (hold_at at i) (boundary_at at i)
+      by there is r_here true f =
+          let same = eqb-true (hold_at at i) (hold_at port j) f in
+          record {
+            arrangement = b;
+            there = there;
+            other = h.other;
+            physical = boundary_at port j;
+            hold = ap (slice_get b.holds) same ∙ moved_hold;
+            behind = subst (λ F. IsTrue (all_beyond below (boundary_at port j) F)) (sym (alone m at i r_here same)) (beyond_itself o (boundary_at port j));
+          }
+      by there is r_here false f = record {
+        arrangement = b;
+        there = there;
+        other = h.other;
+        physical = h.physical;
+        hold = other_hold (hold_at at i) (eqb-false (hold_at at i) (hold_at port j) f) ∙ (ap (λ (z : ArrangementState T). slice_get z.holds (hold_at at i)) (sym is) ∙ h.hold);
+        behind = h.behind;
+      }
+  step m at source i r h false e = record {
+    arrangement = h.arrangement;
+    there = get_set d.arrangements s source (Some b) (eqb-false source s e) ∙ h.there;
+    other = h.other;
+    physical = h.physical;
+    hold = h.hold;
+    behind = h.behind;
+  }
+
+  pub sharing_moved : AreSharing below minimum p to
+  sharing_moved = record {
+    held = λ m at source i r. let y = reads_back p d s b m at source i r in step m at source i y (sharing.held m at source i y) (eqb source s) refl;
+    apart = λ m at m2 at2 source i k r t. sharing.apart m at m2 at2 source i k (reads_back p d s b m at source i r) (reads_back p d s b m2 at2 source k t);
+  }
+
+  -- a port that was followed still is
+  pub stays_followed : (plan : List Node) → p.nodes ≡ plan → (m at : ℕ) → IsFollowedAt minimum plan d m at → IsFollowedAt minimum plan to m at
+  stays_followed plan nodes m at followed source i r e there = by (eqb source s) refl
+    where
+      r_d : ReadsAt (on_plan plan) d m at source i
+      r_d = reads_back (on_plan plan) d s b m at source i r
+
+      by : (f : Bool) → eqb source s ≡ f → slice_get e.holds (hold_at at i) ≡ Some (record { logical = minimum ∷ []; physical = boundary_at at i })
+      by true f =
+          let here = eqb-true source s f in
+          let is : e ≡ b = one_entry to.arrangements s e b (ap (slice_get to.arrangements) (sym here) ∙ there) b_there in
+          let before = followed source i r_d a (ap (slice_get d.arrangements) here ∙ own) in
+          on here is before (eqb (hold_at at i) (hold_at port j)) refl
+        where
+          on : source ≡ s → e ≡ b → slice_get a.holds (hold_at at i) ≡ Some (record { logical = minimum ∷ []; physical = boundary_at at i }) → (g : Bool) → eqb (hold_at at i) (hold_at port j) ≡ g
+              → slice_get e.holds (hold_at at i) ≡ Some (record { logical = minimum ∷ []; physical = boundary_at at i })
+          on here is before true g =
+              let same = eqb-true (hold_at at i) (hold_at port j) g in
+              let r_here : ReadsAt p d m at s i = subst (λ z. ReadsAt p d m at z i) here (reads_in p plan d m at source i nodes r_d) in
+              let u = alone m at i r_here same in
+              ap (λ (z : ArrangementState T). slice_get z.holds (hold_at at i)) is ∙ (ap (slice_get b.holds) same ∙ (moved_hold ∙ ap (λ F. Some (record { logical = minimum ∷ []; physical = F })) (sym u)))
+          on here is before false g =
+              ap (λ (z : ArrangementState T). slice_get z.holds (hold_at at i)) is ∙ (other_hold (hold_at at i) (eqb-false (hold_at at i) (hold_at port j) g) ∙ before)
+      by false f = followed source i r_d e (sym (get_set d.arrangements s source (Some b) (eqb-false source s f)) ∙ there)
+
+  -- and this one is from now on
+  pub now_followed : (plan : List Node) → p.nodes ≡ plan → IsFollowedAt minimum plan to n port
+  now_followed plan nodes source i r e there =
+      let y = reads_in p plan d n port source i nodes (reads_back (on_plan plan) d s b n port source i r) in
+      let is : i ≡ j = one_entry d.joins n i j y.there reads.there in
+      let here : source ≡ s = same_some source s (sym y.reads ∙ reads.reads) in
+      let mine_now : e ≡ b = one_entry to.arrangements s e b (ap (slice_get to.arrangements) (sym here) ∙ there) b_there in
+      subst (λ z. slice_get e.holds (hold_at port z) ≡ Some (record { logical = minimum ∷ []; physical = boundary_at port z })) (sym is)
+      (ap (λ (z : ArrangementState T). slice_get z.holds (hold_at port j)) mine_now ∙ moved_hold)
+    where
+      same_some : (x y : ℕ) → Some x ≡ Some y → x ≡ y
+      same_some x y e = cc

@@ -1,0 +1,59 @@
+use Rattle.std.proofs.Common.{rules, ◌≡◌, Some, slice_get, set, sym, ap, subst, ◌∙◌}
+use Rattle.std.proofs.lemmas.Option.{none-some, same_Some}
+use Rattle.antichain.specs.Antichains.{IsFrontier}
+use Rattle.operator.specs.Arrangements.{ArrangementState}
+use Rattle.operator.specs.Joins.{JoiningView}
+use Rattle.desk_laws.specs.Own.{DeskView, boundary_at, hold_at}
+use Rattle.desk.specs.Tidying.{HasMoved, MayMove}
+use Rattle.desk.proofs.PlaceLemmas.{found_at, some_same}
+use Rattle.desk.proofs.ResultLemmas.{on_err_by, on_ok_by}
+use Rattle.desk.proofs.desk.Desk.follow.Goals as goal
+
+pub move_hold_at-requires : goal.move_hold_at-requires
+move_hold_at-requires g c =
+    let below = g.T.PartialOrder.below in
+    let least = g.T.Minimum.least in
+    let port = c.args.port in
+    let r = c.requires.may in
+    let there = subst (λ (x : DeskView g.row.T.Denot). slice_get x.joins c.args.node ≡ Some (Some r.0)) (sym c.self.view_is) r.1 in
+    let mine = found_at c.self.inside.joins.items c.number.result c.args.node c.index.result.now (Some r.0) c.number.ensures c.index.ensures there in
+    let same = same_Some r.0 c.in-Some.join (sym mine ∙ c.in-Some.is) in
+    let own = subst (λ (x : DeskView g.row.T.Denot). slice_get x.arrangements c.args.source ≡ Some (Some r.2)) (sym c.self.view_is) r.3 in
+    let number = ap (hold_at port) same ∙ sym c.hold_on.ensures in
+    let boundary = ap (boundary_at port) same ∙ sym c.boundary_on.ensures.value in
+    let may = subst (λ m. MayMove below least r.2 m c.boundary_on.result.now) number (subst (λ F. MayMove below least r.2 (hold_at port r.0) F) boundary r.4) in
+    (search rules, ((r.2, own, may), subst (λ F. IsFrontier below g.T.Ord.cmp F) (sym c.boundary_on.ensures.value) c.boundary_on.ensures.frontier))
+
+pub unreachable-requires : goal.unreachable-requires
+unreachable-requires g c =
+    let r = c.requires.may in
+    let there = subst (λ (x : DeskView g.row.T.Denot). slice_get x.joins c.args.node ≡ Some (Some r.0)) (sym c.self.view_is) r.1 in
+    let mine = found_at c.self.inside.joins.items c.number.result c.args.node c.index.result.now (Some r.0) c.number.ensures c.index.ensures there in
+    none-some r.0 (sym c.in-None.is ∙ mine)
+
+pub returns-clause-moved : goal.returns-clause-moved
+returns-clause-moved g c j at a own =
+    let inside = c.self.inside in
+    let d : DeskView g.row.T.Denot = record { gathered = inside.gathered.items; arrangements = inside.arrangements.items; joins = inside.joins.items; reductions = inside.reductions.items } in
+    let below = g.T.PartialOrder.below in
+    let least = g.T.Minimum.least in
+    let port = c.args.port in
+    let s = c.args.source in
+    let r = c.requires.may in
+    let there = subst (λ (x : DeskView g.row.T.Denot). slice_get x.joins c.args.node ≡ Some (Some r.0)) (sym c.self.view_is) r.1 in
+    let mine = found_at c.self.inside.joins.items c.number.result c.args.node c.index.result.now (Some r.0) c.number.ensures c.index.ensures there in
+    let same = sym (same_Some r.0 c.in-Some.join (sym mine ∙ c.in-Some.is)) ∙ some_same r.0 j (sym r.1 ∙ at) in
+    let number = c.hold_on.ensures ∙ ap (hold_at port) same in
+    let boundary = c.boundary_on.ensures.value ∙ ap (boundary_at port) same in
+    let here = subst (λ (x : DeskView g.row.T.Denot). slice_get x.arrangements s ≡ Some (Some a)) (sym c.self.view_is) own in
+    on_ok_by c.move_hold_at.result (λ m. (
+      m.0,
+      (λ i. record d { arrangements = m.1 i }) ∙ ap (λ (z : DeskView g.row.T.Denot). record z { arrangements = set z.arrangements s (Some m.0) }) c.self.view_is,
+      subst (λ F. HasMoved below least (hold_at port j) F a m.0) boundary (subst (λ k. HasMoved below least k c.boundary_on.result.now a m.0) number m.2),
+    )) (c.move_hold_at.ensures.moved a here)
+
+pub returns-clause-same : goal.returns-clause-same
+returns-clause-same g c =
+    let inside = c.self.inside in
+    let d : DeskView g.row.T.Denot = record { gathered = inside.gathered.items; arrangements = inside.arrangements.items; joins = inside.joins.items; reductions = inside.reductions.items } in
+    on_err_by c.move_hold_at.result (λ same. (λ i. record d { arrangements = same i }) ∙ c.self.view_is) c.move_hold_at.ensures.same

@@ -1,0 +1,14 @@
+use Rattle.std.proofs.Common.{rules}
+use Rattle.desk.proofs.ResultLemmas.{on_ok_both}
+use Rattle.desk.proofs.SettleLemmas.{has_moved, may_advance}
+use Rattle.desk.proofs.tidying.move_hold.Goals as goal
+
+pub advance-requires : goal.advance-requires
+advance-requires g c =
+    let may = may_advance g.T.PartialOrder.below g.T.Minimum.least g.met.T.PartialOrder.order c.args.arrangement.now c.args.number c.args.boundary.now c.in_ok-boundary.boundary c.in_ok-boundary.ensures.is c.trace-spine.ensures.known c.requires.may in
+    (search rules, (may.0, (may.1, (may.2, may.3))))
+
+pub returns-clause-moved : goal.returns-clause-moved
+returns-clause-moved g c =
+    let to = c.advance.ensures in
+    on_ok_both c.advance.result (λ moved whole. has_moved g.T.PartialOrder.below g.T.Minimum.least c.args.arrangement.now c.advance.new.self c.args.number c.in_ok-boundary.boundary moved c.args.boundary.now c.in_ok-boundary.ensures.is to.stands whole) to.moved to.open

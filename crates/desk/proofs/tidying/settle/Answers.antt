@@ -1,0 +1,16 @@
+use Rattle.desk.proofs.ResultLemmas.{on_ok_always}
+use Rattle.desk.proofs.SettleLemmas.{is_settled, own_settled}
+use Rattle.desk.proofs.tidying.settle.Goals as goal
+
+pub returns-clause-settled : goal.returns-clause-settled
+returns-clause-settled g c =
+    let to = c.in_ok-acknowledge.ensures in
+    let merged = c.merge.ensures in
+    is_settled g.T.PartialOrder.below g.T.Minimum.least c.args.arrangement.now c.acknowledge.new.self c.merge.new.self to.moved merged.kept merged.upper to.stands to.open merged.stands merged.open
+
+pub returns-clause-own : goal.returns-clause-own
+returns-clause-own g c =
+    let to = c.in_ok-acknowledge.ensures in
+    let merged = c.merge.ensures in
+    on_ok_always c.merge.result
+    (own_settled g.T.PartialOrder.below g.T.Minimum.least c.args.arrangement.now c.acknowledge.new.self c.merge.new.self to.moved merged.kept merged.upper c.trace-spine.ensures.known.own)

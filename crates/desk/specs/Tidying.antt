@@ -1,0 +1,94 @@
+-- What is left when a desk was tidied: where the holds are, and what was merged.
+use Rattle.std.specs.Prelude.{◌≡◌, ℕ, ◌<◌, Bool, true, false, List, [], ◌∷◌, Some, length, set, slice_get, IsTrue}
+use Rattle.std.specs.declared.cmp.Ordering.{Ordering}
+use Rattle.plan.specs.Nodes.{node_at}
+use Rattle.plan.specs.declared.node.Node.{Node}
+use Rattle.plan.specs.declared.node.Node.TheVariants.{Arrange}
+use Rattle.trace.specs.Holds.{HoldState}
+use Rattle.trace.specs.Readings.{Insertion}
+use Rattle.spine.specs.Spines.{IsDone, Stands}
+use Rattle.operator.specs.Arrangements.{ArrangementState, IsOpen, upper_of}
+use Rattle.operator.specs.Joins.{JoiningView}
+use Rattle.desk_laws.specs.Own.{DeskView, ReadsAt, boundary_at, hold_at}
+use Rattle.desk_laws.specs.declared.hand.Hand.{Hand}
+use Rattle.desk_laws.specs.declared.hand.Hand.TheVariants.{Sealed}
+use Rattle.desk.specs.Desks.{IsSomeones, IsTooLarge, Leads}
+use Rattle.desk.specs.Joinings.{IsReading}
+use Rattle.desk.specs.Openings.{on_plan}
+
+module _ {T : Type 0} where
+  -- a batch is in hand
+  abbrev pub is_sealed : Hand T → Bool
+  is_sealed (Sealed node batch) = true
+  is_sealed other = false
+
+  -- ---- one arrangement
+
+  module _ (below : T → T → Bool) where
+    -- the arrangement has the same, whatever was merged and wherever its holds are
+    pub record IsAlike (a b : ArrangementState T) : Type 0 where
+      pub width : b.width ≡ a.width
+      pub start : b.spine.list.start ≡ a.spine.list.start
+      pub end : upper_of b.spine ≡ upper_of a.spine
+      pub waiting : b.waiting ≡ a.waiting
+      pub stands : (h : List (Insertion T)) → Stands below a.spine h → Stands below b.spine h
+      pub whole : (h : List (Insertion T)) → IsOpen below a.spine h → IsOpen below b.spine h
+
+    module _ (minimum : T) where
+      -- the hold of this number is that of a reader that has come to the boundary
+      pub record MayMove (a : ArrangementState T) (number : ℕ) (boundary : List T) : Type 0 where
+        pub inserted : List (Insertion T)
+        pub later : List (Insertion T)
+        pub taken : List (Insertion T)
+        pub reading : IsReading below minimum a inserted later taken boundary
+        pub is : reading.number ≡ number
+
+      -- the hold of this number is at the boundary, and nothing else has changed
+      pub record HasMoved (number : ℕ) (boundary : List T) (a b : ArrangementState T) : Type 0 where
+        pub alike : IsAlike a b
+        pub holds : b.holds ≡ set a.holds number (record { logical = minimum ∷ []; physical = boundary })
+
+      -- the readers' holds have stayed
+      pub record IsSettled (a b : ArrangementState T) : Type 0 where
+        pub alike : IsAlike a b
+        pub readers : (number : ℕ) → 0 < number → slice_get b.holds number ≡ slice_get a.holds number
+
+      -- the arrangement has no boundary for itself but where its spine has come
+      abbrev pub HasOwnHold : ArrangementState T → Type 0
+      HasOwnHold a = slice_get a.holds 0 ≡ Some (record { logical = minimum ∷ []; physical = upper_of a.spine })
+
+  -- ---- a desk
+
+  module _ (below : T → T → Bool) (joined : T → T → T) (minimum : T) (plan : List Node) where
+    -- some worker has this desk, and no batch in hand
+    abbrev pub MayTidy : DeskView T → Type 0
+    MayTidy d = (h : Hand T) × (is_sealed h ≡ false) × IsSomeones below joined minimum plan d h
+
+    -- whoever has the one desk, with no batch in hand: the other would be right for it, too
+    abbrev pub LeadsOn : DeskView T → DeskView T → Type 0
+    LeadsOn d c = (h : Hand T) → is_sealed h ≡ false → Leads below joined minimum plan d h c h
+
+    -- whoever has the desk, with no batch in hand: some node has no bound below 2^63
+    abbrev pub IsTooLargeOn : (T → T → Ordering) → DeskView T → Type 0
+    IsTooLargeOn cmp d = (h : Hand T) → is_sealed h ≡ false → IsTooLarge below joined minimum cmp plan d h
+
+  module _ (minimum : T) (plan : List Node) (d : DeskView T) where
+    -- a join asks at a port for the boundaries from where it has come
+    abbrev pub IsFollowedAt : ℕ → ℕ → Type 0
+    IsFollowedAt n port = (source : ℕ) (j : JoiningView T) → ReadsAt (on_plan plan) d n port source j
+        → (a : ArrangementState T) → slice_get d.arrangements source ≡ Some (Some a)
+        → slice_get a.holds (hold_at port j) ≡ Some (record { logical = minimum ∷ []; physical = boundary_at port j })
+
+    abbrev pub IsFollowed : ℕ → Type 0
+    IsFollowed n = (port : ℕ) → IsFollowedAt n port
+
+    -- the arrangement of a node keeps no boundary for itself, and all is merged there that may be
+    abbrev pub IsSettledAt : (T → T → Bool) → ℕ → Type 0
+    IsSettledAt below n = (source key : ℕ) → n < length plan → node_at plan n ≡ Arrange source key
+        → (a : ArrangementState T) → slice_get d.arrangements n ≡ Some (Some a)
+        → HasOwnHold below minimum a × IsDone below a.spine
+
+    -- no reader asks for a boundary that it has left behind, and all is merged that may be
+    pub record IsTidy (below : T → T → Bool) : Type 0 where
+      pub joins : (n : ℕ) → IsFollowed n
+      pub settled : (n : ℕ) → IsSettledAt below n

@@ -1,0 +1,313 @@
+//! Tidying keeps a desk small. No answer changes by it.
+//!
+//! The hold of each side of a join moves to where the join has come, and the hold that an arrangement
+//! has for itself to where its spine has come. Nobody asks then for the boundaries before, and the
+//! spines may merge across them. A worker that never tidies has spines that keep each boundary at which
+//! a batch ended.
+//!
+//! With a batch in hand nothing is done. Room for it was made in its spine, and a merge may use that.
+ghost use Rattle.std.specs.Prelude.{◌≡◌, ◌≢◌, ◌<◌, ◌≤◌, ◌^◌, ℕ, Some, List, true, IfOk, IfErr, OnErr, OnOk, length, set, slice_get};
+ghost use Rattle.antichain.specs.Antichains.{IsFrontier};
+ghost use Rattle.update.specs.declared.refusal.Refusal.TheVariants.{OutOfMemory};
+ghost use Rattle.update.specs.Refusals.{IsMemoryOrOverflow};
+ghost use Rattle.update.specs.Updates.{size};
+ghost use Rattle.trace.specs.Readings.{Insertion, all_updates};
+ghost use Rattle.spine.specs.Spines.{IsDone, Stands};
+ghost use Rattle.operator.specs.Arrangements.{ArrangementState};
+ghost use Rattle.operator.specs.Joins.{JoiningView};
+ghost use Rattle.desk_laws.specs.Own.{ReadsAt, boundary_at, hold_at};
+ghost use Rattle.desk_laws.specs.declared.hand.Hand.{Hand};
+ghost use Rattle.desk.specs.Desks.{IsSomeones, IsTooLarge, Leads};
+ghost use Rattle.desk.specs.Openings.{on_plan};
+ghost use Rattle.desk.specs.Tidying.{HasMoved, HasOwnHold, IsFollowed, IsFollowedAt, IsSettled, IsSettledAt, IsTidy, IsTooLargeOn, LeadsOn, MayMove, MayTidy};
+
+use crate::desk::Desk;
+use antichain::Antichain;
+use desk_laws::Hand;
+use lattice::Minimum;
+use operator::{Arrangement, Joining, antichain_of};
+use plan::{Node, NodeId, Plan};
+use std::alloc::Global;
+use update::Refusal;
+
+// The number of the hold that a join has at the arrangement that it reads at a port.
+fn hold_on<T: Minimum>(join: &Joining<T>, port: usize) -> usize
+    ensures { result ≡ hold_at port join.now }
+{
+    match port {
+        0 => join.left_hold(),
+        _ => join.right_hold(),
+    }
+}
+
+// How far a join has come at a port.
+fn boundary_on<T: Minimum>(join: &Joining<T>, port: usize) -> &[T]
+    ensures value { result.now ≡ boundary_at port join.now }
+    ensures frontier { IsFrontier T.below T.cmp (boundary_at port join.now) }
+{
+    match port {
+        0 => join.left(),
+        _ => join.right(),
+    }
+}
+
+// Moves a hold of an arrangement to the boundary to which its reader has come. `_start` is not used:
+// generic code with a local antichain needs the type in its signature.
+fn move_hold<T: Minimum>(
+    alloc: Global,
+    _start: &Antichain<T>,
+    arrangement: &mut Arrangement<T>,
+    number: usize,
+    boundary: &[T],
+) -> Result<(), Refusal>
+    requires may { MayMove T.below T.least arrangement.old number boundary.now }
+    requires frontier { IsFrontier T.below T.cmp boundary.now }
+    ensures moved { OnOk result (HasMoved T.below T.least number boundary.now arrangement.old
+        arrangement.new) }
+    ensures same { OnErr result (arrangement.new ≡ arrangement.old) }
+    ensures only { IfErr result (λ refused. refused ≡ OutOfMemory) }
+{
+    let _spine = arrangement.trace();
+    let boundary = antichain_of(alloc, boundary)?;
+    arrangement.advance(alloc, number, &boundary)
+}
+
+// Moves a hold of a node's arrangement to the boundary to which its reader has come.
+fn move_hold_at<T: Minimum>(
+    alloc: Global,
+    start: &Antichain<T>,
+    arrangements: &mut Vec<Option<Arrangement<T>>>,
+    source: NodeId,
+    number: usize,
+    boundary: &[T],
+) -> Result<(), Refusal>
+    requires may { (a : ArrangementState T)
+        × (slice_get arrangements.old.items source ≡ Some (Some a))
+        × MayMove T.below T.least a number boundary.now }
+    requires frontier { IsFrontier T.below T.cmp boundary.now }
+    ensures moved { (a : ArrangementState T) → slice_get arrangements.old.items source ≡ Some (Some a)
+        → OnOk result ((b : ArrangementState T) × (arrangements.new.items
+        ≡ set arrangements.old.items source (Some b))
+        × HasMoved T.below T.least number boundary.now a b) }
+    ensures same { OnErr result (arrangements.new.items ≡ arrangements.old.items) }
+    ensures only { IfErr result (λ refused. refused ≡ OutOfMemory) }
+{
+    match &mut arrangements[source.number()] {
+        Some(arrangement) => move_hold(alloc, start, arrangement, number, boundary),
+        None => unreachable!(),
+    }
+}
+
+// Moves the hold that an arrangement has for itself to where its spine has come, and lets the spine
+// merge with so much fuel. `_start` is not used, as in `move_hold`.
+fn settle<T: Minimum>(
+    alloc: Global,
+    _start: &Antichain<T>,
+    arrangement: &mut Arrangement<T>,
+    fuel: u64,
+) -> Result<bool, Refusal>
+    ensures settled { IsSettled T.below T.least arrangement.old arrangement.new }
+    ensures own { OnOk result (HasOwnHold T.below T.least arrangement.new) }
+    ensures done { IfOk result (λ done. done ≡ true → IsDone T.below arrangement.new.spine) }
+    ensures refused { IfErr result (IsMemoryOrOverflow ((h : List (Insertion T))
+        → Stands T.below arrangement.old.spine h → 2 ^ 63 ≤ size (all_updates h))) }
+{
+    let _spine = arrangement.trace();
+    let upper = arrangement.upper(alloc)?;
+    arrangement.acknowledge(alloc, 0, &upper)?;
+    arrangement.merge(fuel)
+}
+
+// Settles the arrangement of a node.
+fn settle_at<T: Minimum>(
+    alloc: Global,
+    start: &Antichain<T>,
+    arrangements: &mut Vec<Option<Arrangement<T>>>,
+    node: NodeId,
+    fuel: u64,
+) -> Result<bool, Refusal>
+    requires there { (a : ArrangementState T)
+        × (slice_get arrangements.old.items node ≡ Some (Some a)) }
+    ensures settled { (a : ArrangementState T)
+        → slice_get arrangements.old.items node ≡ Some (Some a)
+        → (b : ArrangementState T) × (arrangements.new.items ≡ set arrangements.old.items node (Some b))
+        × IsSettled T.below T.least a b × OnOk result (HasOwnHold T.below T.least b)
+        × IfOk result (λ done. done ≡ true → IsDone T.below b.spine) }
+    ensures refused { (a : ArrangementState T)
+        → slice_get arrangements.old.items node ≡ Some (Some a)
+        → IfErr result (IsMemoryOrOverflow ((h : List (Insertion T)) → Stands T.below a.spine h
+        → 2 ^ 63 ≤ size (all_updates h))) }
+{
+    match &mut arrangements[node.number()] {
+        Some(arrangement) => settle(alloc, start, arrangement, fuel),
+        None => unreachable!(),
+    }
+}
+
+impl<T: Minimum> Desk<T> {
+    // Moves the hold of a join at a port to where the join has come. If it is refused, then nothing has
+    // changed.
+    fn follow(
+        &mut self,
+        alloc: Global,
+        node: NodeId,
+        port: usize,
+        source: NodeId,
+    ) -> Result<(), Refusal>
+        requires may { (j : JoiningView T) × (slice_get self.old.joins node ≡ Some (Some j))
+            × (a : ArrangementState T) × (slice_get self.old.arrangements source ≡ Some (Some a))
+            × MayMove T.below T.least a (hold_at port j) (boundary_at port j) }
+        ensures moved { (j : JoiningView T) → slice_get self.old.joins node ≡ Some (Some j)
+            → (a : ArrangementState T) → slice_get self.old.arrangements source ≡ Some (Some a)
+            → OnOk result ((b : ArrangementState T) × (self.new ≡ record self.old {
+              arrangements = set self.old.arrangements source (Some b);
+            }) × HasMoved T.below T.least (hold_at port j) (boundary_at port j) a b) }
+        ensures same { OnErr result (self.new ≡ self.old) }
+        ensures only { IfErr result (λ refused. refused ≡ OutOfMemory) }
+    {
+        match &self.joins[node.number()] {
+            Some(join) => move_hold_at(
+                alloc,
+                &self.start,
+                &mut self.arrangements,
+                source,
+                hold_on(join, port),
+                boundary_on(join, port),
+            ),
+            None => unreachable!(),
+        }
+    }
+
+    // Moves the hold of a node at a port, if the node is a join and reads this source there.
+    fn follow_at(
+        &mut self,
+        alloc: Global,
+        plan: &Plan,
+        node: NodeId,
+        port: usize,
+        source: NodeId,
+    ) -> Result<(), Refusal>
+        requires may { MayTidy T.below T.joined T.least plan.now self.old }
+        requires reads { (j : JoiningView T)
+            × ReadsAt (on_plan plan.now) self.old node port source j }
+        ensures leads { LeadsOn T.below T.joined T.least plan.now self.old self.new }
+        ensures here { OnOk result (IsFollowedAt T.least plan.now self.new node port) }
+        ensures stays { (n i : ℕ) → IsFollowedAt T.least plan.now self.old n i
+            → IsFollowedAt T.least plan.now self.new n i }
+        ensures only { IfErr result (λ refused. refused ≡ OutOfMemory) }
+    {
+        plan.known();
+        self.follow(alloc, node, port, source)
+    }
+
+    // Moves both holds of a node, if it is a join.
+    fn follow_join(&mut self, alloc: Global, plan: &Plan, node: NodeId) -> Result<(), Refusal>
+        requires may { MayTidy T.below T.joined T.least plan.now self.old }
+        requires within { node < length plan.now }
+        ensures leads { LeadsOn T.below T.joined T.least plan.now self.old self.new }
+        ensures here { OnOk result (IsFollowed T.least plan.now self.new node) }
+        ensures stays { (n i : ℕ) → IsFollowedAt T.least plan.now self.old n i
+            → IsFollowedAt T.least plan.now self.new n i }
+        ensures only { IfErr result (λ refused. refused ≡ OutOfMemory) }
+    {
+        match plan.node(node) {
+            Node::Join { left, right } => {
+                self.follow_at(alloc, plan, node, 0, *left)?;
+                self.follow_at(alloc, plan, node, 1, *right)
+            }
+            _ => Ok(()),
+        }
+    }
+
+    // Moves the holds of all joins.
+    fn follow_all(&mut self, alloc: Global, plan: &Plan) -> Result<(), Refusal>
+        requires may { MayTidy T.below T.joined T.least plan.now self.old }
+        ensures leads { LeadsOn T.below T.joined T.least plan.now self.old self.new }
+        ensures followed { OnOk result ((n : ℕ) → IsFollowed T.least plan.now self.new n) }
+        ensures only { IfErr result (λ refused. refused ≡ OutOfMemory) }
+    {
+        for n in 0..plan.len() {
+            self.follow_join(alloc, plan, NodeId::new(n))?;
+        }
+        Ok(())
+    }
+
+    // Settles a node's arrangement, if it has one.
+    fn settle_node(
+        &mut self,
+        alloc: Global,
+        plan: &Plan,
+        node: NodeId,
+        fuel: u64,
+    ) -> Result<bool, Refusal>
+        requires may { MayTidy T.below T.joined T.least plan.now self.old }
+        requires within { node < length plan.now }
+        ensures leads { LeadsOn T.below T.joined T.least plan.now self.old self.new }
+        ensures settled { IfOk result (λ done. done ≡ true
+            → IsSettledAt T.least plan.now self.new T.below node) }
+        ensures others { (n : ℕ) → n ≢ node → IsSettledAt T.least plan.now self.old T.below n
+            → IsSettledAt T.least plan.now self.new T.below n }
+        ensures followed { ((n : ℕ) → IsFollowed T.least plan.now self.old n)
+            → (n : ℕ) → IsFollowed T.least plan.now self.new n }
+        ensures refused { IfErr result (IsMemoryOrOverflow
+            (IsTooLargeOn T.below T.joined T.least plan.now T.cmp self.old)) }
+    {
+        match plan.node(node) {
+            Node::Arrange { .. } => {
+                settle_at(alloc, &self.start, &mut self.arrangements, node, fuel)
+            }
+            _ => Ok(true),
+        }
+    }
+
+    // Settles all arrangements.
+    fn settle_all(&mut self, alloc: Global, plan: &Plan, fuel: u64) -> Result<bool, Refusal>
+        requires may { MayTidy T.below T.joined T.least plan.now self.old }
+        ensures leads { LeadsOn T.below T.joined T.least plan.now self.old self.new }
+        ensures settled { IfOk result (λ done. done ≡ true → (n : ℕ)
+            → IsSettledAt T.least plan.now self.new T.below n) }
+        ensures followed { ((n : ℕ) → IsFollowed T.least plan.now self.old n)
+            → (n : ℕ) → IsFollowed T.least plan.now self.new n }
+        ensures refused { IfErr result (IsMemoryOrOverflow
+            (IsTooLargeOn T.below T.joined T.least plan.now T.cmp self.old)) }
+    {
+        let mut done = true;
+        for n in 0..plan.len() {
+            done = self.settle_node(alloc, plan, NodeId::new(n), fuel)? & done;
+        }
+        Ok(done)
+    }
+
+    /// Moves the hold of each side of a join to where the join has come, and the hold that an
+    /// arrangement has for itself to where its spine has come. Then it lets each spine merge with so
+    /// much fuel ([`Arrangement::merge`]). True only if all that may be merged is. With a batch in hand
+    /// nothing is done, and the answer is false.
+    ///
+    /// Whatever the answer, desk and hand are as right as before, so the call may be made at any time,
+    /// and again.
+    ///
+    /// - [`Refusal::Overflow`] only if some node has no bound below 2^63 with the changes that were
+    ///   fed.
+    /// - [`Refusal::OutOfMemory`] only if memory was refused.
+    ///
+    /// Cost: linear in the plan, and for each arrangement that of [`Arrangement::merge`].
+    pub fn tidy(
+        &mut self,
+        alloc: Global,
+        plan: &Plan,
+        hand: &Hand<T>,
+        fuel: u64,
+    ) -> Result<bool, Refusal>
+        requires someones { IsSomeones T.below T.joined T.least plan.now self.old hand.now }
+        ensures leads { Leads T.below T.joined T.least plan.now self.old hand.now self.new hand.now }
+        ensures tidy { IfOk result (λ done. done ≡ true → IsTidy T.least plan.now self.new T.below) }
+        ensures refused { IfErr result (IsMemoryOrOverflow (IsTooLarge T.below T.joined T.least T.cmp
+            plan.now self.old hand.now)) }
+    {
+        if let Hand::Sealed { .. } = hand {
+            return Ok(false);
+        }
+        self.follow_all(alloc, plan)?;
+        self.settle_all(alloc, plan, fuel)
+    }
+}
