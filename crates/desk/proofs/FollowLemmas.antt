@@ -1,5 +1,5 @@
 -- What a join asks of the arrangements of its sources when its holds follow it.
-use Rattle.std.proofs.Common.{◌≡◌, ◌≢◌, ℕ, zero, suc, ◌+◌, ◌<◌, Bool, true, false, eqb, List, [], ◌∷◌, length, set, Some, IsTrue, sym, refl, ap, ◌∙◌, subst, arith, true≢false}
+use Rattle.std.proofs.Common.{◌≡◌, ◌≢◌, ℕ, zero, suc, ◌+◌, ◌<◌, Bool, true, false, eqb, List, [], ◌∷◌, length, Some, sym, refl, ap, ◌∙◌, subst, arith, true≢false}
 use Rattle.std.specs.Prelude.{Result, Ok, Err}
 use Rattle.std.specs.Result.{OnErr, OnOk}
 use Rattle.std.specs.List.{slice_get}
@@ -14,17 +14,17 @@ use Rattle.plan.proofs.PlanLemmas.{source_smaller}
 use Rattle.batch.specs.Descriptions.{BatchState}
 use Rattle.trace.specs.Readings.{Insertion, reached}
 use Rattle.histories.specs.Histories.{state_after}
-use Rattle.histories.specs.Histories.Dataflows.{Dataflow, IsDataflow, node_of, source_of}
+use Rattle.histories.specs.Histories.Dataflows.{Dataflow, IsDataflow, node_of}
 use Rattle.histories.specs.Histories.States.{State}
 use Rattle.operator.specs.Arrangements.{ArrangementState}
 use Rattle.operator.specs.Joins.{JoiningView}
 use Rattle.operator_laws.specs.Joining.{on_top}
 use Rattle.operator_laws.specs.Working.{IsWorkingAt, Works}
-use Rattle.desk_laws.specs.Own.{AreSharing, DeskView, HasHold, IsArrangedOn, IsJoinedOn, IsTakenBefore, ReadsAt, boundary_at, hold_at, is_taken_at}
+use Rattle.desk_laws.specs.Own.{DeskView, IsArrangedOn, IsTakenBefore, ReadsAt, boundary_at, hold_at, is_taken_at}
 use Rattle.desk_laws.specs.declared.hand.Hand.{Hand}
 use Rattle.desk_laws.specs.declared.hand.Hand.TheVariants.{Sealed, Taken}
 use Rattle.desk_laws.proofs.FoundLemmas.{is_arrange}
-use Rattle.desk.specs.Desks.{IsRight, IsSomeones}
+use Rattle.desk.specs.Desks.{IsRight}
 use Rattle.desk.specs.Openings.{on_plan}
 use Rattle.desk.specs.Tidying.{HasMoved, IsFollowed, IsFollowedAt, IsTooLargeOn, LeadsOn, MayMove, MayTidy, is_sealed}
 use Rattle.desk.proofs.EntryLemmas.{one_entry, with_arrangement}

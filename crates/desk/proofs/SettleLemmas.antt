@@ -1,27 +1,24 @@
 -- What settled arrangements leave of a worker's desk, and why a merge could not be made.
-use Rattle.std.proofs.Common.{◌≡◌, ◌≢◌, ℕ, zero, suc, ◌+◌, ◌<◌, ◌≤◌, ◌^◌, Bool, true, false, eqb, List, [], ◌∷◌, length, set, Some, IsTrue, sym, refl, ap, ◌∙◌, subst, arith}
+use Rattle.std.proofs.Common.{◌≡◌, ◌≢◌, ℕ, ◌+◌, ◌<◌, ◌≤◌, ◌^◌, Bool, true, false, eqb, List, [], ◌∷◌, length, set, Some, IsTrue, sym, refl, ap, ◌∙◌, subst, arith}
 use Rattle.std.specs.Prelude.{Result, Ok, Err}
-use Rattle.std.specs.Result.{IfErr, IfOk, OnOk}
+use Rattle.std.specs.Result.{IfOk, OnOk}
 use Rattle.std.specs.List.{Contains, slice_get}
 use Rattle.std.specs.declared.cmp.Ordering.{Ordering}
 use Rattle.std.proofs.lemmas.Bool.{eqb-true, eqb-false}
 use Rattle.std.proofs.lemmas.Option.{same_Some, slice_get_within}
 use Rattle.lattice.specs.Order.{PartialOrderLaws}
 use Rattle.lattice.specs.Frontiers.{all_beyond}
-use Rattle.update.specs.Refusals.{IsMemoryOrOverflow}
 use Rattle.update.specs.Updates.{size}
-use Rattle.update.specs.declared.refusal.Refusal.{Refusal}
 use Rattle.plan.specs.Nodes.{node_at}
 use Rattle.plan.specs.declared.node.Node.{Node}
 use Rattle.plan.specs.declared.node.Node.TheVariants.{Arrange}
 use Rattle.trace.specs.Holds.{HoldState}
 use Rattle.trace.specs.Readings.{Insertion, all_updates}
-use Rattle.spine.specs.Spines.{IsDone, SpineState, Stands, boundaries}
+use Rattle.spine.specs.Spines.{IsDone, Stands, boundaries}
 use Rattle.histories.specs.Histories.{state_after}
 use Rattle.histories.specs.Histories.Dataflows.{node_of}
 use Rattle.histories.specs.Histories.Promises.{changes_in}
 use Rattle.operator.specs.Arrangements.{ArrangementState, IsArrangement, IsOpen, upper_of}
-use Rattle.operator.specs.Joins.{JoiningView}
 use Rattle.operator_laws.specs.Working.{IsWorkingAt}
 use Rattle.shared_board.specs.Large.{HasNoSmallBound}
 use Rattle.desk_laws.specs.Own.{DeskView, ReadsAt, boundary_at, hold_at}
@@ -31,7 +28,6 @@ use Rattle.desk.proofs.EntryLemmas.{get_own, get_set, one_entry, sharing_with, w
 use Rattle.desk.proofs.LargeLemmas.{large_load}
 use Rattle.desk.proofs.PlaceLemmas.{get_within}
 use Rattle.desk.proofs.ReadingLemmas.{reading_readable}
-use Rattle.desk.proofs.ResultLemmas.{memory_or}
 use Rattle.desk.proofs.TidyLemmas.{leads_with, reading_behind, reads_in, reads_back}
 
 -- ---- one arrangement

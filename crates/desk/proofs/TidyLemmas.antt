@@ -1,41 +1,28 @@
 -- What moved holds and merged batches leave of a worker's desk.
-use Rattle.std.proofs.Common.{◌≡◌, ◌≢◌, ℕ, zero, suc, ◌+◌, ◌<◌, ◌≤◌, ◌^◌, Bool, true, false, eqb, List, [], ◌∷◌, length, set, Option, Some, IsTrue, sym, refl, ap, ◌∙◌, subst, arith, true≢false}
+use Rattle.std.proofs.Common.{◌≡◌, ◌≢◌, ℕ, Bool, true, false, eqb, List, [], ◌∷◌, Some, IsTrue, sym, refl, ap, ◌∙◌, subst, true≢false}
 use Rattle.std.specs.List.{slice_get}
-use Rattle.std.specs.declared.cmp.Ordering.{Ordering}
 use Rattle.std.proofs.lemmas.Bool.{eqb-true, eqb-false}
 use Rattle.lattice.specs.Order.{PartialOrderLaws}
 use Rattle.lattice.specs.Frontiers.{all_beyond}
 use Rattle.lattice.proofs.FrontierLemmas.{all_beyond_later, beyond_itself}
-use Rattle.update.specs.Updates.{size}
-use Rattle.plan.specs.Nodes.{is_join, is_linear, is_reduction, key_width, node_at, sources}
 use Rattle.plan.specs.declared.node.Node.{Node}
-use Rattle.plan.specs.declared.node.Node.TheVariants.{Join}
-use Rattle.plan.proofs.KeyLemmas.{source_arranged}
-use Rattle.plan.proofs.PlanLemmas.{source_smaller}
 use Rattle.trace.specs.Holds.{HoldState}
-use Rattle.trace.specs.Readings.{Insertion, all_updates, reached}
-use Rattle.spine.specs.Spines.{Stands}
-use Rattle.histories.specs.declared.event.Bundle.{Bundle}
-use Rattle.histories.specs.declared.event.Event.{Event}
-use Rattle.histories.specs.Histories.{IsLegal, state_after}
-use Rattle.histories.specs.Histories.Dataflows.{Dataflow, IsDataflow, node_of, source_of}
-use Rattle.histories.specs.Histories.Promises.{changes_in}
+use Rattle.trace.specs.Readings.{Insertion, reached}
+use Rattle.histories.specs.Histories.{state_after}
+use Rattle.histories.specs.Histories.Dataflows.{Dataflow}
 use Rattle.histories.specs.Histories.States.{State}
 use Rattle.operator.specs.Arrangements.{AreInTurn, ArrangementState, upper_of}
 use Rattle.operator.specs.Joins.{JoiningView}
 use Rattle.operator.proofs.TurnLemmas.{firsts}
-use Rattle.operator_laws.specs.Joining.{IsQueued, on_top}
-use Rattle.operator_laws.specs.Working.{IsWorkingAt, Works}
-use Rattle.shared_board.specs.Large.{HasNoSmallBound}
-use Rattle.desk_laws.specs.Own.{AreSharing, DeskView, HasHold, IsArrangedOn, IsHandOn, IsJoinedOn, IsMergedAt, IsSpineAt, IsTakenBefore, ReadsAt, boundary_at, hold_at, is_taken_at, waiting_in}
+use Rattle.operator_laws.specs.Joining.{on_top}
+use Rattle.desk_laws.specs.Own.{AreSharing, DeskView, HasHold, IsHandOn, IsMergedAt, IsSpineAt, ReadsAt, boundary_at, hold_at, waiting_in}
 use Rattle.desk_laws.specs.declared.hand.Hand.{Hand}
-use Rattle.desk_laws.specs.declared.hand.Hand.TheVariants.{Sealed, Taken}
-use Rattle.desk_laws.proofs.FoundLemmas.{is_arrange}
+use Rattle.desk_laws.specs.declared.hand.Hand.TheVariants.{Sealed}
 use Rattle.desk_laws.proofs.MergedLemmas.{merged_lem}
-use Rattle.desk.specs.Desks.{IsOnPlan, IsRight, IsSomeones, Leads}
+use Rattle.desk.specs.Desks.{IsRight}
 use Rattle.desk.specs.Joinings.{IsReading}
 use Rattle.desk.specs.Openings.{on_plan}
-use Rattle.desk.specs.Tidying.{HasMoved, IsAlike, IsFollowedAt, IsSettled, LeadsOn, MayMove, MayTidy, is_sealed}
+use Rattle.desk.specs.Tidying.{HasMoved, IsAlike, IsFollowedAt, LeadsOn, is_sealed}
 use Rattle.desk.proofs.EntryLemmas.{get_own, get_set, one_entry, with_arrangement}
 
 -- ---- how far a reader has come

@@ -1,8 +1,6 @@
 use Rattle.std.proofs.Common.{rules, ◌≡◌, Some, slice_get, set, sym, ap, subst, ◌∙◌}
 use Rattle.std.proofs.lemmas.Option.{none-some, same_Some}
 use Rattle.antichain.specs.Antichains.{IsFrontier}
-use Rattle.operator.specs.Arrangements.{ArrangementState}
-use Rattle.operator.specs.Joins.{JoiningView}
 use Rattle.desk_laws.specs.Own.{DeskView, boundary_at, hold_at}
 use Rattle.desk.specs.Tidying.{HasMoved, MayMove}
 use Rattle.desk.proofs.PlaceLemmas.{found_at, some_same}

@@ -1,8 +1,8 @@
-use Rattle.std.proofs.Common.{rules, ◌≡◌, false, refl, sym, subst, inl}
+use Rattle.std.proofs.Common.{rules, inl}
 use Rattle.std.proofs.lemmas.Result.{err_from_is_err_and}
 use Rattle.update.specs.Refusals.{IsMemoryOrOverflow}
 use Rattle.desk.specs.Desks.{IsTooLarge}
-use Rattle.desk.specs.Tidying.{IsSettledAt, IsTidy, IsTooLargeOn, MayTidy, is_sealed}
+use Rattle.desk.specs.Tidying.{IsTooLargeOn}
 use Rattle.desk.proofs.FollowLemmas.{large_on_before, leads_on_then, may_then, not_sealed}
 use Rattle.desk.proofs.ResultLemmas.{if_err_at, if_err_from, if_ok_by, memory_or}
 use Rattle.desk.proofs.desk.Desk.tidy.Goals as goal
