@@ -23,6 +23,7 @@ use Rattle.desk_laws.specs.Own.{DeskView, hand_node}
 use Rattle.desk_laws.specs.declared.hand.Hand.{Hand}
 use Rattle.desk_laws.specs.declared.hand.Hand.TheVariants.{Free, Taken, Turned, Ready, Sealed}
 use Rattle.desk.specs.Desks.{IsPutAway}
+use Rattle.desk.specs.Tidying.{IsTidy}
 use Rattle.steps.specs.declared.step.Step.{Step}
 use Rattle.steps.specs.declared.step.Step.TheVariants.{Took, Gave, Idle, Busy}
 use Rattle.steps.specs.Workers.{WorkerView, HasSeenTooLarge}
@@ -84,6 +85,19 @@ module _ {T : Type 0} (below : T → T → Bool) (minimum : T) where
   abbrev pub HasStopped : (T → T → Ordering) → WorkerView T → Refusal → Type 0
   HasStopped cmp w refusal = ((refusal ≡ OutOfMemory) × (w.failed ≡ false))
       ⊎ ((refusal ≡ Overflow) × IsTrue w.failed × HasSeenTooLarge below minimum cmp w.known)
+
+  -- ---- tidying
+
+  -- the worker asks for no boundary that it has left behind, and all is merged on its desk that may be
+  abbrev pub IsTidyFor : WorkerView T → Type 0
+  IsTidyFor w = IsTidy minimum (dataflow_of w.known).nodes w.desk below
+
+  -- what each refusal to tidy means
+  abbrev pub IsTidyRefusal : (T → T → Ordering) → WorkerView T → WorkerView T → Refusal → Type 0
+  IsTidyRefusal cmp old new OutOfMemory = new.failed ≡ false
+  IsTidyRefusal cmp old new Overflow = IsTrue new.failed × HasSeenTooLarge below minimum cmp new.known
+  IsTidyRefusal cmp old new Failed = IsTrue old.failed × (new ≡ old)
+  IsTidyRefusal cmp old new other = ⊥
 
 module _ {T : Type 0} (below : T → T → Bool) (minimum : T) (pick : ℕ) where
   -- another actor had the board, or this was found there

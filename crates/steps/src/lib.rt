@@ -13,6 +13,7 @@
 mod giving;
 mod step;
 mod taking;
+mod tidying;
 mod worker;
 
 pub use step::Step;

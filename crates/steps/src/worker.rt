@@ -12,7 +12,7 @@ ghost use Rattle.shared_board.specs.Tenures.{Adds, IsActor, IsFirst, terms_for};
 ghost use Rattle.desk_laws.specs.Own.{hand_node};
 ghost use Rattle.desk_laws.specs.declared.hand.Hand.TheVariants.{Free};
 ghost use Rattle.desk.specs.Desks.{IsComputed};
-ghost use Rattle.steps.specs.Steps.{HasStopped, HasTriedToGive, HasTriedToTake, LooksAtMost};
+ghost use Rattle.steps.specs.Steps.{HasStopped, HasTriedToGive, HasTriedToTake, IsTidyFor, LooksAtMost};
 ghost use Rattle.steps.specs.Workers.{HasSeenTooLarge, IsRightOf};
 
 use crate::giving::give;
@@ -138,6 +138,25 @@ impl<T: Minimum, P: BoardProtocol<T>> Worker<T, P> {
         };
         self.failed = is_overflow(refusal);
         Err(refusal)
+    }
+
+    // Tidies the desk. With an overflow the worker fails.
+    pub(crate) fn tidy_desk(&mut self, alloc: Global, fuel: u64) -> Result<bool, Refusal>
+        requires going { self.old.failed ≡ false }
+        ensures known { self.new.known ≡ self.old.known }
+        ensures hand { self.new.hand ≡ self.old.hand }
+        ensures going { OnOk result (self.new.failed ≡ false) }
+        ensures tidy { IfOk result (λ done. done ≡ true → IsTidyFor T.below T.least self.new) }
+        ensures refused { IfErr result (HasStopped T.below T.least T.cmp self.new) }
+    {
+        self.actor.known();
+        match self.desk.tidy(alloc, &self.plan, &self.hand, fuel) {
+            Ok(done) => Ok(done),
+            Err(refusal) => {
+                self.failed = is_overflow(refusal);
+                Err(refusal)
+            }
+        }
     }
 
     // Tries to give what is in hand at its node.
