@@ -42,8 +42,8 @@ loop-n-preserved g c =
     let plan = c.args.plan.now in (
       leads_on_then below joined least plan c.args.self.now c.loop-n.self c.settle_node.new.self c.loop-n.invariant.0 c.settle_node.ensures.leads,
       (λ both.
-      let parts = and_parts c.in_ok-done.field-0 c.loop-n.done both in
-      settled_more below least plan c.loop-n.self c.settle_node.new.self c.loop-n.n c.new.result c.new.ensures (c.loop-n.invariant.1 parts.1) c.settle_node.ensures.others (c.in_ok-done.ensures.settled parts.0)),
+          let parts = and_parts c.in_ok-done.field-0 c.loop-n.done both in
+          settled_more below least plan c.loop-n.self c.settle_node.new.self c.loop-n.n c.new.result c.new.ensures (c.loop-n.invariant.1 parts.1) c.settle_node.ensures.others (c.in_ok-done.ensures.settled parts.0)),
       (λ followed. c.settle_node.ensures.followed (c.loop-n.invariant.2 followed)),
     )
 

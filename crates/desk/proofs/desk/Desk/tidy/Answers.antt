@@ -40,5 +40,5 @@ returns g c =
       leads = leads_on_then below joined least plan c.args.self.now c.follow_all.new.self c.settle_all.new.self c.follow_all.ensures.leads c.settle_all.ensures.leads h open_hand;
       tidy = if_ok_by c.settle_all.result (λ done settled yes. record { joins = c.settle_all.ensures.followed c.in_ok-follow_all.ensures.followed; settled = settled yes }) c.settle_all.ensures.settled;
       refused = if_err_from c.settle_all.result (IsMemoryOrOverflow (IsTooLargeOn below joined least plan g.T.Ord.cmp c.follow_all.new.self)) (IsMemoryOrOverflow (IsTooLarge below joined least g.T.Ord.cmp plan c.args.self.now h))
-      (λ e m. memory_or (λ large. large_on_before below joined least plan c.args.self.now c.follow_all.new.self c.follow_all.ensures.leads g.T.Ord.cmp large h open_hand) m) c.settle_all.ensures.refused;
+          (λ e m. memory_or (λ large. large_on_before below joined least plan c.args.self.now c.follow_all.new.self c.follow_all.ensures.leads g.T.Ord.cmp large h open_hand) m) c.settle_all.ensures.refused;
     }
