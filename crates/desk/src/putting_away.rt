@@ -1,6 +1,10 @@
 //! A batch that was given goes into the spine of its arrange node, for all joins and reductions that
 //! read it. There is room for it since it was sealed, so nothing can be refused between the give and
 //! this.
+//!
+//! Then the spine merges, across the boundaries that no reader asks for. A merge that is refused memory
+//! is given up, and begun again later. So a spine keeps up with what comes, although nobody tidies; what
+//! is left is that holds move ([`Desk::tidy`]).
 ghost use Rattle.std.specs.Prelude.{◌≡◌, Some, set, slice_get};
 ghost use Rattle.histories.specs.Histories.Dataflows.{Dataflow};
 ghost use Rattle.operator.specs.Arrangements.{ArrangementState};
@@ -14,12 +18,15 @@ use lattice::Minimum;
 use operator::Arrangement;
 use plan::NodeId;
 
-// Inserts a batch into the spine of an arrangement.
+// Inserts a batch into the spine of an arrangement, and lets the spine merge as much as keeps up with
+// it.
 fn insert_into<T: Minimum>(arrangement: &mut Arrangement<T>, batch: Batch<T>)
     requires { MayInsert T.below T.least arrangement.old batch }
     ensures { IsInserted T.below arrangement.old arrangement.new batch }
 {
+    let more = batch.len();
     arrangement.insert(batch);
+    arrangement.work(more);
 }
 
 // Inserts a batch into the spine of a node's arrangement.
@@ -42,9 +49,9 @@ fn insert_at<T: Minimum>(
 
 impl<T: Minimum> Desk<T> {
     /// Puts a batch that was given into the spine of its arrange node, unless it is empty: an empty
-    /// one was given as nothing. Takes no memory.
+    /// one was given as nothing. Is not refused.
     ///
-    /// Cost: two comparisons of frontiers.
+    /// Cost: that of [`Arrangement::work`] for so many updates.
     pub fn put_away(&mut self, node: NodeId, batch: Batch<T>)
         requires next { (p : Dataflow)
             × IsNextBatch T.below T.joined T.least p self.old node batch }
