@@ -1,9 +1,9 @@
--- A desk of which one place has changed.
-use Rattle.std.proofs.Common.{◌≡◌, ◌≢◌, ℕ, zero, suc, ◌<◌, Bool, true, false, eqb, List, [], ◌∷◌, ◌++◌, length, set, get_or, Option, Some, None, IsTrue, sym, refl, ap, ◌∙◌, subst}
+-- A desk on which what lies for one node has changed.
+use Rattle.std.proofs.Common.{◌≡◌, ◌≢◌, ℕ, ◌<◌, Bool, true, false, eqb, List, ◌++◌, length, set, get_or, Option, Some, None, IsTrue, sym, refl, ap, ◌∙◌, subst}
 use Rattle.std.specs.List.{list_all, slice_get}
 use Rattle.std.proofs.lemmas.Bool.{and_from, eqb-true, eqb-false}
 use Rattle.std.proofs.lemmas.List.Folds.{list_all-append}
-use Rattle.std.proofs.lemmas.Option.{get_or_from_slice_get, none-some, same_Some, slice_get_read}
+use Rattle.std.proofs.lemmas.Option.{none-some, same_Some}
 use Rattle.lattice.specs.Frontiers.{all_beyond}
 use Rattle.update.specs.declared.change.Update.{Update}
 use Rattle.plan.specs.Changes.{has_passed}
@@ -16,45 +16,13 @@ use Rattle.operator.specs.Arrangements.{ArrangementState}
 use Rattle.operator.specs.Joins.{JoiningView}
 use Rattle.histories.specs.Histories.States.{times}
 use Rattle.operator.specs.Reductions.{IsPendingAfter, IsReduced, ReducingView, pending_of}
-use Rattle.desk_laws.specs.Own.{AreSharing, DeskView, IsSpineAt, IsSameAt, ReadsAt, gathered_in, hold_at, waiting_in, waits_on}
+use Rattle.desk_laws.specs.Own.{AreSharing, DeskView, HasHold, IsSpineAt, IsSameAt, ReadsAt, boundary_at, gathered_in, hold_at, waiting_in, waits_on}
 use Rattle.desk.specs.Desks.{IsLaidIn, IsReducedWith}
-
-pub get_set : {A : Type 0} (xs : List A) (n m : ℕ) (x : A) → m ≢ n → slice_get (set xs n x) m ≡ slice_get xs m
-get_set [] n m x d = refl
-get_set (y ∷ xs) zero zero x d = absurd (d refl)
-get_set (y ∷ xs) zero (suc m) x d = refl
-get_set (y ∷ xs) (suc n) zero x d = refl
-get_set (y ∷ xs) (suc n) (suc m) x d = get_set xs n m x (λ e. d (ap suc e))
-
-pub get_own : {A : Type 0} (xs : List A) (n : ℕ) (x y : A) → slice_get xs n ≡ Some y → slice_get (set xs n x) n ≡ Some x
-get_own [] n x y e = cc
-get_own (z ∷ xs) zero x y e = refl
-get_own (z ∷ xs) (suc n) x y e = get_own xs n x y e
-
-pub length_set : {A : Type 0} (xs : List A) (n : ℕ) (x : A) → length (set xs n x) ≡ length xs
-length_set [] n x = refl
-length_set (y ∷ xs) zero x = refl
-length_set (y ∷ xs) (suc n) x = ap suc (length_set xs n x)
-
--- what is read at a place of a list
-pub read_at : {A : Type 0} (xs : List A) (i n : ℕ) (x : A) → i ≡ n → n < length xs → x ≡ get_or xs i x → slice_get xs n ≡ Some x
-read_at xs i n x same within is = slice_get_read xs (length xs) n x refl within (is ∙ ap (λ j. get_or xs j x) same)
-
--- what was there, if something was
-pub found_at : {A : Type 0} (xs : List A) (i n : ℕ) (x y : A) → i ≡ n → x ≡ get_or xs i x → slice_get xs n ≡ Some y → x ≡ y
-found_at xs i n x y same is there = is ∙ (ap (λ j. get_or xs j x) same ∙ get_or_from_slice_get xs n y x there)
-
-pub set_same : {A : Type 0} (xs : List A) (i : ℕ) (x : A) → x ≡ get_or xs i x → set xs i x ≡ xs
-set_same [] i x e = refl
-set_same (y ∷ xs) zero x e = ap (λ z. z ∷ xs) e
-set_same (y ∷ xs) (suc i) x e = ap (λ zs. y ∷ zs) (set_same xs i x e)
+use Rattle.desk.proofs.PlaceLemmas.{get_own, get_set, length_set, one_entry, read_at}
 
 module _ {T : Type 0} where
   pub same_but_gathered : (d : DeskView T) (n : ℕ) (us : List (Update T)) (m : ℕ) → m ≢ n → IsSameAt m d (record d { gathered = set d.gathered n us })
   same_but_gathered d n us m ne = record { gathered = get_set d.gathered n m us ne; arrangements = refl; joins = refl; reductions = refl }
-
-  pub same_but_arrangement : (d : DeskView T) (n : ℕ) (a : Option (ArrangementState T)) (m : ℕ) → m ≢ n → IsSameAt m d (record d { arrangements = set d.arrangements n a })
-  same_but_arrangement d n a m ne = record { gathered = refl; arrangements = get_set d.arrangements n m a ne; joins = refl; reductions = refl }
 
   pub same_but_reduction : (d : DeskView T) (n : ℕ) (r : Option (ReducingView T)) (m : ℕ) → m ≢ n → IsSameAt m d (record d { reductions = set d.reductions n r })
   same_but_reduction d n r m ne = record { gathered = refl; arrangements = refl; joins = refl; reductions = get_set d.reductions n m r ne }
@@ -89,20 +57,48 @@ module _ {T : Type 0} (below : T → T → Bool) (minimum : T) (p : Dataflow) (d
   pub sharing_reductions : (reductions : List (Option (ReducingView T))) → AreSharing below minimum p d → AreSharing below minimum p (record d { reductions = reductions })
   sharing_reductions reductions = sharing_kept below minimum p d (record d { reductions = reductions }) (λ m. refl) (λ s a there. (a, there, refl))
 
-  -- one arrangement has changed, and its holds have not
-  pub sharing_arrangement : (n : ℕ) (a b : ArrangementState T) → slice_get d.arrangements n ≡ Some (Some a) → b.holds ≡ a.holds → AreSharing below minimum p d → AreSharing below minimum p (record d { arrangements = set d.arrangements n (Some b) })
-  sharing_arrangement n a b there same = sharing_kept below minimum p d (record d { arrangements = set d.arrangements n (Some b) }) (λ m. refl) (λ s c own. step s c own (eqb s n) refl)
+-- ---- one arrangement has changed
+
+module _ {T : Type 0} where
+  -- another arrangement lies on the desk for a node
+  abbrev pub with_arrangement : ℕ → ArrangementState T → DeskView T → DeskView T
+  with_arrangement n a d = record d { arrangements = set d.arrangements n (Some a) }
+
+  -- for every other node the same lies there
+  pub other_nodes : (d : DeskView T) (n : ℕ) (a : ArrangementState T) (m : ℕ) → m ≢ n → IsSameAt m d (with_arrangement n a d)
+  other_nodes d n a m e = record { gathered = refl; arrangements = get_set d.arrangements n m (Some a) e; joins = refl; reductions = refl }
+
+  -- joins still have their holds if the readers' holds have stayed
+  pub sharing_with : (below : T → T → Bool) (minimum : T) (p : Dataflow) (d : DeskView T) (n : ℕ) (a b : ArrangementState T) → slice_get d.arrangements n ≡ Some (Some a)
+      → ((number : ℕ) → 0 < number → slice_get b.holds number ≡ slice_get a.holds number) → AreSharing below minimum p d → AreSharing below minimum p (with_arrangement n b d)
+  sharing_with below minimum p d n a b there same x = record {
+    held = λ m port source j r. step source (hold_at port j) (boundary_at port j) (x.held m port source j (back m port source j r)) (eqb source n) refl;
+    apart = λ m port k other source i j r t. x.apart m port k other source i j (back m port source i r) (back k other source j t);
+  }
     where
-      step : (s : ℕ) (c : ArrangementState T) → slice_get d.arrangements s ≡ Some (Some c) → (x : Bool) → eqb s n ≡ x
-          → (e : ArrangementState T) × (slice_get (set d.arrangements n (Some b)) s ≡ Some (Some e)) × (e.holds ≡ c.holds)
-      step s c own true f =
-          let at = eqb-true s n f in
-          let mine = same_Some a c (same_Some (Some a) (Some c) (sym there ∙ (sym (ap (slice_get d.arrangements) at) ∙ own))) in (
-            b,
-            ap (slice_get (set d.arrangements n (Some b))) at ∙ get_own d.arrangements n (Some b) (Some a) there,
-            same ∙ ap (λ (z : ArrangementState T). z.holds) mine,
-          )
-      step s c own false f = (c, get_set d.arrangements n s (Some b) (eqb-false s n f) ∙ own, refl)
+      back : (m port source : ℕ) (j : JoiningView T) → ReadsAt p (with_arrangement n b d) m port source j → ReadsAt p d m port source j
+      back m port source j r = record { within = r.within; join = r.join; reads = r.reads; there = r.there }
+
+      step : (source number : ℕ) (u : List T) → HasHold below minimum d source number u → (c : Bool) → eqb source n ≡ c → HasHold below minimum (with_arrangement n b d) source number u
+      step source number u h true e =
+          let at = eqb-true source n e in
+          let mine = one_entry d.arrangements n a h.arrangement there (sym (ap (slice_get d.arrangements) at) ∙ h.there) in
+          record {
+            arrangement = b;
+            there = ap (slice_get (set d.arrangements n (Some b))) at ∙ get_own d.arrangements n (Some b) (Some a) there;
+            other = h.other;
+            physical = h.physical;
+            hold = same number h.other ∙ (ap (λ (z : ArrangementState T). slice_get z.holds number) mine ∙ h.hold);
+            behind = h.behind;
+          }
+      step source number u h false e = record {
+        arrangement = h.arrangement;
+        there = get_set d.arrangements n source (Some b) (eqb-false source n e) ∙ h.there;
+        other = h.other;
+        physical = h.physical;
+        hold = h.hold;
+        behind = h.behind;
+      }
 
 -- ---- what a bundle makes is put to what waits
 
@@ -128,9 +124,9 @@ module _ {T : Type 0} (below : T → T → Bool) (joined : T → T → T) (minim
       let now = get_own d.arrangements n (Some b) (Some a) there in
       let c : DeskView T = record d { arrangements = set d.arrangements n (Some b) } in
       record {
-        others = same_but_arrangement d n (Some b);
+        others = other_nodes d n b;
         gathered = refl;
-        sharing = sharing_arrangement below minimum p d n a b there refl;
+        sharing = sharing_with below minimum p d n a b there (λ number l. refl);
         arranged = λ start inserted x.
             let mine = same_Some x.arrangement a (same_Some (Some x.arrangement) (Some a) (sym x.there ∙ there)) in
             let s = subst (IsSpineAt below joined minimum p n inserted) mine x.spine in

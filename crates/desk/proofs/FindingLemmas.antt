@@ -48,7 +48,8 @@ use Rattle.desk_laws.proofs.FoundLemmas.{found_reduce, is_arrange}
 use Rattle.desk_laws.proofs.LaidLemmas.{ready_from_kept, ready_from_turned}
 use Rattle.desk.specs.Desks.{IsOnPlan, IsRight, IsSomeones, IsTakenOut, IsTooLarge, Leads}
 use Rattle.desk.proofs.CauseLemmas.{large_owed, large_waits}
-use Rattle.desk.proofs.DeskLemmas.{get_own, length_set, read_at, same_but_gathered, same_but_reduction, sharing_gathered, sharing_reductions, waits_plain}
+use Rattle.desk.proofs.DeskLemmas.{same_but_gathered, same_but_reduction, sharing_gathered, sharing_reductions, waits_plain}
+use Rattle.desk.proofs.PlaceLemmas.{get_own, length_set, read_at}
 
 -- ---- what lay gathered
 

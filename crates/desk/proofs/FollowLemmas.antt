@@ -27,7 +27,8 @@ use Rattle.desk_laws.proofs.FoundLemmas.{is_arrange}
 use Rattle.desk.specs.Desks.{IsRight}
 use Rattle.desk.specs.Openings.{on_plan}
 use Rattle.desk.specs.Tidying.{HasMoved, IsFollowed, IsFollowedAt, IsTooLargeOn, LeadsOn, MayMove, MayTidy, is_sealed}
-use Rattle.desk.proofs.EntryLemmas.{one_entry, with_arrangement}
+use Rattle.desk.proofs.DeskLemmas.{with_arrangement}
+use Rattle.desk.proofs.PlaceLemmas.{one_entry}
 use Rattle.desk.proofs.FromLemmas.{large_before, leads_same, leads_then, someones_then}
 use Rattle.desk.proofs.TidyLemmas.{leads_with, now_followed, reads_in, sharing_moved, stays_followed}
 

@@ -8,7 +8,6 @@ pub mod CauseLemmas
 pub mod LayingLemmas
 pub mod FindingLemmas
 pub mod FromLemmas
-pub mod EntryLemmas
 pub mod OpenLemmas
 pub mod SealLemmas
 pub mod PutAwayLemmas

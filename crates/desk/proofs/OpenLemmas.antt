@@ -35,7 +35,8 @@ use Rattle.desk_laws.specs.declared.hand.Hand.TheVariants.{Free}
 use Rattle.desk_laws.proofs.FirstLemmas.{first_lem}
 use Rattle.desk.specs.Desks.{IsRight}
 use Rattle.desk.specs.Openings.{on_plan, HasOneMore, HasOwnHolds, IsFirstArrangement, IsFirstAt, IsFirstJoin, IsFirstReduction, IsLaidOut}
-use Rattle.desk.proofs.EntryLemmas.{get_either, get_inside, get_kept, get_last, get_own, get_set, length_more, length_set, with_arrangement}
+use Rattle.desk.proofs.DeskLemmas.{with_arrangement}
+use Rattle.desk.proofs.PlaceLemmas.{get_either, get_inside, get_kept, get_last, get_own, get_set, length_more, length_set}
 
 join_sources : (node : Node) → is_join node ≡ true → (l : ℕ) × (r : ℕ) × (node ≡ Join l r)
 join_sources (Input width) e = cc

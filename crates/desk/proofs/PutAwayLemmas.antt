@@ -12,7 +12,8 @@ use Rattle.desk_laws.specs.Own.{DeskView, IsArrangedOn, IsNextBatch, IsSpineAt, 
 use Rattle.desk_laws.proofs.KeptLemmas.{same_desk}
 use Rattle.desk.specs.Desks.{IsPutAway}
 use Rattle.desk.specs.Sealings.{IsInserted, MayInsert}
-use Rattle.desk.proofs.EntryLemmas.{get_own, one_entry, other_nodes, sharing_with, with_arrangement}
+use Rattle.desk.proofs.DeskLemmas.{other_nodes, sharing_with, with_arrangement}
+use Rattle.desk.proofs.PlaceLemmas.{get_own, one_entry}
 
 pub empty : {A : Type 0} (xs : List A) → length xs ≡ 0 → xs ≡ []
 empty [] h = refl

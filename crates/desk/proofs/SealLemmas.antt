@@ -37,7 +37,8 @@ use Rattle.desk_laws.proofs.LaidLemmas.{sealed_lem}
 use Rattle.desk_laws.proofs.MergedLemmas.{merged_lem}
 use Rattle.desk.specs.Desks.{IsRight, IsSomeones, IsTooLarge, Leads}
 use Rattle.desk.specs.Sealings.{IsReserved, IsSealedTo, MaySeal}
-use Rattle.desk.proofs.EntryLemmas.{get_own, get_set, one_entry, other_nodes, sharing_with, with_arrangement}
+use Rattle.desk.proofs.DeskLemmas.{other_nodes, sharing_with, with_arrangement}
+use Rattle.desk.proofs.PlaceLemmas.{get_own, get_set, one_entry}
 use Rattle.desk.proofs.LargeLemmas.{large_load}
 
 -- ---- sizes

@@ -24,9 +24,9 @@ use Rattle.shared_board.specs.Large.{HasNoSmallBound}
 use Rattle.desk_laws.specs.Own.{DeskView, ReadsAt, boundary_at, hold_at}
 use Rattle.desk.specs.Openings.{on_plan}
 use Rattle.desk.specs.Tidying.{HasMoved, HasOwnHold, IsFollowed, IsSettled, IsSettledAt, IsTooLargeOn, LeadsOn, MayMove, MayTidy}
-use Rattle.desk.proofs.EntryLemmas.{get_own, get_set, one_entry, sharing_with, with_arrangement}
+use Rattle.desk.proofs.DeskLemmas.{sharing_with, with_arrangement}
+use Rattle.desk.proofs.PlaceLemmas.{get_own, get_set, get_within, one_entry}
 use Rattle.desk.proofs.LargeLemmas.{large_load}
-use Rattle.desk.proofs.PlaceLemmas.{get_within}
 use Rattle.desk.proofs.ReadingLemmas.{reading_readable}
 use Rattle.desk.proofs.TidyLemmas.{leads_with, reading_behind, reads_in, reads_back}
 

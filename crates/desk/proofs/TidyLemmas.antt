@@ -23,7 +23,8 @@ use Rattle.desk.specs.Desks.{IsRight}
 use Rattle.desk.specs.Joinings.{IsReading}
 use Rattle.desk.specs.Openings.{on_plan}
 use Rattle.desk.specs.Tidying.{HasMoved, IsAlike, IsFollowedAt, LeadsOn, is_sealed}
-use Rattle.desk.proofs.EntryLemmas.{get_own, get_set, one_entry, with_arrangement}
+use Rattle.desk.proofs.DeskLemmas.{with_arrangement}
+use Rattle.desk.proofs.PlaceLemmas.{get_own, get_set, one_entry}
 
 -- ---- how far a reader has come
 

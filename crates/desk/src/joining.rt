@@ -60,7 +60,8 @@ fn pair_left<T: Minimum>(
     left: NodeId,
     right: NodeId,
 ) -> Result<Vec<Update<T>>, Refusal>
-    requires next { IsNextAt T.below T.least 0 arrangements.now.items left right joining.old updates.now }
+    requires next { IsNextAt T.below T.least 0 arrangements.now.items left right joining.old
+        updates.now }
     ensures paired { IfOk result (λ out. IsPaired T.below T.least T.joined T.cmp 0
         arrangements.now.items left right joining.old updates.now out.items joining.new) }
     ensures same { OnErr result (joining.new ≡ joining.old) }
@@ -86,7 +87,8 @@ fn pair_right<T: Minimum>(
     left: NodeId,
     right: NodeId,
 ) -> Result<Vec<Update<T>>, Refusal>
-    requires next { IsNextAt T.below T.least 1 arrangements.now.items right left joining.old updates.now }
+    requires next { IsNextAt T.below T.least 1 arrangements.now.items right left joining.old
+        updates.now }
     ensures paired { IfOk result (λ out. IsPaired T.below T.least T.joined T.cmp 1
         arrangements.now.items right left joining.old updates.now out.items joining.new) }
     ensures same { OnErr result (joining.new ≡ joining.old) }

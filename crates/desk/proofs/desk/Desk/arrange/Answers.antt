@@ -3,7 +3,8 @@ use Rattle.std.proofs.lemmas.Option.{none-some, same_Some}
 use Rattle.operator.specs.Arrangements.{ArrangementState, rows_have}
 use Rattle.desk_laws.specs.Own.{DeskView}
 use Rattle.desk.specs.Desks.{IsLaidIn}
-use Rattle.desk.proofs.DeskLemmas.{arranged_after, found_at, set_same}
+use Rattle.desk.proofs.DeskLemmas.{arranged_after}
+use Rattle.desk.proofs.PlaceLemmas.{found_at, set_same}
 use Rattle.desk.proofs.ResultLemmas.{on_err_by, on_ok_by}
 use Rattle.desk.proofs.desk.Desk.arrange.Goals as goal
 

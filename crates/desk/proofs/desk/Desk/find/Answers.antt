@@ -12,7 +12,7 @@ use Rattle.operator.specs.Reductions.{IsOverfullWith, IsReduced, ReducingView, S
 use Rattle.desk_laws.specs.Own.{DeskView}
 use Rattle.desk_laws.specs.declared.hand.Hand.TheVariants.{Ready, Turned}
 use Rattle.desk.specs.Desks.{IsTooLarge, Leads}
-use Rattle.desk.proofs.DeskLemmas.{found_at, set_same}
+use Rattle.desk.proofs.PlaceLemmas.{found_at, set_same}
 use Rattle.desk.proofs.FindingLemmas.{found_large, found_ok}
 use Rattle.desk.proofs.ResultLemmas.{if_err_from, if_ok_by, memory_or, on_err_by}
 use Rattle.desk.proofs.desk.Desk.find.Goals as goal

@@ -3,7 +3,8 @@ use Rattle.update.specs.declared.change.Update.{Update}
 use Rattle.linear.specs.Applied.{linear_output}
 use Rattle.desk_laws.specs.Own.{DeskView}
 use Rattle.desk.specs.Desks.{IsLaidIn}
-use Rattle.desk.proofs.DeskLemmas.{gathered_after, set_same}
+use Rattle.desk.proofs.DeskLemmas.{gathered_after}
+use Rattle.desk.proofs.PlaceLemmas.{set_same}
 use Rattle.desk.proofs.ResultLemmas.{on_err_always}
 use Rattle.desk.proofs.desk.Desk.gather.Goals as goal
 

@@ -5,7 +5,8 @@ use Rattle.histories.specs.Histories.States.{times}
 use Rattle.operator.specs.Reductions.{ReducingView, have_width}
 use Rattle.desk_laws.specs.Own.{DeskView}
 use Rattle.desk.specs.Desks.{IsReducedWith}
-use Rattle.desk.proofs.DeskLemmas.{found_at, reduced_after, set_same}
+use Rattle.desk.proofs.DeskLemmas.{reduced_after}
+use Rattle.desk.proofs.PlaceLemmas.{found_at, set_same}
 use Rattle.desk.proofs.ResultLemmas.{on_err_by, on_ok_three}
 use Rattle.desk.proofs.desk.Desk.reduce.Goals as goal
 

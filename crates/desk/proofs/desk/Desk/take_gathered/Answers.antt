@@ -9,7 +9,7 @@ use Rattle.desk_laws.specs.Own.{DeskView, gathered_in}
 use Rattle.desk_laws.specs.declared.hand.Hand.{Hand}
 use Rattle.desk_laws.specs.declared.hand.Hand.TheVariants.{Kept, Ready, Turned}
 use Rattle.desk.specs.Desks.{IsTakenOut, IsTooLarge, Leads}
-use Rattle.desk.proofs.DeskLemmas.{read_at, set_same}
+use Rattle.desk.proofs.PlaceLemmas.{read_at, set_same}
 use Rattle.desk.proofs.FindingLemmas.{gathered_large, kept_leads, taken_after, turned_leads}
 use Rattle.desk.proofs.ResultLemmas.{if_err_from, if_ok_back, if_ok_from, memory_or, on_err_by, on_ok_back}
 use Rattle.desk.proofs.desk.Desk.take_gathered.Given.{Over}
