@@ -1,11 +1,11 @@
 -- What is left when a desk was tidied: where the holds are, and what was merged.
-use Rattle.std.specs.Prelude.{◌≡◌, ℕ, ◌<◌, Bool, true, false, List, [], ◌∷◌, Some, length, set, slice_get}
+use Rattle.std.specs.Prelude.{◌≡◌, ℕ, ◌<◌, Bool, true, false, List, [], ◌∷◌, Some, length, set, slice_get, Option, ◌^◌, ◌-◌, min}
 use Rattle.std.specs.declared.cmp.Ordering.{Ordering}
 use Rattle.plan.specs.Nodes.{node_at}
 use Rattle.plan.specs.declared.node.Node.{Node}
 use Rattle.plan.specs.declared.node.Node.TheVariants.{Arrange}
 use Rattle.trace.specs.Readings.{Insertion}
-use Rattle.spine.specs.Spines.{IsDone, Stands}
+use Rattle.spine.specs.Spines.{IsDone, Stands, stored}
 use Rattle.operator.specs.Arrangements.{ArrangementState, IsOpen, upper_of}
 use Rattle.operator.specs.Joins.{JoiningView}
 use Rattle.desk_laws.specs.Own.{DeskView, ReadsAt, boundary_at, hold_at}
@@ -20,6 +20,16 @@ module _ {T : Type 0} where
   abbrev pub is_sealed : Hand T → Bool
   is_sealed (Sealed node batch) = true
   is_sealed other = false
+
+  -- how many updates the arrangement of an arrange node shows its readers, as far as 64 bits can say
+  -- that; none at another node
+  abbrev pub kept_in : Option (Option (ArrangementState T)) → ℕ
+  kept_in (Some (Some a)) = min (length (stored a.spine)) (2 ^ 64 - 1)
+  kept_in other = 0
+
+  abbrev pub kept_of : Node → Option (Option (ArrangementState T)) → ℕ
+  kept_of (Arrange source key) place = kept_in place
+  kept_of other place = 0
 
   -- ---- one arrangement
 

@@ -17,6 +17,7 @@ mod finding;
 mod gathered;
 mod holding;
 mod joining;
+mod keeping;
 mod laying;
 mod opening;
 mod putting_away;

@@ -4,14 +4,17 @@
 //! the worker left last. What others do leaves them so, and so does each of the worker's own events,
 //! and what it computes between two of them. Each method here is one of these, and none of them asks
 //! anything of the state.
-ghost use Rattle.std.specs.Prelude.{◌≡◌, ◌<◌, ℕ, Some, None, true, false, IfErr, IfOk, OnOk, IsTrue};
+ghost use Rattle.std.specs.Prelude.{◌≡◌, ◌<◌, ℕ, Some, None, true, false, IfErr, IfOk, OnOk, IsTrue, slice_get};
 ghost use Rattle.update.specs.Refusals.{IsMemoryOrOverflow};
 ghost use Rattle.update.specs.declared.refusal.Refusal.TheVariants.{OutOfMemory, Overflow};
 ghost use Rattle.histories.specs.declared.event.Event.TheVariants.{Look};
+ghost use Rattle.plan.specs.Nodes.{node_at};
+ghost use Rattle.shared_board.specs.Found.{dataflow_of};
 ghost use Rattle.shared_board.specs.Tenures.{Adds, IsActor, IsFirst, terms_for};
 ghost use Rattle.desk_laws.specs.Own.{hand_node};
 ghost use Rattle.desk_laws.specs.declared.hand.Hand.TheVariants.{Free};
 ghost use Rattle.desk.specs.Desks.{IsComputed};
+ghost use Rattle.desk.specs.Tidying.{kept_of};
 ghost use Rattle.steps.specs.Steps.{HasStopped, HasTriedToGive, HasTriedToTake, IsTidyFor, LooksAtMost};
 ghost use Rattle.steps.specs.Workers.{HasSeenTooLarge, IsRightOf};
 
@@ -93,6 +96,20 @@ impl<T: Minimum, P: BoardProtocol<T>> Worker<T, P> {
             → HasSeenTooLarge T.below T.least T.cmp self.now.known }
     {
         self.actor.known();
+    }
+
+    /// How many updates the worker's spine at an arrange node shows its readers, or the greatest number
+    /// if that does not fit; 0 for another node. Takes no memory.
+    ///
+    /// Cost: linear in the batches of that spine.
+    pub fn kept(&self, node: NodeId) -> u64
+        ensures { result ≡ kept_of (node_at (dataflow_of self.now.known).nodes node)
+            (slice_get self.now.desk.arrangements node) }
+    {
+        if node.number() >= self.plan.len() {
+            return 0;
+        }
+        self.desk.kept(&self.plan, node)
     }
 
     // Whether an earlier step met a number that is too large.
