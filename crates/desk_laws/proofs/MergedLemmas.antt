@@ -10,7 +10,7 @@ use Rattle.desk_laws.specs.declared.hand.Hand.TheVariants.{Ready, Sealed, Turned
 use Rattle.desk_laws.proofs.KeptLemmas.{at_each, of_each}
 
 module _ {T : Type 0} (below : T → T → Bool) (joined : T → T → T) (minimum : T) (p : Dataflow) (d c : DeskView T) (merged : (n : ℕ) → IsMergedAt below joined minimum p n d c) where
-  still_waits : (n : ℕ) (node : Node) → waits_on c n node ≡ waits_on d n node
+  pub still_waits : (n : ℕ) (node : Node) → waits_on c n node ≡ waits_on d n node
   still_waits n (Arrange source key) = (merged n).waiting
   still_waits n other = ap gathered_in (merged n).gathered
 
