@@ -23,7 +23,7 @@ use Rattle.desk_laws.proofs.GivenLemmas.{due_waits}
 
 module _ {T : Type 0} (below : T → T → Bool) (o : PartialOrderLaws below) where
   -- what is beyond times that are beyond the newest observed frontier is beyond that frontier
-  newest_later : (n k : ℕ) (observed : List (ObservedFrontier T)) (F ts : List T) → AreBeyondNewest below n k observed F → IsTrue (all_beyond below F ts) → AreBeyondNewest below n k observed ts
+  pub newest_later : (n k : ℕ) (observed : List (ObservedFrontier T)) (F ts : List T) → AreBeyondNewest below n k observed F → IsTrue (all_beyond below F ts) → AreBeyondNewest below n k observed ts
   newest_later n k observed F ts first h = by (newest_observed n k observed) first
     where
       by : (found : Option (ObservedFrontier T)) → IfSome found (λ l. IsTrue (all_beyond below l.frontier F)) → IfSome found (λ l. IsTrue (all_beyond below l.frontier ts))
