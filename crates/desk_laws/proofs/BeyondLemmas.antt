@@ -10,7 +10,6 @@ use Rattle.plan.specs.Nodes.{is_reduction}
 use Rattle.plan.specs.declared.node.Node.{Node}
 use Rattle.plan.specs.declared.node.Node.TheVariants.{Reduce}
 use Rattle.histories.specs.declared.event.Bundle.{Bundle}
-use Rattle.histories.specs.declared.event.Emission.{Emission}
 use Rattle.histories.specs.Histories.Dataflows.{Dataflow, node_of}
 use Rattle.histories.specs.Histories.States.{ObservedFrontier, State, times}
 use Rattle.histories.specs.Histories.{give_state}
