@@ -11,5 +11,4 @@ pub mod Engines
 pub mod Ends
 pub mod Answers
 pub mod Standing
-pub mod Employment
 pub mod OracleStanding

@@ -2,7 +2,7 @@ use Rattle.std.proofs.Common.{◌≡◌, ◌∙◌, ◌∷◌, ◌++◌, [], ℕ
 use Rattle.std.specs.Prelude.{option_to_list, slice_get}
 use Rattle.plan.specs.declared.node.Node.{Node}
 use Rattle.plan.specs.declared.node.Node.TheVariants.{Input, Output}
-use Rattle.worker.specs.Tenures.{IsFirst, terms_for, terms_in}
+use Rattle.shared_board.specs.Tenures.{IsFirst, terms_for, terms_in}
 use Rattle.engine_trials.proofs.actor_tests.opened.Goals as goal
 
 -- a list of two, from its end

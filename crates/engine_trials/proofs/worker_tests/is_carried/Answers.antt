@@ -4,7 +4,7 @@ use Rattle.plan.specs.declared.node.Kind.TheVariants.{Min}
 use Rattle.plan.specs.declared.node.Node.{Node}
 use Rattle.plan.specs.declared.node.Node.TheVariants.{Arrange, Input, Output, Reduce}
 use Rattle.histories.specs.Histories.Dataflows.{node_of}
-use Rattle.worker.specs.Tenures.{Terms, terms_for, terms_in}
+use Rattle.shared_board.specs.Tenures.{Terms, terms_for, terms_in}
 use Rattle.engine_trials.proofs.worker_tests.is_carried.Goals as goal
 
 abbrev least_rows_plan : List Node
