@@ -13,6 +13,7 @@ use lattice::{Bitime, Minimum};
 use machine::Bundle;
 use plan::{Node, NodeId, Plan, PlanBuilder};
 use row::Row;
+use shared_board::{Actor, Boards, Taken, open, others_change_nothing_of_a_worker};
 use std::alloc::Global;
 use std::marker::Model;
 use std::process::Abort;
@@ -20,7 +21,6 @@ use std::sync::Wait;
 use std::test::Fail;
 use trials::at;
 use update::{Bag, Refusal, Update};
-use shared_board::{Actor, Boards, Taken, open, others_change_nothing_of_a_worker};
 
 // The plan of an input of one column and a view of it.
 fn viewed(alloc: Global) -> Result<Plan, Refusal>

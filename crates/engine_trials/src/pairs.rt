@@ -7,10 +7,10 @@ ghost use Rattle.shared_board.specs.Tenures.{IsFirst, terms_for};
 
 use lattice::{Bitime, Minimum};
 use plan::Plan;
+use shared_board::{Actor, BitemporalBoards, BoardProtocol, open};
 use std::alloc::Global;
 use std::sync::Wait;
 use update::Refusal;
-use shared_board::{Actor, BitemporalBoards, BoardProtocol, open};
 
 /// An actor of a board whose times are pairs.
 pub type BoardActor = Actor<Bitime, BitemporalBoards>;

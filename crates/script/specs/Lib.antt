@@ -11,4 +11,5 @@ pub mod Engines
 pub mod Ends
 pub mod Answers
 pub mod Standing
+pub mod Employment
 pub mod OracleStanding

@@ -25,11 +25,11 @@ use crate::sole_worker::SoleWorker;
 use antichain::Antichain;
 use lattice::{Bitime, Minimum};
 use plan::{NodeId, Plan};
+use shared_board::{Actor, BitemporalBoards, BoardProtocol, open};
 use std::alloc::Global;
 use std::marker::Model;
 use std::sync::Wait;
 use update::{Bag, Refusal, Times, Update, Updates};
-use shared_board::{Actor, BitemporalBoards, BoardProtocol, open};
 
 pub(crate) type BoardActor = Actor<Bitime, BitemporalBoards>;
 

@@ -3,15 +3,21 @@
 //! It steps until there is no piece for it, and then tidies its desk. As the only worker it leaves the
 //! board quiet, if no client changed anything meanwhile. Only a number that is too large stops it
 //! before, or want of memory.
-ghost use Rattle.std.specs.Prelude.{◌≡◌, ◌⊎◌, false, IfErr, IsTrue, OnOk};
-ghost use Rattle.update.specs.declared.refusal.Refusal.TheVariants.{OutOfMemory, Overflow};
+ghost use Rattle.std.specs.Prelude.{◌≡◌, ◌⊎◌, Err, IfErr, IsTrue, OnErr, OnOk};
+ghost use Rattle.lattice.specs.Bitimes.{bitime_below};
+ghost use Rattle.lattice.specs.Pairs.{make_pair};
+ghost use Rattle.update.specs.declared.refusal.Refusal.{Refusal};
+ghost use Rattle.update.specs.declared.refusal.Refusal.TheVariants.{OutOfMemory};
 ghost use Rattle.shared_board.specs.Tenures.{IsFirst, terms_for};
+ghost use Rattle.script.specs.Employment.{HasNothingToDo, HasPaused};
+ghost use Rattle.script.specs.declared.sole_worker.Work.TheVariants.{Stopped};
 
 use crate::board_engine::BoardActor;
 use lattice::Bitime;
 use plan::Plan;
 use shared_board::BitemporalBoards;
 use std::alloc::Global;
+use std::marker::Model;
 use std::mem;
 use std::sync::Wait;
 use steps::{Step, Worker};
@@ -19,7 +25,7 @@ use update::Refusal;
 
 type BoardWorker = Worker<Bitime, BitemporalBoards>;
 
-/// The only worker of a board.
+/// The only worker of a board. A contract sees the worker, or what stopped it.
 #[derive(Drop)]
 pub(crate) struct SoleWorker<'a, R: Wait> {
     runtime: &'a R,
@@ -31,6 +37,14 @@ pub(crate) struct SoleWorker<'a, R: Wait> {
 enum Work {
     Runs(BoardWorker),
     Stopped(Refusal),
+}
+
+impl<'a, R: Wait> Model for SoleWorker<'a, R> {
+    ghost use Rattle.script.specs.declared.sole_worker.Work.{Work};
+
+    ghost Value = { Work };
+
+    ghost view = { λ w. w.work };
 }
 
 impl<'a, R: Wait> SoleWorker<'a, R> {
@@ -58,6 +72,11 @@ impl<'a, R: Wait> SoleWorker<'a, R> {
     ///
     /// Cost: that of [`Worker::step`] for each piece, and of [`Worker::tidy`] without fuel.
     pub(crate) fn carry_on(&mut self, alloc: Global) -> Result<(), Refusal>
+        ensures idle { OnOk result (HasPaused bitime_below (make_pair 0 0) self.new) }
+        ensures stays { (refusal : Refusal) → self.old ≡ Stopped refusal
+            → self.new ≡ Stopped refusal }
+        ensures halted { self.new ≡ Stopped OutOfMemory → result ≡ Err OutOfMemory }
+        ensures stops { OnErr result (self.new ≡ Stopped OutOfMemory) }
         ensures refused { IfErr result (λ refusal. refusal ≡ OutOfMemory) }
     {
         let work = mem::replace(&mut self.work, Work::Stopped(Refusal::OutOfMemory));
@@ -68,7 +87,10 @@ impl<'a, R: Wait> SoleWorker<'a, R> {
 
 impl Work {
     // What comes of the work: the worker goes on until there is no piece for it.
-    fn carried_on<R: Wait>(self, runtime: &R, alloc: Global) -> Work {
+    fn carried_on<R: Wait>(self, runtime: &R, alloc: Global) -> Work
+        ensures idle { HasPaused bitime_below (make_pair 0 0) result }
+        ensures stays { (refusal : Refusal) → self ≡ Stopped refusal → result ≡ Stopped refusal }
+    {
         match self {
             Work::Runs(worker) => finish(runtime, alloc, worker),
             Work::Stopped(refusal) => Work::Stopped(refusal),
@@ -77,6 +99,8 @@ impl Work {
 
     // What the caller hears of it.
     fn answer(&self) -> Result<(), Refusal>
+        ensures halted { self.now ≡ Stopped OutOfMemory → result ≡ Err OutOfMemory }
+        ensures stops { OnErr result (self.now ≡ Stopped OutOfMemory) }
         ensures refused { IfErr result (λ refusal. refusal ≡ OutOfMemory) }
     {
         match self {
@@ -87,7 +111,9 @@ impl Work {
 }
 
 // The worker goes on until there is no piece for it, and then tidies. If it has failed, it tells that.
-fn finish<R: Wait>(runtime: &R, alloc: Global, mut worker: BoardWorker) -> Work {
+fn finish<R: Wait>(runtime: &R, alloc: Global, mut worker: BoardWorker) -> Work
+    ensures idle { HasPaused bitime_below (make_pair 0 0) result }
+{
     match clear(runtime, alloc, &mut worker) {
         Ok(()) => Work::Runs(worker),
         Err(Refusal::OutOfMemory) => Work::Stopped(Refusal::OutOfMemory),
@@ -100,7 +126,7 @@ fn finish<R: Wait>(runtime: &R, alloc: Global, mut worker: BoardWorker) -> Work 
 
 // Steps until there is no piece, and tidies.
 fn clear<R: Wait>(runtime: &R, alloc: Global, worker: &mut BoardWorker) -> Result<(), Refusal>
-    ensures going { OnOk result (worker.new.failed ≡ false) }
+    ensures idle { OnOk result (HasNothingToDo bitime_below (make_pair 0 0) worker.new) }
     ensures refused { IfErr result (λ refusal.
         (refusal ≡ OutOfMemory) ⊎ IsTrue worker.new.failed) }
 {

@@ -23,18 +23,3 @@ feed-requires-clause-input g c =
     subst (λ (t : Terms). (c.new-2.result < length t.dataflow.nodes) × IsTrue (is_input (node_of t.dataflow c.new-2.result))) (sym terms)
     (subst (λ (p : List Node). (c.new-2.result < length p) × IsTrue (is_input (node_of (terms_for p 1 1).dataflow c.new-2.result))) (sym c.in_ok-plan.ensures)
     (subst (λ (n : ℕ). (n < length least_rows_plan) × IsTrue (is_input (node_of (terms_for least_rows_plan 1 1).dataflow n))) (sym c.new-2.ensures) (omega (arith), refl)))
-
--- the worker has looked once, so the desk is ready for its first pass
-pub relay-requires : goal.relay-requires
-relay-requires g c =
-    let first = c.in_ok-worker.ensures.worker in
-    let terms = ap terms_in first.seen in (
-      search rules,
-      (
-        sym (ap (λ (t : Terms). t.dataflow.nodes) terms),
-        (
-          c.in_ok-routing.ensures.routing ∙ sym (ap (λ (t : Terms). t.dataflow) terms),
-          c.the_first_pass_may_begin.ensures (terms_for c.in_ok-plan.plan 1 1) refl c.in_ok-worker.field-0.worker c.in_ok-desk.desk c.known.ensures first c.in_ok-desk.ensures.ready,
-        ),
-      ),
-    )

@@ -6,5 +6,5 @@ use Rattle.steps.proofs.worker.Worker.tell_too_large.Goals as goal
 pub tell_too_large-requires : goal.tell_too_large-requires
 tell_too_large-requires g c = record {
   cause = subst (λ (w : WorkerView g.row.T.Denot). HasSeenTooLarge g.T.PartialOrder.below g.T.Minimum.least g.T.Ord.cmp w.known) (sym c.self.view_is)
-  (c.known.ensures.large c.requires.failed);
+      (c.known.ensures.large c.requires.failed);
 }
