@@ -1,4 +1,4 @@
-use Rattle.std.proofs.Common.{◌≡◌, ℕ, ◌<◌, List, ◌∷◌, [], length, IsTrue, sym, refl, subst, ap, ◌∙◌, arith, rules}
+use Rattle.std.proofs.Common.{◌≡◌, ℕ, ◌<◌, List, ◌∷◌, [], length, IsTrue, sym, refl, subst, ap, ◌∙◌, arith}
 use Rattle.plan.specs.Nodes.{is_input}
 use Rattle.plan.specs.declared.node.Kind.TheVariants.{Min}
 use Rattle.plan.specs.declared.node.Node.{Node}
@@ -20,6 +20,6 @@ feed-requires-clause-client g c =
 pub feed-requires-clause-input : goal.feed-requires-clause-input
 feed-requires-clause-input g c =
     let terms = ap terms_in c.in_ok-worker.ensures.client.seen in
-    subst (λ (t : Terms). (c.new-2.result < length t.dataflow.nodes) × IsTrue (is_input (node_of t.dataflow c.new-2.result))) (sym terms)
-    (subst (λ (p : List Node). (c.new-2.result < length p) × IsTrue (is_input (node_of (terms_for p 1 1).dataflow c.new-2.result))) (sym c.in_ok-plan.ensures)
-    (subst (λ (n : ℕ). (n < length least_rows_plan) × IsTrue (is_input (node_of (terms_for least_rows_plan 1 1).dataflow n))) (sym c.new-2.ensures) (omega (arith), refl)))
+    subst (λ (t : Terms). (c.new-3.result < length t.dataflow.nodes) × IsTrue (is_input (node_of t.dataflow c.new-3.result))) (sym terms)
+    (subst (λ (p : List Node). (c.new-3.result < length p) × IsTrue (is_input (node_of (terms_for p 1 1).dataflow c.new-3.result))) (sym c.in_ok-plan.ensures)
+    (subst (λ (n : ℕ). (n < length least_rows_plan) × IsTrue (is_input (node_of (terms_for least_rows_plan 1 1).dataflow n))) (sym c.new-3.ensures) (omega (arith), refl)))
