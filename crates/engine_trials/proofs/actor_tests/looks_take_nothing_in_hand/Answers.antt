@@ -1,4 +1,4 @@
-use Rattle.std.proofs.Common.{◌≡◌, ◌∙◌, ◌∷◌, ◌++◌, [], ℕ, List, None, ap, sym, subst}
+use Rattle.std.proofs.Common.{◌∙◌, [], ℕ, List, ap, sym, subst}
 use Rattle.std.proofs.lemmas.List.{append-nil}
 use Rattle.hub.specs.declared.view.Entry.{Entry}
 use Rattle.hub.specs.Known.{Known}

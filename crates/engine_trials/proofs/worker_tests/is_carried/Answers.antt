@@ -1,4 +1,4 @@
-use Rattle.std.proofs.Common.{◌≡◌, ℕ, ◌<◌, List, ◌∷◌, [], length, IsTrue, sym, refl, subst, ap, ◌∙◌, arith}
+use Rattle.std.proofs.Common.{ℕ, ◌<◌, List, ◌∷◌, [], length, IsTrue, sym, refl, subst, ap, arith}
 use Rattle.plan.specs.Nodes.{is_input}
 use Rattle.plan.specs.declared.node.Kind.TheVariants.{Min}
 use Rattle.plan.specs.declared.node.Node.{Node}
