@@ -97,16 +97,20 @@ module _ {T : Type 0} (below : T → T → Bool) (joined : T → T → T) (minim
         subst (λ us. IsSplit below us out (waits_on c n (node_of p n))) (sym (waits_plain d n (node_of p n) plain))
         (subst (IsSplit below (gathered_in (slice_get d.gathered n)) out) (sym (waits_plain c n (node_of p n) plain ∙ taken.left)) taken.split)
 
+    -- nothing waits any more
+    none_left : waits_on c n (node_of p n) ≡ []
+    none_left = waits_plain c n (node_of p n) plain ∙ taken.left
+
     module _ (o : PartialOrderLaws below) (q : IsDataflow p) (w : State T) (k : ℕ) (within : n < length p.nodes) (other : is_reduction (node_of p n) ≡ false) where
       pub kept_ready : (more : Bool) → IsRight below joined minimum p w k d (Kept n more) → IsRight below joined minimum p w k c (Ready n out)
       kept_ready more x = record {
-        own = ready_from_kept below joined minimum o p q w k d c (taken.sharing p x.own.sharing) n within taken.others out all_out more plain other (ap (λ js. slice_get js n) taken.joins) x.own;
+        own = ready_from_kept below joined minimum o p q w k d c (taken.sharing p x.own.sharing) n within taken.others out all_out more plain other (ap (λ js. slice_get js n) taken.joins) none_left x.own;
         on_plan = ready_on_plan (Kept n more) within x.on_plan;
       }
 
       pub turned_ready : (upper : List T) → IsRight below joined minimum p w k d (Turned n upper) → IsRight below joined minimum p w k c (Ready n out)
       turned_ready upper x = record {
-        own = ready_from_turned below joined minimum o p q w k d c (taken.sharing p x.own.sharing) n within taken.others out all_out upper plain other (ap (λ js. slice_get js n) taken.joins) x.own;
+        own = ready_from_turned below joined minimum o p q w k d c (taken.sharing p x.own.sharing) n within taken.others out all_out upper plain other (ap (λ js. slice_get js n) taken.joins) none_left x.own;
         on_plan = ready_on_plan (Turned n upper) within x.on_plan;
       }
 

@@ -363,7 +363,7 @@ module _ {T : Type 0} (below : T → T → Bool) (joined : T → T → T) (minim
 
         ready_now : IsOwn below joined minimum p w k mid (Kept n more) → IsRight below joined minimum p w k desk_now (Ready n out)
         ready_now own = record {
-          own = ready_from_kept below joined minimum o p q w k mid desk_now (sharing_on below minimum o p d n j i there holds further d.gathered x.own.sharing) n within to_now out out_of_mid more (ap arranged_by e) (ap is_reduction e) refl own;
+          own = ready_from_kept below joined minimum o p q w k mid desk_now (sharing_on below minimum o p d n j i there holds further d.gathered x.own.sharing) n within to_now out out_of_mid more (ap arranged_by e) (ap is_reduction e) refl waits_now own;
           on_plan = on_plan_now (pairs_wide paired.fitting out paired.wide);
         }
 

@@ -8,6 +8,7 @@ use Rattle.std.specs.declared.cmp.Ordering.{Ordering}
 use Rattle.std.proofs.lemmas.Bool.{and_parts, eqb-true, eqb-false}
 use Rattle.lattice.specs.Order.{PartialOrderLaws}
 use Rattle.lattice.specs.Frontiers.{is_beyond, all_beyond}
+use Rattle.lattice.proofs.FrontierLemmas.{all_beyond_from}
 use Rattle.update.specs.Updates.{HasLargeTotal, size}
 use Rattle.update.specs.declared.change.Update.{Update}
 use Rattle.update.proofs.ConsolidatedLemmas.{summed_size, summed_size_is}
@@ -32,6 +33,7 @@ use Rattle.operator.specs.Arrangements.{ArrangementState, IsOpen, rows_have, tim
 use Rattle.shared_board.specs.Large.{HasNoSmallBound}
 use Rattle.desk_laws.specs.Own.{AreSharing, DeskView, IsArrangedOn, IsMergedAt, IsNextBatch, IsOwn, IsSpineAt, waiting_in, waits_on}
 use Rattle.desk_laws.specs.declared.hand.Hand.TheVariants.{Sealed, Turned}
+use Rattle.desk_laws.proofs.BeyondLemmas.{newest_later}
 use Rattle.desk_laws.proofs.KeptLemmas.{at_each, laid_same, of_each, same_desk, same_keeps, turned_idle}
 use Rattle.desk_laws.proofs.LaidLemmas.{sealed_lem}
 use Rattle.desk_laws.proofs.MergedLemmas.{merged_lem}
@@ -164,6 +166,7 @@ module _ {T : Type 0} (below : T → T → Bool) (joined : T → T → T) (minim
       come = record {
         come = λ t h. x.own.come.come t (sym (ap not (same t)) ∙ h);
         was = λ t h. x.own.come.was t (sym (ap not (same t)) ∙ h);
+        newest = newest_later below o n k w.observed upper us x.own.come.newest (all_beyond_from o upper us (λ t h. sym (same t) ∙ h));
         after = λ s m e t h. ap not (same t) ∙ x.own.come.after s m e t h;
         on = λ s kind e t h. ap not (same t) ∙ x.own.come.on s kind e t h;
       };

@@ -9,7 +9,7 @@ use Rattle.plan.specs.declared.node.Node.{Node}
 use Rattle.trace.specs.Holds.{HoldState}
 use Rattle.trace.specs.Readings.{Insertion, reached}
 use Rattle.histories.specs.Histories.{state_after}
-use Rattle.histories.specs.Histories.Dataflows.{Dataflow}
+use Rattle.histories.specs.Histories.Dataflows.{Dataflow, node_of}
 use Rattle.histories.specs.Histories.States.{State}
 use Rattle.operator.specs.Arrangements.{AreInTurn, ArrangementState, upper_of}
 use Rattle.operator.specs.Joins.{JoiningView}
@@ -17,8 +17,8 @@ use Rattle.operator.proofs.TurnLemmas.{firsts}
 use Rattle.operator_laws.specs.Joining.{on_top}
 use Rattle.desk_laws.specs.Own.{AreSharing, DeskView, HasHold, IsHandOn, IsMergedAt, IsSpineAt, ReadsAt, boundary_at, hold_at, waiting_in}
 use Rattle.desk_laws.specs.declared.hand.Hand.{Hand}
-use Rattle.desk_laws.specs.declared.hand.Hand.TheVariants.{Sealed}
-use Rattle.desk_laws.proofs.MergedLemmas.{merged_lem}
+use Rattle.desk_laws.specs.declared.hand.Hand.TheVariants.{Ready, Sealed}
+use Rattle.desk_laws.proofs.MergedLemmas.{merged_lem, still_waits}
 use Rattle.desk.specs.Desks.{IsRight}
 use Rattle.desk.specs.Joinings.{IsReading}
 use Rattle.desk.specs.Openings.{on_plan}
@@ -90,14 +90,15 @@ module _ {T : Type 0} (below : T → T → Bool) (joined : T → T → T) (minim
               arranged = λ start inserted y. record { arrangement = y.arrangement; there = same ∙ y.there; spine = y.spine; begins = y.begins };
             }
 
-    -- no batch in hand says anything of the desk
-    hand_on : (h : Hand T) → is_sealed h ≡ false → IsHandOn below joined minimum p c h
-    hand_on (Sealed node batch) e = absurd (true≢false e)
-    hand_on other e = tt
+    -- no batch in hand says how far the spine has come
+    hand_on : (h : Hand T) → is_sealed h ≡ false → IsHandOn below joined minimum p d h → IsHandOn below joined minimum p c h
+    hand_on (Sealed node batch) e on = absurd (true≢false e)
+    hand_on (Ready node updates) e on = λ plain. still_waits below joined minimum p d c merged_at node (node_of p node) ∙ on plain
+    hand_on other e on = tt
 
     pub right_on : AreSharing below minimum p c → (w : State T) (k : ℕ) (h : Hand T) → is_sealed h ≡ false → IsRight below joined minimum p w k d h → IsRight below joined minimum p w k c h
     right_on sharing w k h e x = record {
-      own = merged_lem below joined minimum p d c merged_at w k sharing h (hand_on h e) x.own;
+      own = merged_lem below joined minimum p d c merged_at w k sharing h (hand_on h e x.own.on) x.own;
       on_plan = record { places = x.on_plan.places; wide = x.on_plan.wide; joins = x.on_plan.joins; hand = x.on_plan.hand };
     }
 

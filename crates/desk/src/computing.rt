@@ -2,7 +2,7 @@
 ghost use Rattle.std.specs.Prelude.{◌≡◌, ◌<◌, IfErr, OnOk, IsTrue, None, false, length};
 ghost use Rattle.update.specs.Refusals.{IsMemoryOrOverflow};
 ghost use Rattle.plan.specs.Nodes.{arranged_by, is_reduction, node_at};
-ghost use Rattle.desk_laws.specs.Own.{hand_node};
+ghost use Rattle.desk_laws.specs.Own.{gives_passed, hand_node};
 ghost use Rattle.desk.specs.Desks.{IsComputed, IsSomeones, IsTooLarge, Leads};
 
 use crate::desk::Desk;
@@ -30,6 +30,7 @@ impl<T: Minimum> Desk<T> {
         ensures leads { Leads T.below T.joined T.least plan.now self.old hand.old self.new hand.new }
         ensures computed { OnOk result (IsComputed hand.new) }
         ensures node { hand_node hand.new ≡ hand_node hand.old }
+        ensures passed { IsTrue (gives_passed hand.old) → IsTrue (gives_passed hand.new) }
         ensures refused { IfErr result (IsMemoryOrOverflow (IsTooLarge T.below T.joined T.least T.cmp
             plan.now self.old hand.old)) }
     {
@@ -70,6 +71,7 @@ impl<T: Minimum> Desk<T> {
         ensures leads { Leads T.below T.joined T.least plan.now self.old hand.old self.new hand.new }
         ensures computed { IsComputed hand.new }
         ensures node { hand_node hand.new ≡ hand_node hand.old }
+        ensures passed { IsTrue (gives_passed hand.old) → IsTrue (gives_passed hand.new) }
         ensures refused { IfErr result (IsMemoryOrOverflow (IsTooLarge T.below T.joined T.least T.cmp
             plan.now self.old hand.old)) }
     {
@@ -103,6 +105,7 @@ impl<T: Minimum> Desk<T> {
         ensures leads { Leads T.below T.joined T.least plan.now self.old hand.old self.new hand.new }
         ensures computed { OnOk result (IsComputed hand.new) }
         ensures node { hand_node hand.new ≡ hand_node hand.old }
+        ensures passed { IsTrue (gives_passed hand.old) → IsTrue (gives_passed hand.new) }
         ensures refused { IfErr result (IsMemoryOrOverflow (IsTooLarge T.below T.joined T.least T.cmp
             plan.now self.old hand.old)) }
     {

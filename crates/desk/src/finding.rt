@@ -1,13 +1,13 @@
 //! What is taken in hand to be given: what lies gathered at a node, and the answers of a reduction at
 //! the times that its input frontier has passed.
-ghost use Rattle.std.specs.Prelude.{◌≡◌, ◌<◌, ℕ, List, Some, None, Bool, false, IfOk, IfErr, OnErr, OnOk, length, slice_get};
+ghost use Rattle.std.specs.Prelude.{◌≡◌, ◌<◌, ℕ, List, Some, None, Bool, false, IfOk, IfErr, OnErr, OnOk, IsTrue, length, slice_get};
 ghost use Rattle.update.specs.Refusals.{IsMemoryOrOverflow};
 ghost use Rattle.plan.specs.Nodes.{arranged_by, is_reduction, node_at};
 ghost use Rattle.plan.specs.declared.node.Kind.{Kind};
 ghost use Rattle.plan.specs.declared.node.Node.TheVariants.{Reduce};
 ghost use Rattle.operator.specs.Arrangements.{ArrangementState};
 ghost use Rattle.operator.specs.Reductions.{ReducingView};
-ghost use Rattle.desk_laws.specs.Own.{hand_node};
+ghost use Rattle.desk_laws.specs.Own.{gives_passed, hand_node};
 ghost use Rattle.desk_laws.specs.declared.hand.Hand.{Hand};
 ghost use Rattle.desk_laws.specs.declared.hand.Hand.TheVariants.{Kept, Ready, Turned};
 ghost use Rattle.desk.specs.Desks.{IsComputed, IsSomeones, IsTooLarge, Leads};
@@ -99,6 +99,7 @@ impl<T: Minimum> Desk<T> {
         ensures leads { IfOk result (λ hand. Leads T.below T.joined T.least plan.now
             self.old (Turned node upper.now) self.new hand) }
         ensures computed { IfOk result (λ hand. IsComputed hand × (hand_node hand ≡ Some node)) }
+        ensures passed { IfOk result (λ hand. IsTrue (gives_passed hand)) }
         ensures kept { OnErr result (Leads T.below T.joined T.least plan.now
             self.old (Turned node upper.now) self.new (Turned node upper.now)) }
         ensures refused { IfErr result (IsMemoryOrOverflow (IsTooLarge T.below T.joined T.least T.cmp

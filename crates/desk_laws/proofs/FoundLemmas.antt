@@ -132,7 +132,7 @@ module _ {T : Type 0} (below : T → T → Bool) (joined met : T → T → T) (m
   -- the answers are ready to be given, and the rest stays pending
   pub found_reduce : IsOwn below joined minimum p w k c (Ready n out)
   found_reduce =
-      computed_with below joined minimum o p q w k n within d c (Turned n upper) (Ready n out) x refl refl (λ m ne. turned_idle m n upper) (λ m ne. ready_idle m n out ne) desks tt sharing works (λ m ne. same_keeps m x.keeps) x.keeping.working
+      computed_with below joined minimum o p q w k n within d c (Turned n upper) (Ready n out) x refl refl (λ m ne. turned_idle m n upper) (λ m ne. ready_idle m n out ne) desks (λ z. absurd (true≢false (sym (ap is_reduction e) ∙ z))) sharing works (λ m ne. same_keeps m x.keeps) x.keeping.working
       (record {
         waiting = λ z. absurd (true≢false (sym (ap is_reduction e) ∙ z));
         arranged = λ other key f. absurd (none-some key (sym (ap arranged_by e) ∙ ap arranged_by f));
@@ -154,4 +154,4 @@ module _ {T : Type 0} (below : T → T → Bool) (joined met : T → T → T) (m
               pending = λ z. absurd (true≢false (sym (eq-eqb n n refl) ∙ z));
             };
       })
-      (λ other kind' f. record { reduction = s; there = then; frontier = upper; found = found })
+      (λ other kind' f. record { reduction = s; there = then; frontier = upper; found = found; newest = x.come.newest })

@@ -37,8 +37,8 @@ module _ {T : Type 0} (below : T → T → Bool) (joined : T → T → T) (minim
 
   module _ (n : ℕ) (within : n < length p.nodes) (desks : (m : ℕ) → m ≢ n → IsSameAt m d c) (out : List (Update T)) (split : IsSplit below (waits_on d n (node_of p n)) out (waits_on c n (node_of p n))) where
     ready_from : (h : Hand T) → hand_node h ≡ Some n → ((m : ℕ) → IsIdleAt m h) → arranged_by (node_of p n) ≡ None → is_reduction (node_of p n) ≡ false → slice_get c.joins n ≡ slice_get d.joins n
-        → IsOwn below joined minimum p w k d h → IsOwn below joined minimum p w k c (Ready n out)
-    ready_from h hand_h idle plain waits joins_same x = by (node_of p n) refl
+        → waits_on c n (node_of p n) ≡ [] → IsOwn below joined minimum p w k d h → IsOwn below joined minimum p w k c (Ready n out)
+    ready_from h hand_h idle plain waits joins_same all x = by (node_of p n) refl
       where
         here_is : cond (eqb n n) out [] ≡ out
         here_is = ap (λ b. cond b out []) (eq-eqb n n refl)
@@ -49,18 +49,18 @@ module _ {T : Type 0} (below : T → T → Bool) (joined : T → T → T) (minim
         by : (node : Node) → node_of p n ≡ node → IsOwn below joined minimum p w k c (Ready n out)
         by (Reduce kind s) e = absurd (false≢true (sym waits ∙ ap is_reduction e))
         by (Join l r) e =
-            computed_join below joined minimum o p q w k n within d c h (Ready n out) x hand_h refl (λ m ne. idle m) (λ m ne. ready_idle m n out ne) desks tt sharing out (λ next. here_is) parts l r e joins_same (idle n).taken (λ port. refl)
+            computed_join below joined minimum o p q w k n within d c h (Ready n out) x hand_h refl (λ m ne. idle m) (λ m ne. ready_idle m n out ne) desks (λ _. all) sharing out (λ next. here_is) parts l r e joins_same (idle n).taken (λ port. refl)
             (λ source kind f. absurd (false≢true (sym waits ∙ ap is_reduction f)))
         by other e =
-            computed_linear below joined minimum o p q w k n within d c h (Ready n out) x hand_h refl (λ m ne. idle m) (λ m ne. ready_idle m n out ne) desks tt sharing out (λ next. here_is) parts (ap is_linear e)
+            computed_linear below joined minimum o p q w k n within d c h (Ready n out) x hand_h refl (λ m ne. idle m) (λ m ne. ready_idle m n out ne) desks (λ _. all) sharing out (λ next. here_is) parts (ap is_linear e)
             (λ source key f start inserted a. absurd (none-some key (sym plain ∙ ap arranged_by f)))
             (λ source kind f. absurd (false≢true (sym waits ∙ ap is_reduction f)))
 
-    pub ready_from_kept : (more : Bool) → arranged_by (node_of p n) ≡ None → is_reduction (node_of p n) ≡ false → slice_get c.joins n ≡ slice_get d.joins n → IsOwn below joined minimum p w k d (Kept n more) → IsOwn below joined minimum p w k c (Ready n out)
-    ready_from_kept more plain waits joins_same x = ready_from (Kept n more) refl (λ m. kept_idle m n more) plain waits joins_same x
+    pub ready_from_kept : (more : Bool) → arranged_by (node_of p n) ≡ None → is_reduction (node_of p n) ≡ false → slice_get c.joins n ≡ slice_get d.joins n → waits_on c n (node_of p n) ≡ [] → IsOwn below joined minimum p w k d (Kept n more) → IsOwn below joined minimum p w k c (Ready n out)
+    ready_from_kept more plain waits joins_same all x = ready_from (Kept n more) refl (λ m. kept_idle m n more) plain waits joins_same all x
 
-    pub ready_from_turned : (upper : List T) → arranged_by (node_of p n) ≡ None → is_reduction (node_of p n) ≡ false → slice_get c.joins n ≡ slice_get d.joins n → IsOwn below joined minimum p w k d (Turned n upper) → IsOwn below joined minimum p w k c (Ready n out)
-    ready_from_turned upper plain waits joins_same x = ready_from (Turned n upper) refl (λ m. turned_idle m n upper) plain waits joins_same x
+    pub ready_from_turned : (upper : List T) → arranged_by (node_of p n) ≡ None → is_reduction (node_of p n) ≡ false → slice_get c.joins n ≡ slice_get d.joins n → waits_on c n (node_of p n) ≡ [] → IsOwn below joined minimum p w k d (Turned n upper) → IsOwn below joined minimum p w k c (Ready n out)
+    ready_from_turned upper plain waits joins_same all x = ready_from (Turned n upper) refl (λ m. turned_idle m n upper) plain waits joins_same all x
 
     -- a batch of what waits at an arrange node is in hand
     pub sealed_lem : (source key : ℕ) → node_of p n ≡ Arrange source key → (upper : List T) (batch : BatchState T) → batch.updates ≡ out → batch.description.upper ≡ upper

@@ -12,4 +12,5 @@ pub mod ReducedLemmas
 pub mod FoundLemmas
 pub mod JoinedLemmas
 pub mod SealedLemmas
+pub mod BeyondLemmas
 pub mod MergedLemmas

@@ -10,7 +10,7 @@ use Rattle.desk_laws.specs.declared.hand.Hand.TheVariants.{Ready, Sealed, Turned
 use Rattle.desk_laws.proofs.KeptLemmas.{at_each, of_each}
 
 module _ {T : Type 0} (below : T → T → Bool) (joined : T → T → T) (minimum : T) (p : Dataflow) (d c : DeskView T) (merged : (n : ℕ) → IsMergedAt below joined minimum p n d c) where
-  still_waits : (n : ℕ) (node : Node) → waits_on c n node ≡ waits_on d n node
+  pub still_waits : (n : ℕ) (node : Node) → waits_on c n node ≡ waits_on d n node
   still_waits n (Arrange source key) = (merged n).waiting
   still_waits n other = ap gathered_in (merged n).gathered
 
@@ -19,7 +19,7 @@ module _ {T : Type 0} (below : T → T → Bool) (joined : T → T → T) (minim
   still_come w k keeps (Sealed node batch) x = x
   still_come w k keeps (Ready node updates) x = λ source kind e.
       let f = x source kind e in
-      record { reduction = f.reduction; there = (merged node).reductions ∙ f.there; frontier = f.frontier; found = f.found }
+      record { reduction = f.reduction; there = (merged node).reductions ∙ f.there; frontier = f.frontier; found = f.found; newest = f.newest }
   still_come w k keeps other x = tt
 
   pub merged_lem : (w : State T) (k : ℕ) → AreSharing below minimum p c → (h : Hand T) → IsHandOn below joined minimum p c h → IsOwn below joined minimum p w k d h → IsOwn below joined minimum p w k c h

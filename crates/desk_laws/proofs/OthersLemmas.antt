@@ -1,8 +1,10 @@
 -- What the events of others leave of a worker's own.
 use Rattle.std.proofs.Common.{◌≡◌, ◌≢◌, ℕ, Bool, true, false, List, [], ◌∷◌, ◌++◌, sym, refl, ◌∙◌, subst}
-use Rattle.std.specs.Prelude.{pos}
+use Rattle.std.specs.Prelude.{pos, eqb, IfSome, IsTrue, slice_get}
+use Rattle.std.specs.List.{filter}
 use Rattle.std.proofs.lemmas.Bool.{ne_eqb, and_parts, and_from}
 use Rattle.lattice.specs.Order.{PartialOrderLaws}
+use Rattle.lattice.specs.Frontiers.{all_beyond}
 use Rattle.hub.specs.declared.view.Entry.{Entry}
 use Rattle.hub.specs.Histories.{NoneBy}
 use Rattle.update.specs.Bags.{Alike}
@@ -14,7 +16,7 @@ use Rattle.histories.specs.declared.event.Event.TheVariants.{Take, Give}
 use Rattle.histories.specs.Histories.Actors.{IsSameOfWorker}
 use Rattle.histories.specs.Histories.Dataflows.{Dataflow, IsDataflow, node_output}
 use Rattle.histories.specs.Histories.NodeLaws.{was_passed}
-use Rattle.histories.specs.Histories.States.{State}
+use Rattle.histories.specs.Histories.States.{ObservedFrontier, State}
 use Rattle.histories.specs.Histories.{IsAllowed, IsLegal, actor_of, next_state}
 use Rattle.histories.proofs.HistoryLemmas.ActorLemmas.{worker_apart}
 use Rattle.shared_board.specs.declared.event.Doing.{Doing}
@@ -25,6 +27,7 @@ use Rattle.operator_laws.proofs.ArrangingLemmas.{stays_passed}
 use Rattle.operator_laws.proofs.ReducingLemmas.{all_still_were}
 use Rattle.operator_laws.proofs.WorkingLemmas.{same_working}
 use Rattle.desk_laws.specs.Own.{DeskView, Keeps, HasCome, HasTurned, IsOwn}
+use Rattle.desk_laws.specs.Observed.{AreBeyondNewest}
 use Rattle.desk_laws.specs.declared.hand.Hand.{Hand}
 use Rattle.desk_laws.specs.declared.hand.Hand.TheVariants.{Turned, Ready, Sealed}
 
@@ -55,9 +58,13 @@ module _ {T : Type 0} (below : T → T → Bool) (joined : T → T → T) (minim
         let u : Update T = record { time = t; row = []; diff = pos 0 } in
         (and_parts _ _ (all_still_were below o p w n k e (u ∷ []) (and_from _ _ h refl))).0
 
+    -- the worker's newest take is the same
+    newest_on : (n : ℕ) (ts : List T) → AreBeyondNewest below n k w.observed ts → AreBeyondNewest below n k (next_state below p w e).observed ts
+    newest_on n ts h = subst (λ (os : List (ObservedFrontier T)). IfSome (slice_get (filter (λ l. eqb l.node n) os) 0) (λ l. IsTrue (all_beyond below l.frontier ts))) (sym s.observed) h
+
     -- an input frontier that had come so far has done so
     turned_on : (n : ℕ) (answered ended upper : List T) → HasTurned below joined minimum p w k n answered ended upper → HasTurned below joined minimum p (next_state below p w e) k n answered ended upper
-    turned_on n answered ended upper c = record { come = stays_passed below o p q w e a n upper c.come; was = λ t h. still_was n t (c.was t h); after = c.after; on = c.on }
+    turned_on n answered ended upper c = record { come = stays_passed below o p q w e a n upper c.come; was = λ t h. still_was n t (c.was t h); newest = newest_on n upper c.newest; after = c.after; on = c.on }
 
     -- so does what the piece in hand says of the state
     pub come_on : (d : DeskView T) (keeps : Keeps T) (h : Hand T) → HasCome below joined minimum p w k d keeps h → HasCome below joined minimum p (next_state below p w e) k d keeps h
@@ -70,6 +77,7 @@ module _ {T : Type 0} (below : T → T → Bool) (joined : T → T → T) (minim
           there = f.there;
           frontier = f.frontier;
           found = found_on node (keeps.works.upper node) (keeps.works.pending node) f.frontier updates _ f.found;
+          newest = newest_on node f.frontier f.newest;
         }
     come_on d keeps other c = tt
 

@@ -3,7 +3,7 @@
 -- at its nodes is right for what it received and gave. `IsLaid` speaks of the desk and the hand: they
 -- together are what the worker keeps. So what others do touches the first half alone, and what the
 -- worker computes between two events touches the second.
-use Rattle.std.specs.Prelude.{◌≡◌, ℕ, zero, suc, ◌<◌, Bool, false, ◌&&◌, eqb, if◌then◌else◌, List, [], ◌∷◌, ◌++◌, length, slice_get, Option, Some, None, IsTrue, ⊤}
+use Rattle.std.specs.Prelude.{◌≡◌, ℕ, zero, suc, ◌<◌, Bool, true, false, ◌&&◌, eqb, if◌then◌else◌, List, [], ◌∷◌, ◌++◌, length, slice_get, Option, Some, None, IsTrue, ⊤}
 use Rattle.lattice.specs.Frontiers.{all_beyond}
 use Rattle.update.specs.declared.change.Update.{Update}
 use Rattle.plan.specs.Changes.{has_passed}
@@ -31,6 +31,7 @@ use Rattle.operator.specs.Reductions.{ReducingView, HasRoom, IsReduced, pending_
 use Rattle.operator_laws.specs.Joining.{on_top}
 use Rattle.operator_laws.specs.Reducing.{IsFound}
 use Rattle.operator_laws.specs.Working.{Works, IsWorking, first_works}
+use Rattle.desk_laws.specs.Observed.{AreBeyondNewest}
 use Rattle.desk_laws.specs.declared.hand.Hand.{Hand}
 use Rattle.desk_laws.specs.declared.hand.Hand.TheVariants.{Free, Taken, Kept, Turned, Ready, Sealed}
 
@@ -70,6 +71,14 @@ module _ {T : Type 0} where
   abbrev pub is_ready_at : Hand T → ℕ → Bool
   is_ready_at (Ready node updates) n = eqb node n
   is_ready_at other n = false
+
+  -- with this in hand the worker gives all that the input frontier had passed when it took there. Of
+  -- what a bundle made it may hold back more
+  abbrev pub gives_passed : Hand T → Bool
+  gives_passed (Turned node upper) = true
+  gives_passed (Ready node updates) = true
+  gives_passed (Sealed node batch) = true
+  gives_passed other = false
 
   -- the updates that were gathered, and those that wait in an arrangement
   abbrev pub gathered_in : Option (List (Update T)) → List (Update T)
@@ -280,24 +289,30 @@ module _ {T : Type 0} (below : T → T → Bool) (joined : T → T → T) (minim
     pub rows : IsTrue (rows_have arrangement.width batch.updates)
     pub times_are : IsTrue (times_from below minimum batch.updates)
 
-  -- what the piece in hand says of the desk
+  -- what the piece in hand says of the desk: beside what is ready at another node than a reduction
+  -- nothing waits there
   abbrev pub IsHandOn : Dataflow → DeskView T → Hand T → Type 0
+  IsHandOn p d (Ready node updates) = is_reduction (node_of p node) ≡ false → waits_on d node (node_of p node) ≡ []
   IsHandOn p d (Sealed node batch) = IsNextBatch p d node batch
   IsHandOn p d other = ⊤
 
-  -- what is ready at a reduction was found of what is pending, and the rest is pending on the desk
+  -- what is ready at a reduction was found of what is pending, and the rest is pending on the desk. It
+  -- was found up to a frontier that is not behind the one that the worker found there last
   pub record IsFoundOn (p : Dataflow) (w : State T) (k : ℕ) (d : DeskView T) (keeps : Keeps T) (n : ℕ) (out : List (Update T)) : Type 0 where
     pub reduction : ReducingView T
     pub there : slice_get d.reductions n ≡ Some (Some reduction)
     pub frontier : List T
     pub found : IsFound below p w n k (keeps.works.upper n) (keeps.works.pending n) frontier out (pending_of reduction)
+    pub newest : AreBeyondNewest below n k w.observed frontier
 
   -- the node's input frontier has come so far, and had come so far at some take of the worker there.
+  -- At its newest take there it had come no further.
   -- At an arrange node it is not behind where the last insertion ended, and at a reduction not behind
   -- the frontier up to which was answered before
   pub record HasTurned (p : Dataflow) (w : State T) (k n : ℕ) (answered ended upper : List T) : Type 0 where
     pub come : NeverGoesBack below upper (input_frontier below p w n)
     pub was : (t : T) → IsTrue (has_passed below upper t) → IsTrue (was_passed below n k w.observed t)
+    pub newest : AreBeyondNewest below n k w.observed upper
     pub after : (source key : ℕ) → node_of p n ≡ Arrange source key → NeverGoesBack below ended upper
     pub on : (source : ℕ) (kind : Kind) → node_of p n ≡ Reduce kind source → NeverGoesBack below answered upper
 

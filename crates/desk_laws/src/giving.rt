@@ -10,6 +10,7 @@ ghost use Rattle.histories.specs.Histories.{IsGive, give_state};
 ghost use Rattle.histories.specs.Histories.Cuts.{cut};
 ghost use Rattle.histories.specs.Histories.Dataflows.{Dataflow, IsDataflow, node_of};
 ghost use Rattle.histories.specs.Histories.States.{State};
+ghost use Rattle.desk_laws.specs.Observed.{HoldsBeyondNewest};
 ghost use Rattle.desk_laws.specs.Own.{AreSharing, DeskView, IsArrangedOn, IsOwn, IsSameAt, due_on, waits_on};
 ghost use Rattle.operator_laws.specs.Gathering.{IsCut, IsHeldFor};
 ghost use Rattle.desk_laws.specs.declared.hand.Hand.TheVariants.{Free, Kept, Ready, Sealed};
@@ -74,4 +75,19 @@ pub fn sealed_is_given<T: Minimum>()
         → IsHeldFor T.below held (due_on d n (node_of p n))
         → IsOwn T.below T.joined T.least p w k d (Sealed n batch)
         → IsTrue (all_beyond T.below batch.description.upper held) }
+{}
+
+/// Once a worker has given what it had ready, or a batch, all that it holds at the node is beyond the
+/// input frontier that its newest take there found.
+pub fn given_is_beyond<T: Minimum>()
+    ensures ready { (p : Dataflow) (w : State T) (k n : ℕ) (d : DeskView T) (us : List (Update T))
+        (held : List T) (sent : List (Bundle T)) → IsHeldFor T.below held (due_on d n (node_of p n))
+        → IsOwn T.below T.joined T.least p w k d (Ready n us)
+        → HoldsBeyondNewest T.below (give_state T.below p w
+        (record { node = n; worker = k; updates = us }) held sent) n k }
+    ensures sealed { (p : Dataflow) (w : State T) (k n : ℕ) (d : DeskView T) (batch : BatchState T)
+        (held : List T) (sent : List (Bundle T)) → IsHeldFor T.below held (due_on d n (node_of p n))
+        → IsOwn T.below T.joined T.least p w k d (Sealed n batch)
+        → HoldsBeyondNewest T.below (give_state T.below p w
+        (record { node = n; worker = k; updates = batch.updates }) held sent) n k }
 {}

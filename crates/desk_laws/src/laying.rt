@@ -109,15 +109,15 @@ pub fn kept_is_reduced<T: Minimum>()
         → IsOwn T.below T.joined T.least p w k c (Kept bundle.place.node more) }
 {}
 
-/// Of what lies on the desk for a node, a part is taken in hand to be given, and the rest stays: at a
-/// node that is not arranged, and no reduction.
+/// What lies on the desk for a node is taken in hand to be given, and nothing stays there: at a node
+/// that is not arranged, and no reduction.
 pub fn ready_is_laid<T: Minimum>()
     ensures kept { (p : Dataflow) → IsDataflow p → (w : State T) (k : ℕ) (d c : DeskView T)
         → AreSharing T.below T.least p c → (n : ℕ) → n < length p.nodes
         → ((m : ℕ) → m ≢ n → IsSameAt m d c) → (out : List (Update T))
         → IsSplit T.below (waits_on d n (node_of p n)) out (waits_on c n (node_of p n))
         → (more : Bool) → arranged_by (node_of p n) ≡ None → is_reduction (node_of p n) ≡ false
-        → slice_get c.joins n ≡ slice_get d.joins n
+        → slice_get c.joins n ≡ slice_get d.joins n → waits_on c n (node_of p n) ≡ []
         → IsOwn T.below T.joined T.least p w k d (Kept n more)
         → IsOwn T.below T.joined T.least p w k c (Ready n out) }
     ensures turned { (p : Dataflow) → IsDataflow p → (w : State T) (k : ℕ) (d c : DeskView T)
@@ -126,6 +126,7 @@ pub fn ready_is_laid<T: Minimum>()
         → IsSplit T.below (waits_on d n (node_of p n)) out (waits_on c n (node_of p n))
         → (upper : List T) → arranged_by (node_of p n) ≡ None
         → is_reduction (node_of p n) ≡ false → slice_get c.joins n ≡ slice_get d.joins n
+        → waits_on c n (node_of p n) ≡ []
         → IsOwn T.below T.joined T.least p w k d (Turned n upper)
         → IsOwn T.below T.joined T.least p w k c (Ready n out) }
 {}

@@ -1,6 +1,6 @@
 -- What is in hand may be given, and what is right of a worker after that.
 use Rattle.std.proofs.Common.{◌≡◌, ◌≢◌, ℕ, ◌<◌, Bool, false, cond, List, [], ◌∷◌, ◌++◌, length, Some, IsTrue, sym, refl, ap, ◌∙◌, subst, inl, inr, ◌⊎◌, ⊎_elim}
-use Rattle.std.proofs.lemmas.Bool.{eq-eqb}
+use Rattle.std.proofs.lemmas.Bool.{eq-eqb, false≢true}
 use Rattle.std.proofs.lemmas.Option.{same_Some}
 use Rattle.lattice.specs.Order.{PartialOrderLaws}
 use Rattle.hub.specs.Known.{Known}
@@ -22,13 +22,15 @@ use Rattle.operator_laws.proofs.GatheringLemmas.{may_give}
 use Rattle.shared_board.specs.declared.event.Doing.{Doing}
 use Rattle.shared_board.specs.Found.{dataflow_of}
 use Rattle.shared_board.specs.Tenures.{Adds, IsActor, state_found, state_left}
-use Rattle.desk_laws.specs.Own.{DeskView, IsOwn, due_on, gathered_in, hand_node, waits_on}
+use Rattle.desk_laws.specs.Observed.{HoldsBeyondNewest}
+use Rattle.desk_laws.specs.Own.{DeskView, IsOwn, due_on, gathered_in, gives_passed, hand_node, waits_on}
 use Rattle.desk_laws.specs.declared.hand.Hand.{Hand}
 use Rattle.desk_laws.specs.declared.hand.Hand.TheVariants.{Free, Taken, Kept, Turned, Ready, Sealed}
+use Rattle.desk_laws.proofs.BeyondLemmas.{batch_beyond, ready_beyond}
 use Rattle.desk_laws.proofs.GivenLemmas.{due_waits, held_back_lem, ready_lem, split_parts}
 use Rattle.desk_laws.proofs.SealedLemmas.{empty_given, sealed_given}
 use Rattle.desk.specs.Desks.{IsComputed, IsOf, IsOnPlan, IsRight}
-use Rattle.steps.specs.Steps.{HasSent, IsPutDown, output_of}
+use Rattle.steps.specs.Steps.{HasLeftLater, HasSent, IsPutDown, output_of}
 use Rattle.steps.specs.declared.step.Step.{Step}
 use Rattle.steps.specs.declared.step.Step.TheVariants.{Gave, Busy}
 use Rattle.steps.specs.Workers.{IsRightOf}
@@ -178,6 +180,18 @@ module _ {T : Type 0} (below : T → T → Bool) (joined : T → T → T) (minim
       same : c.gathered ≡ d.gathered
       same = still h down
 
+-- after a give of what was passed, what is held at the node is beyond the newest observed frontier
+hand_beyond : {T : Type 0} (below : T → T → Bool) (joined : T → T → T) (minimum : T) (o : PartialOrderLaws below) (p : Dataflow) (w : State T) (k n : ℕ) (d : DeskView T) (held : List T) → IsHeldFor below held (due_on d n (node_of p n)) → (h : Hand T) → IsComputed h → hand_node h ≡ Some n → IsTrue (gives_passed h)
+    → IsOwn below joined minimum p w k d h → HoldsBeyondNewest below (give_state below p w (emission_of n k (output_of h)) held (cut below p (emission_of n k (output_of h)))) n k
+hand_beyond below joined minimum o p w k n d held is_held Free computed at passed x = absurd (false≢true passed)
+hand_beyond below joined minimum o p w k n d held is_held (Taken bundle more) computed at passed x = absurd computed
+hand_beyond below joined minimum o p w k n d held is_held (Kept m more) computed at passed x = absurd (false≢true passed)
+hand_beyond below joined minimum o p w k n d held is_held (Turned m upper) computed at passed x = absurd computed
+hand_beyond below joined minimum o p w k n d held is_held (Ready m us) computed at passed x =
+    ready_beyond below joined minimum o p w k n d held is_held us (cut below p (emission_of n k us)) (subst (λ j. IsOwn below joined minimum p w k d (Ready j us)) (same_Some m n at) x)
+hand_beyond below joined minimum o p w k n d held is_held (Sealed m batch) computed at passed x =
+    batch_beyond below joined minimum o p w k n d held is_held batch (cut below p (emission_of n k batch.updates)) (subst (λ j. IsOwn below joined minimum p w k d (Sealed j batch)) (same_Some m n at) x)
+
 module _ {T : Type 0} (below : T → T → Bool) (joined : T → T → T) (minimum : T) (o : PartialOrderLaws below) (old : Known (Doing T)) (before : IsActor below minimum old) (n : ℕ) (d : DeskView T) (h : Hand T) (computed : IsComputed h) (at : hand_node h ≡ Some n) (held : List T)
     (is_held : IsHeldFor below held (due_on d n (node_of (dataflow_of old) n))) (cuts : IsCut below (dataflow_of old) (emission_of n old.number (output_of h)) (cut below (dataflow_of old) (emission_of n old.number (output_of h)))) where
   abbrev p : Dataflow
@@ -203,6 +217,12 @@ module _ {T : Type 0} (below : T → T → Bool) (joined : T → T → T) (minim
         on_plan = down_on_plan below joined minimum p h d c found.on_plan down;
       })
 
+  -- of what was passed nothing is held then
+  pub gave_beyond : (new : Known (Doing T)) → IsActor below minimum new → Adds old (Give g held (cut below p g)) new → IsTrue (gives_passed h) → IsRightOf below joined minimum old d h → HoldsBeyondNewest below (state_left below minimum new) n old.number
+  gave_beyond new after adds passed x =
+      let t = tenure_of below joined minimum o old (Give g held (cut below p g)) new after adds in
+      subst (λ w. HoldsBeyondNewest below w n old.number) (sym t.left) (hand_beyond below joined minimum o p (state_found below minimum new) old.number n d held is_held h computed at passed (t.right d h x).own)
+
 -- what was sent was cut, and given
 was_sent : {T : Type 0} (below : T → T → Bool) (old new : Known (Doing T)) (g : Emission T) (held : List T) (step : Step) → step ≡ Gave → HasSent below old new g held step
     → IsCut below (dataflow_of old) g (cut below (dataflow_of old) g) × Adds old (Give g held (cut below (dataflow_of old) g)) new
@@ -219,3 +239,11 @@ pub sent_right : {T : Type 0} (below : T → T → Bool) (joined : T → T → T
 sent_right below joined minimum o old before n d h computed at held is_held new after step is sent c down x =
     let was = was_sent below old new (emission_of n old.number (output_of h)) held step is sent in
     gave_right below joined minimum o old before n d h computed at held is_held was.0 new after was.1 c down x
+
+-- and all that it holds at the node is beyond the input frontier that its newest take there found
+pub sent_beyond : {T : Type 0} (below : T → T → Bool) (joined : T → T → T) (minimum : T) (o : PartialOrderLaws below) (old : Known (Doing T)) → IsActor below minimum old → (n : ℕ) (d : DeskView T) (h : Hand T) → IsComputed h → hand_node h ≡ Some n → (held : List T)
+    → IsHeldFor below held (due_on d n (node_of (dataflow_of old) n)) → (new : Known (Doing T)) → IsActor below minimum new → (step : Step) → HasSent below old new (emission_of n old.number (output_of h)) held step → IsRightOf below joined minimum old d h
+    → HasLeftLater below minimum n old new h step
+sent_beyond below joined minimum o old before n d h computed at held is_held new after step sent x is passed =
+    let was = was_sent below old new (emission_of n old.number (output_of h)) held step is sent in
+    gave_beyond below joined minimum o old before n d h computed at held is_held was.0 new after was.1 passed x

@@ -17,11 +17,12 @@ use Rattle.shared_board.specs.declared.board.taking.Taken.TheVariants.{Bundled, 
 use Rattle.shared_board.specs.Found.{dataflow_of}
 use Rattle.shared_board.specs.Pieces.{IsTakenIn}
 use Rattle.shared_board.specs.Tenures.{Adds, IsActor, IsFirst, events, state_left, terms_for, terms_in}
-use Rattle.desk_laws.specs.Own.{DeskView, hand_node}
+use Rattle.desk_laws.specs.Observed.{HoldsBeyondNewest}
+use Rattle.desk_laws.specs.Own.{DeskView, gives_passed, hand_node}
 use Rattle.desk_laws.specs.declared.hand.Hand.{Hand}
 use Rattle.desk_laws.specs.declared.hand.Hand.TheVariants.{Free}
 use Rattle.desk.specs.Desks.{IsRight, IsSomeones, IsTooLarge, Leads}
-use Rattle.steps.specs.Steps.{HasGivenAt, HasStopped, HasTaken, HasTriedToGive, HasTriedToTake, IsStep, IsStepRefusal, LooksAtMost}
+use Rattle.steps.specs.Steps.{HasGivenAt, HasLeftLater, HasStopped, HasTaken, HasTriedToGive, HasTriedToTake, IsStep, IsStepRefusal, LooksAtMost}
 use Rattle.steps.specs.declared.step.Step.{Step}
 use Rattle.steps.specs.declared.step.Step.TheVariants.{Took}
 use Rattle.steps.specs.Workers.{HasSeenTooLarge, IsRightOf, IsWorker, WorkerView}
@@ -150,13 +151,15 @@ module _ {T : Type 0} (below : T → T → Bool) (minimum : T) (pick : ℕ) (old
   }
 
   -- a step that gave, or found the board away
-  pub gave_step : (n : ℕ) (mid new : WorkerView T) → hand_node old.hand ≡ Some n → mid.known ≡ old.known → hand_node mid.hand ≡ hand_node old.hand → (step : Step) → HasTriedToGive n mid.known new.known mid.hand new.hand step → IsStep below minimum pick old new step
-  gave_step n mid new at known node step (inl busy) = subst (IsStep below minimum pick old new) (sym busy.0) (busy.1 ∙ known, ap hand_node busy.2 ∙ node)
-  gave_step n mid new at known node step (inr gave) = subst (IsStep below minimum pick old new) (sym gave.0) (record {
+  pub gave_step : (n : ℕ) (mid new : WorkerView T) → hand_node old.hand ≡ Some n → mid.known ≡ old.known → hand_node mid.hand ≡ hand_node old.hand → (IsTrue (gives_passed old.hand) → IsTrue (gives_passed mid.hand)) → (step : Step) → HasTriedToGive n mid.known new.known mid.hand new.hand step
+      → HasLeftLater below minimum n mid.known new.known mid.hand step → IsStep below minimum pick old new step
+  gave_step n mid new at known node passed step (inl busy) later = subst (IsStep below minimum pick old new) (sym busy.0) (busy.1 ∙ known, ap hand_node busy.2 ∙ node)
+  gave_step n mid new at known node passed step (inr gave) later = subst (IsStep below minimum pick old new) (sym gave.0) (record {
     node = n;
     had = at;
     gave = subst (λ k. HasGivenAt n k new.known) known gave.2;
     free = gave.1;
+    beyond = λ was. subst (λ (k : Known (Doing T)). HoldsBeyondNewest below (state_left below minimum new.known) n k.number) known (later gave.0 (passed was));
   })
 
   -- a refusal of what was computed, of a piece that was in hand before

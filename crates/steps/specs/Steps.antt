@@ -17,9 +17,10 @@ use Rattle.shared_board.specs.declared.board.taking.Taken.{Taken as Piece}
 use Rattle.shared_board.specs.declared.board.taking.Taken.TheVariants.{Bundled, Turned as turned_piece, Nothing}
 use Rattle.shared_board.specs.Found.{WasQuiet, dataflow_of}
 use Rattle.shared_board.specs.Pieces.{IsTakenIn}
-use Rattle.shared_board.specs.Tenures.{Adds, state_found}
+use Rattle.shared_board.specs.Tenures.{Adds, state_found, state_left}
 use Rattle.operator_laws.specs.Gathering.{IsCut}
-use Rattle.desk_laws.specs.Own.{DeskView, hand_node}
+use Rattle.desk_laws.specs.Observed.{HoldsBeyondNewest}
+use Rattle.desk_laws.specs.Own.{DeskView, gives_passed, hand_node}
 use Rattle.desk_laws.specs.declared.hand.Hand.{Hand}
 use Rattle.desk_laws.specs.declared.hand.Hand.TheVariants.{Free, Taken, Turned, Ready, Sealed}
 use Rattle.desk.specs.Desks.{IsPutAway}
@@ -80,6 +81,12 @@ module _ {T : Type 0} (below : T → T → Bool) (joined : T → T → T) (minim
   IsPutDown p other d c = c ≡ d
 
 module _ {T : Type 0} (below : T → T → Bool) (minimum : T) where
+  -- where what was passed was given at a node, all that the actor holds there is beyond the input
+  -- frontier that its newest take there found
+  abbrev pub HasLeftLater : ℕ → Known (Doing T) → Known (Doing T) → Hand T → Step → Type 0
+  HasLeftLater n old new before step = step ≡ Gave → IsTrue (gives_passed before)
+      → HoldsBeyondNewest below (state_left below minimum new) n old.number
+
   -- a computation was refused: for want of memory, or because a number was too large. Then the worker
   -- has failed
   abbrev pub HasStopped : (T → T → Ordering) → WorkerView T → Refusal → Type 0
@@ -116,12 +123,16 @@ module _ {T : Type 0} (below : T → T → Bool) (minimum : T) (pick : ℕ) wher
     pub taken : IsTakenIn below minimum old.known new.known pick piece
     pub node : hand_node new.hand ≡ hand_node (hand_with piece)
 
-  -- the worker gave at the node of the piece that it had in hand, and is done with it
+  -- the worker gave at the node of the piece that it had in hand, and is done with it. If it had turned
+  -- to held times that are passed, or had its output ready, then all that it holds there from then on is
+  -- beyond the input frontier that its newest take there found
   pub record HasGiven (old new : WorkerView T) : Type 0 where
     pub node : ℕ
     pub had : hand_node old.hand ≡ Some node
     pub gave : HasGivenAt node old.known new.known
     pub free : new.hand ≡ Free
+    pub beyond : IsTrue (gives_passed old.hand)
+        → HoldsBeyondNewest below (state_left below minimum new.known) node old.known.number
 
   -- the worker had nothing in hand, and there was no piece for it. It knows whether the board was quiet
   pub record IsIdle (quiet : Bool) (old new : WorkerView T) : Type 0 where

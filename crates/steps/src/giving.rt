@@ -16,7 +16,7 @@ ghost use Rattle.shared_board.specs.Tenures.{state_left};
 ghost use Rattle.desk_laws.specs.Own.{IsHandOn, hand_node};
 ghost use Rattle.desk_laws.specs.declared.hand.Hand.TheVariants.{Free};
 ghost use Rattle.desk.specs.Desks.{IsComputed};
-ghost use Rattle.steps.specs.Steps.{HasSent, HasTriedToGive, IsPutDown, LooksAtMost, output_of};
+ghost use Rattle.steps.specs.Steps.{HasLeftLater, HasSent, HasTriedToGive, IsPutDown, LooksAtMost, output_of};
 ghost use Rattle.steps.specs.Workers.{IsRightOf};
 
 use crate::step::Step;
@@ -113,6 +113,7 @@ pub(crate) fn give<T: Minimum, P: BoardProtocol<T>>(
     requires right { IsRightOf T.below T.joined T.least actor.old desk.old hand.old }
     ensures right { IsRightOf T.below T.joined T.least actor.new desk.new hand.new }
     ensures tried { IfOk result (HasTriedToGive node actor.old actor.new hand.old hand.new) }
+    ensures beyond { IfOk result (HasLeftLater T.below T.least node actor.old actor.new hand.old) }
     ensures refused { IfErr result (λ refusal. (refusal ≡ OutOfMemory)
         × (hand.new ≡ hand.old) × LooksAtMost actor.old actor.new) }
 {

@@ -47,6 +47,9 @@ impl<T: Minimum, P: BoardProtocol<T>> Worker<T, P> {
     /// Makes one step. A worker with nothing in hand takes the piece of this number among those that
     /// it may take, reduced modulo how many there are. So a schedule is a list of numbers.
     ///
+    /// Once it has given what came of a turn to held times, all that it holds at that node is beyond
+    /// the input frontier that its newest take there found.
+    ///
     /// - [`Refusal::Failed`] only if an earlier step was refused with `Overflow`, and then always.
     /// - [`Refusal::Overflow`] only if, with the changes that the worker has seen, some node has no
     ///   bound below 2^63. It has failed then.

@@ -11,11 +11,11 @@ ghost use Rattle.histories.specs.declared.event.Event.TheVariants.{Look};
 ghost use Rattle.plan.specs.Nodes.{node_at};
 ghost use Rattle.shared_board.specs.Found.{dataflow_of};
 ghost use Rattle.shared_board.specs.Tenures.{Adds, IsActor, IsFirst, terms_for};
-ghost use Rattle.desk_laws.specs.Own.{hand_node};
+ghost use Rattle.desk_laws.specs.Own.{gives_passed, hand_node};
 ghost use Rattle.desk_laws.specs.declared.hand.Hand.TheVariants.{Free};
 ghost use Rattle.desk.specs.Desks.{IsComputed};
 ghost use Rattle.desk.specs.Tidying.{kept_of};
-ghost use Rattle.steps.specs.Steps.{HasStopped, HasTriedToGive, HasTriedToTake, IsTidyFor, LooksAtMost};
+ghost use Rattle.steps.specs.Steps.{HasLeftLater, HasStopped, HasTriedToGive, HasTriedToTake, IsTidyFor, LooksAtMost};
 ghost use Rattle.steps.specs.Workers.{HasSeenTooLarge, IsRightOf};
 
 use crate::giving::give;
@@ -157,6 +157,7 @@ impl<T: Minimum, P: BoardProtocol<T>> Worker<T, P> {
         requires going { self.old.failed ≡ false }
         ensures known { self.new.known ≡ self.old.known }
         ensures node { hand_node self.new.hand ≡ hand_node self.old.hand }
+        ensures passed { IsTrue (gives_passed self.old.hand) → IsTrue (gives_passed self.new.hand) }
         ensures computed { OnOk result (IsComputed self.new.hand × (self.new.failed ≡ false)) }
         ensures refused { IfErr result (HasStopped T.below T.least T.cmp self.new) }
     {
@@ -195,6 +196,8 @@ impl<T: Minimum, P: BoardProtocol<T>> Worker<T, P> {
         ensures going { self.new.failed ≡ false }
         ensures tried { IfOk result (HasTriedToGive node self.old.known self.new.known
             self.old.hand self.new.hand) }
+        ensures beyond { IfOk result (HasLeftLater T.below T.least node self.old.known
+            self.new.known self.old.hand) }
         ensures refused { IfErr result (λ refusal. (refusal ≡ OutOfMemory)
             × (self.new.hand ≡ self.old.hand) × LooksAtMost self.old.known self.new.known) }
     {

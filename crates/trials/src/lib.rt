@@ -24,6 +24,9 @@
 //! | `join_trials` | join |
 //! | `reduce_trials` | reduce |
 //! | `engine_trials` | hub, worker, script |
+//! | `step_trials` | steps |
+//! | `columns_trials` | columns, views |
+//! | `progress_trials`, `kept_trials` | progress |
 //!
 //! This crate is the lowest of them, and exports what tests of several crates are written with:
 //! [`at`], with which all tests write times; the [`sketches`] of nodes, plans and changes; and

@@ -2,9 +2,9 @@ use Rattle.desk_laws.proofs.LaidLemmas.{ready_from_kept, ready_from_turned}
 use Rattle.desk_laws.proofs.laying.ready_is_laid.Goals as goal
 
 pub returns-clause-kept : goal.returns-clause-kept
-returns-clause-kept g c p q w k d e sharing n within desks out split more plain waits joins x =
-    ready_from_kept g.T.PartialOrder.below g.T.Lattice.joined g.T.Minimum.least g.met.T.PartialOrder.order p q w k d e sharing n within desks out split more plain waits joins x
+returns-clause-kept g c p q w k d e sharing n within desks out split more plain waits joins all x =
+    ready_from_kept g.T.PartialOrder.below g.T.Lattice.joined g.T.Minimum.least g.met.T.PartialOrder.order p q w k d e sharing n within desks out split more plain waits joins all x
 
 pub returns-clause-turned : goal.returns-clause-turned
-returns-clause-turned g c p q w k d e sharing n within desks out split upper plain waits joins x =
-    ready_from_turned g.T.PartialOrder.below g.T.Lattice.joined g.T.Minimum.least g.met.T.PartialOrder.order p q w k d e sharing n within desks out split upper plain waits joins x
+returns-clause-turned g c p q w k d e sharing n within desks out split upper plain waits joins all x =
+    ready_from_turned g.T.PartialOrder.below g.T.Lattice.joined g.T.Minimum.least g.met.T.PartialOrder.order p q w k d e sharing n within desks out split upper plain waits joins all x

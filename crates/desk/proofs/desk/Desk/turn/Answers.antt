@@ -1,7 +1,7 @@
-use Rattle.std.proofs.Common.{◌≡◌, rules, refl, sym, subst, Some, ◌∙◌}
+use Rattle.std.proofs.Common.{◌≡◌, rules, refl, sym, subst, Some, IsTrue, ◌∙◌}
 use Rattle.std.proofs.lemmas.Result.{err_from_is_err_and}
 use Rattle.update.specs.Refusals.{IsMemoryOrOverflow}
-use Rattle.desk_laws.specs.Own.{hand_node}
+use Rattle.desk_laws.specs.Own.{gives_passed, hand_node}
 use Rattle.desk_laws.specs.declared.hand.Hand.{Hand}
 use Rattle.desk_laws.specs.declared.hand.Hand.TheVariants.{Ready, Turned}
 use Rattle.desk.specs.Desks.{IsComputed, IsTooLarge, Leads}
@@ -43,6 +43,7 @@ returns-in_err-gathered-in_default g c =
     record {
       leads = if_ok_err r (λ hand. Leads below joined least plan d h next hand) p.0 p.1;
       computed = if_ok_err r (λ hand. IsComputed hand × (hand_node hand ≡ Some c.args.node)) p.0 p.1;
+      passed = if_ok_err r (λ hand. IsTrue (gives_passed hand)) p.0 p.1;
       kept = on_err_always r (subst (λ y. Leads below joined least plan d h y h) (sym c.in_err-gathered-in_default.ensures.same) (leads_same below joined least plan d h));
       refused = if_err_at r (IsMemoryOrOverflow (IsTooLarge below joined least g.T.Ord.cmp plan d h)) c.in_err-gathered-in_default.field-0.0 p.0 p.1 (cc p.2) (memory_or (λ large. large h) c.in_err-gathered-in_default.ensures.refused);
     }
@@ -57,6 +58,7 @@ returns-in_ok-gathered-in_default g c = record {
       subst (λ h. Leads g.T.PartialOrder.below g.T.Lattice.joined g.T.Minimum.least c.args.plan.now c.args.self.now (Turned c.args.node c.args.upper.now) c.take_gathered.new.self h) (sym c.ready.ensures)
       (c.in_ok-gathered-in_default.ensures.turned c.args.upper.now);
   computed = subst (λ h. IsComputed h × (hand_node h ≡ Some c.args.node)) (sym c.ready.ensures) (tt, refl);
+  passed = subst (λ h. IsTrue (gives_passed h)) (sym c.ready.ensures) refl;
   kept = tt;
   refused = tt;
 }

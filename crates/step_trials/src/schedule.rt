@@ -1,0 +1,107 @@
+//! Orders of steps: one worker alone, and workers and pieces that are drawn. Between drawn steps a
+//! worker tidies, with little fuel.
+use lattice::Minimum;
+use shared_board::BoardProtocol;
+use std::alloc::Global;
+use steps::{Step, Worker};
+use trials::Draws;
+use update::Refusal;
+
+/// Steps one worker until it is idle. Answers whether the board was quiet then. `None` if the
+/// worker is still not idle after 10,000 steps.
+pub(crate) fn until_idle<T: Minimum, P: BoardProtocol<T>>(
+    alloc: Global,
+    worker: &mut Worker<T, P>,
+) -> Result<Option<bool>, Refusal> {
+    for _ in 0..10_000 {
+        if let Step::Idle { quiet } = worker.step(alloc)? {
+            return Ok(Some(quiet));
+        }
+    }
+    Ok(None)
+}
+
+/// The same, but a step that is refused memory is made again.
+pub(crate) fn until_idle_at_last<T: Minimum, P: BoardProtocol<T>>(
+    alloc: Global,
+    worker: &mut Worker<T, P>,
+) -> Result<Option<bool>, Refusal> {
+    for _ in 0..10_000 {
+        match worker.step(alloc) {
+            Ok(Step::Idle { quiet }) => return Ok(Some(quiet)),
+            Ok(_) | Err(Refusal::OutOfMemory) => {}
+            Err(refusal) => return Err(refusal),
+        }
+    }
+    Ok(None)
+}
+
+// A worker that is drawn makes a step, with a piece that is drawn, and tidies.
+fn drawn_step<T: Minimum, P: BoardProtocol<T>>(
+    alloc: Global,
+    workers: &mut [Worker<T, P>],
+    draws: &mut Draws,
+) -> Result<Step, Refusal> {
+    if workers.is_empty() {
+        return Err(Refusal::BadWorkers);
+    }
+    let drawn = draws.below(workers.len() as u64) as usize;
+    let pick = draws.below(20) as usize;
+    let worker = &mut workers[drawn];
+    let step = worker.step_at(alloc, pick)?;
+    let _tidy = worker.tidy(alloc, draws.below(3))?;
+    Ok(step)
+}
+
+/// Makes so many drawn steps.
+pub(crate) fn drawn_steps<T: Minimum, P: BoardProtocol<T>>(
+    alloc: Global,
+    workers: &mut [Worker<T, P>],
+    draws: &mut Draws,
+    count: u64,
+) -> Result<(), Refusal> {
+    for _ in 0..count {
+        let _step = drawn_step(alloc, workers, draws)?;
+    }
+    Ok(())
+}
+
+/// Makes drawn steps until one of them finds the board quiet. `false` if none of 100,000 does.
+pub(crate) fn until_quiet<T: Minimum, P: BoardProtocol<T>>(
+    alloc: Global,
+    workers: &mut [Worker<T, P>],
+    draws: &mut Draws,
+) -> Result<bool, Refusal> {
+    for _ in 0..100_000 {
+        if let Step::Idle { quiet: true } = drawn_step(alloc, workers, draws)? {
+            return Ok(true);
+        }
+    }
+    Ok(false)
+}
+
+/// Whether all that may be merged is, once each worker tidies with the greatest fuel.
+pub(crate) fn are_tidy<T: Minimum, P: BoardProtocol<T>>(
+    alloc: Global,
+    workers: &mut [Worker<T, P>],
+) -> Result<bool, Refusal> {
+    for worker in workers {
+        if !worker.tidy(alloc, u64::MAX)? {
+            return Ok(false);
+        }
+    }
+    Ok(true)
+}
+
+/// Whether a step of each worker, one after another, finds the board quiet.
+pub(crate) fn are_idle<T: Minimum, P: BoardProtocol<T>>(
+    alloc: Global,
+    workers: &mut [Worker<T, P>],
+) -> Result<bool, Refusal> {
+    for worker in workers {
+        if !matches!(worker.step(alloc)?, Step::Idle { quiet: true }) {
+            return Ok(false);
+        }
+    }
+    Ok(true)
+}
