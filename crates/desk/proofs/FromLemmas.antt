@@ -1,4 +1,4 @@
--- From one desk and hand to the next: whoever had the one has the other.
+-- From one desk and hand to the next: the next are right for each worker that had the ones before.
 use Rattle.std.proofs.Common.{Bool, List}
 use Rattle.std.specs.declared.cmp.Ordering.{Ordering}
 use Rattle.plan.specs.declared.node.Node.{Node}

@@ -102,7 +102,7 @@ module _ {T : Type 0} (below : T → T → Bool) (joined : T → T → T) (minim
       on_plan = record { places = x.on_plan.places; wide = x.on_plan.wide; joins = x.on_plan.joins; hand = x.on_plan.hand };
     }
 
-  -- whoever had the desk has the other, if the joins still share it
+  -- the other desk is right for each worker that had the one, if the joins still share it
   pub leads_with : (plan : List Node) → ((p : Dataflow) → p.nodes ≡ plan → AreSharing below minimum p d → AreSharing below minimum p c) → LeadsOn below joined minimum plan d c
   leads_with plan sharing h e p q nodes es legal k x = right_on p (sharing p nodes x.own.sharing) (state_after below minimum p es) k h e x
 

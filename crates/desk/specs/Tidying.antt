@@ -73,11 +73,11 @@ module _ {T : Type 0} where
     abbrev pub MayTidy : DeskView T → Type 0
     MayTidy d = (h : Hand T) × (is_sealed h ≡ false) × IsSomeones below joined minimum plan d h
 
-    -- whoever has the one desk, with no batch in hand: the other would be right for it, too
+    -- if a worker has the one desk, and no batch in hand, then the other would be right for it, too
     abbrev pub LeadsOn : DeskView T → DeskView T → Type 0
     LeadsOn d c = (h : Hand T) → is_sealed h ≡ false → Leads below joined minimum plan d h c h
 
-    -- whoever has the desk, with no batch in hand: some node has no bound below 2^63
+    -- if a worker has the desk, and no batch in hand, then some node has no bound below 2^63
     abbrev pub IsTooLargeOn : (T → T → Ordering) → DeskView T → Type 0
     IsTooLargeOn cmp d = (h : Hand T) → is_sealed h ≡ false → IsTooLarge below joined minimum cmp plan d h
 
