@@ -6,13 +6,14 @@ ghost use Rattle.plan.specs.declared.node.Node.TheVariants.{Input, Output};
 ghost use Rattle.hub.specs.Known.{Known};
 ghost use Rattle.histories.specs.declared.event.Event.TheVariants.{Look};
 ghost use Rattle.shared_board.specs.declared.event.Doing.{Doing};
-ghost use Rattle.worker.specs.Tenures.{Adds, IsActor, IsFirst, Terms, state_left, terms_for, terms_in};
+ghost use Rattle.shared_board.specs.Tenures.{Adds, IsActor, IsFirst, Terms, state_left, terms_for, terms_in};
 
 use antichain::Antichain;
 use lattice::{Bitime, Minimum};
 use machine::Bundle;
 use plan::{Node, NodeId, Plan, PlanBuilder};
 use row::Row;
+use shared_board::{Actor, Boards, Taken, open, others_change_nothing_of_a_worker};
 use std::alloc::Global;
 use std::marker::Model;
 use std::process::Abort;
@@ -20,7 +21,6 @@ use std::sync::Wait;
 use std::test::Fail;
 use trials::at;
 use update::{Bag, Refusal, Update};
-use worker::{Actor, Boards, Taken, open, others_change_nothing_of_a_worker};
 
 // The plan of an input of one column and a view of it.
 fn viewed(alloc: Global) -> Result<Plan, Refusal>
@@ -108,7 +108,7 @@ impl<T: Minimum> Model for Idle<T> {
     ghost use Rattle.plan.specs.declared.node.Node.TheVariants.{Input, Output};
     ghost use Rattle.hub.specs.Known.{Known};
     ghost use Rattle.shared_board.specs.declared.event.Doing.{Doing};
-    ghost use Rattle.worker.specs.Tenures.{state_left, terms_for, terms_in};
+    ghost use Rattle.shared_board.specs.Tenures.{state_left, terms_for, terms_in};
 
     ghost Value = { Known (Doing T) };
 

@@ -3,14 +3,14 @@ ghost use Rattle.std.specs.Prelude.{◌≡◌, ℕ, IfOk, IfErr, OnOk, Some, len
 ghost use Rattle.hub.specs.Known.{Known};
 ghost use Rattle.shared_board.specs.declared.event.Doing.{Doing};
 ghost use Rattle.update.specs.declared.refusal.Refusal.TheVariants.{OutOfMemory};
-ghost use Rattle.worker.specs.Tenures.{IsFirst, terms_for};
+ghost use Rattle.shared_board.specs.Tenures.{IsFirst, terms_for};
 
 use lattice::{Bitime, Minimum};
 use plan::Plan;
+use shared_board::{Actor, BitemporalBoards, BoardProtocol, open};
 use std::alloc::Global;
 use std::sync::Wait;
 use update::Refusal;
-use worker::{Actor, BitemporalBoards, BoardProtocol, open};
 
 /// An actor of a board whose times are pairs.
 pub type BoardActor = Actor<Bitime, BitemporalBoards>;
@@ -42,7 +42,7 @@ fn open_into<T: Minimum, P: BoardProtocol<T>, R: Wait>(
 }
 
 /// The worker and the client of a new board of this plan: actors 0 and 1, each of which has looked
-/// once. Refused only with `OutOfMemory`. Cost: that of [`worker::open`].
+/// once. Refused only with `OutOfMemory`. Cost: that of [`shared_board::open`].
 pub fn worker_and_client<R: Wait>(rt: &R, alloc: Global, plan: &Plan) -> Result<Players, Refusal>
     ensures worker { IfOk result (λ both. IsFirst (terms_for plan.now 1 1) 0 both.worker) }
     ensures client { IfOk result (λ both. IsFirst (terms_for plan.now 1 1) 1 both.client) }

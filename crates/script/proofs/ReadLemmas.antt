@@ -27,7 +27,7 @@ use Rattle.histories.specs.Histories.Readings.{is_from_start}
 use Rattle.histories.proofs.HistoryLemmas.FlowLemmas.{is_passed, not_beyond}
 use Rattle.histories.proofs.HistoryLemmas.PassedLemmas.{passed_down}
 use Rattle.histories.proofs.HistoryLemmas.QuietLemmas.{beyond_elements}
-use Rattle.worker.specs.Tenures.{HasLargeListed, read_refusal_in, changes_refusal_in}
+use Rattle.shared_board.specs.Tenures.{HasLargeListed, read_refusal_in, changes_refusal_in}
 use Rattle.script.specs.Bags.{consolidated_bag}
 use Rattle.script.specs.Engines.{IsFound}
 use Rattle.script.specs.Orders.{in_order}

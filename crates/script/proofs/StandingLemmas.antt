@@ -35,9 +35,9 @@ use Rattle.histories.proofs.HistoryLemmas.PlaceLemmas.{in_place_lem}
 use Rattle.histories.proofs.HistoryLemmas.QuietLemmas.{caught_up_lem}
 use Rattle.grammar.specs.Commands.{is_input_of}
 use Rattle.shared_board.specs.declared.event.Doing.{Doing}
-use Rattle.worker.specs.Found.{dataflow_of}
-use Rattle.worker.specs.Large.{HasNoSmallBound}
-use Rattle.worker.specs.Tenures.{Adds, AreKnown, AreOn, IsActor, IsFirst, Terms, doing, events, feed_refusal_in, advance_refusal_in, left_by, state_found, state_left, terms_for, terms_in}
+use Rattle.shared_board.specs.Found.{dataflow_of}
+use Rattle.shared_board.specs.Large.{HasNoSmallBound}
+use Rattle.shared_board.specs.Tenures.{Adds, AreKnown, AreOn, IsActor, IsFirst, Terms, doing, events, feed_refusal_in, advance_refusal_in, left_by, state_found, state_left, terms_for, terms_in}
 use Rattle.shared_board.proofs.ActorLemmas.{only_client}
 use Rattle.shared_board.proofs.QuietLemmas.{stays}
 use Rattle.script.specs.Engines.{IsTold}

@@ -21,8 +21,8 @@ use Rattle.histories.specs.declared.event.Event.TheVariants.{Look}
 use Rattle.histories.specs.Histories.Readings.{IsQuiet}
 use Rattle.oracle.specs.Evaluation.{inputs_before}
 use Rattle.shared_board.specs.declared.event.Doing.{Doing}
-use Rattle.worker.specs.Found.{dataflow_of}
-use Rattle.worker.specs.Tenures.{IsActor, IsFirst, doing, state_left, terms_for}
+use Rattle.shared_board.specs.Found.{dataflow_of}
+use Rattle.shared_board.specs.Tenures.{IsActor, IsFirst, doing, state_left, terms_for}
 use Rattle.script.specs.OracleStanding.{Register, IsRegister, Records}
 use Rattle.script.specs.Standing.{StandsAs}
 use Rattle.script.specs.Text.{opening_session}

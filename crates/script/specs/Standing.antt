@@ -5,8 +5,8 @@ use Rattle.outstanding.specs.Inputs.{front_at}
 use Rattle.histories.specs.Histories.Dataflows.{Dataflow}
 use Rattle.histories.specs.Histories.States.{State, open_at}
 use Rattle.shared_board.specs.declared.event.Doing.{Doing}
-use Rattle.worker.specs.Found.{dataflow_of}
-use Rattle.worker.specs.Tenures.{state_left}
+use Rattle.shared_board.specs.Found.{dataflow_of}
+use Rattle.shared_board.specs.Tenures.{state_left}
 use Rattle.script.specs.Sessions.{Session}
 
 module _ {T : Type 0} where

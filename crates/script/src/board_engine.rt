@@ -12,8 +12,8 @@ ghost use Rattle.lattice.specs.declared.product.Pair.{Pair};
 ghost use Rattle.shared_board.specs.declared.event.Doing.{Doing};
 ghost use Rattle.update.specs.declared.refusal.Refusal.TheVariants.{OutOfMemory};
 ghost use Rattle.histories.specs.Histories.Readings.{IsQuiet};
-ghost use Rattle.worker.specs.Found.{dataflow_of};
-ghost use Rattle.worker.specs.Tenures.{IsFirst, state_left, terms_for};
+ghost use Rattle.shared_board.specs.Found.{dataflow_of};
+ghost use Rattle.shared_board.specs.Tenures.{IsFirst, state_left, terms_for};
 ghost use Rattle.script.specs.Standing.{StandsAs};
 ghost use Rattle.script.specs.Text.{BitemporalSession, opening_session};
 ghost use Rattle.lattice.specs.Bitimes.{bitime_below};
@@ -25,11 +25,11 @@ use crate::sole_worker::SoleWorker;
 use antichain::Antichain;
 use lattice::{Bitime, Minimum};
 use plan::{NodeId, Plan};
+use shared_board::{Actor, BitemporalBoards, BoardProtocol, open};
 use std::alloc::Global;
 use std::marker::Model;
 use std::sync::Wait;
 use update::{Bag, Refusal, Times, Update, Updates};
-use worker::{Actor, BitemporalBoards, BoardProtocol, open};
 
 pub(crate) type BoardActor = Actor<Bitime, BitemporalBoards>;
 
@@ -45,8 +45,8 @@ impl<'a, R: Wait> Model for BoardEngine<'a, R> {
     ghost use Rattle.std.specs.Prelude.{◌≡◌, ℕ};
     ghost use Rattle.hub.specs.Known.{Known};
     ghost use Rattle.lattice.specs.declared.product.Pair.{Pair};
-    ghost use Rattle.worker.specs.Found.{dataflow_of};
-    ghost use Rattle.worker.specs.Tenures.{terms_for, terms_in};
+    ghost use Rattle.shared_board.specs.Found.{dataflow_of};
+    ghost use Rattle.shared_board.specs.Tenures.{terms_for, terms_in};
     ghost use Rattle.shared_board.specs.declared.event.Doing.{Doing};
 
     ghost Value = { Known (Doing (Pair ℕ ℕ)) };
@@ -168,8 +168,8 @@ impl<'a, R: Wait> Engine for BoardEngine<'a, R> {
     ghost use Rattle.lattice.specs.Bitimes.{bitime_below};
     ghost use Rattle.lattice.specs.Pairs.{make_pair};
     ghost use Rattle.histories.specs.Histories.Readings.{IsQuiet};
-    ghost use Rattle.worker.specs.Found.{dataflow_of};
-    ghost use Rattle.worker.specs.Tenures.{state_left};
+    ghost use Rattle.shared_board.specs.Found.{dataflow_of};
+    ghost use Rattle.shared_board.specs.Tenures.{state_left};
     ghost use Rattle.script.specs.Standing.{StandsAs};
     ghost use Rattle.script.specs.Bounds.{EndsByBound, ends_by_bound};
 

@@ -14,7 +14,7 @@
 //!   stands for a session. A command either changes an input or asks about a view. Before a
 //!   question, the loop lets the engine catch up.
 //! - There are two engines. `board_engine` reaches a board of crate `machine` through a hub:
-//!   commands are events of its client there, and its worker (`sole_worker`, over crate `worker`)
+//!   commands are events of its client there, and its worker (`sole_worker`, over crate `steps`)
 //!   carries on what is in flight. The theorems about histories then say that its views are right.
 //!   `oracle_engine` keeps the changes and computes each answer from scratch, by crate `oracle`. So
 //!   the text of the first engine can be compared with that of the second.

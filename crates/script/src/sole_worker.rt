@@ -1,57 +1,54 @@
-//! The only worker of a board, with all that its passes need.
+//! The only worker of a board.
 //!
-//! A pass goes over the plan once. It leaves the board quiet, if no client changed anything
-//! meanwhile. Only a number that is too large stops the worker before, or want of memory. It may
-//! then have a bundle in hand, so it makes no further pass.
-ghost use Rattle.std.specs.Prelude.{◌≡◌, None, IfErr, IfOk, OnOk};
-ghost use Rattle.lattice.specs.Bitimes.{bitime_below, bitime_cmp};
+//! It steps until there is no piece for it, and then tidies its desk. As the only worker it leaves the
+//! board quiet, if no client changed anything meanwhile. Only a number that is too large stops it
+//! before, or want of memory.
+ghost use Rattle.std.specs.Prelude.{◌≡◌, ◌⊎◌, Err, IfErr, IsTrue, OnErr, OnOk};
+ghost use Rattle.lattice.specs.Bitimes.{bitime_below};
 ghost use Rattle.lattice.specs.Pairs.{make_pair};
+ghost use Rattle.update.specs.declared.refusal.Refusal.{Refusal};
 ghost use Rattle.update.specs.declared.refusal.Refusal.TheVariants.{OutOfMemory};
-ghost use Rattle.worker.specs.Tenures.{IsFirst, terms_for};
-ghost use Rattle.script.specs.Employment.{HasPassed};
+ghost use Rattle.shared_board.specs.Tenures.{IsFirst, terms_for};
+ghost use Rattle.script.specs.Employment.{HasNothingToDo, HasPaused};
+ghost use Rattle.script.specs.declared.sole_worker.Work.TheVariants.{Stopped};
 
 use crate::board_engine::BoardActor;
 use lattice::Bitime;
-use machine::Routing;
 use plan::Plan;
+use shared_board::BitemporalBoards;
 use std::alloc::Global;
 use std::marker::Model;
+use std::mem;
 use std::sync::Wait;
+use steps::{Step, Worker};
 use update::Refusal;
-use worker::{Desk, relay};
 
-/// The only worker of a board. A contract sees what its pass has seen, and what stopped it.
+type BoardWorker = Worker<Bitime, BitemporalBoards>;
+
+/// The only worker of a board. A contract sees the worker, or what stopped it.
 #[derive(Drop)]
 pub(crate) struct SoleWorker<'a, R: Wait> {
     runtime: &'a R,
-    actor: BoardActor,
-    // What the worker keeps at each node.
-    desk: Desk<Bitime>,
-    plan: Plan,
-    // How the worker's output is cut into bundles for the nodes that read it.
-    routing: Routing,
-    stopped: Option<Refusal>,
+    work: Work,
+}
+
+// The worker, or what stopped it.
+#[derive(Drop)]
+enum Work {
+    Runs(BoardWorker),
+    Stopped(Refusal),
 }
 
 impl<'a, R: Wait> Model for SoleWorker<'a, R> {
-    ghost use Rattle.std.specs.Prelude.{◌≡◌, ℕ};
-    ghost use Rattle.lattice.specs.Bitimes.{bitime_below, bitime_join};
-    ghost use Rattle.lattice.specs.Pairs.{make_pair};
-    ghost use Rattle.lattice.specs.declared.product.Pair.{Pair};
-    ghost use Rattle.worker.specs.Found.{dataflow_of};
-    ghost use Rattle.script.specs.Employment.{Employed, IsReadyUnless};
+    ghost use Rattle.script.specs.declared.sole_worker.Work.{Work};
 
-    ghost Value = { Employed (Pair ℕ ℕ) };
+    ghost Value = { Work };
 
-    ghost view = { λ w. record { known = w.actor; stopped = w.stopped } };
-
-    ghost invariant = { λ w. (w.plan ≡ (dataflow_of w.actor).nodes)
-        × (w.routing ≡ dataflow_of w.actor)
-        × IsReadyUnless bitime_below (make_pair 0 0) bitime_join w.stopped w.actor w.desk };
+    ghost view = { λ w. w.work };
 }
 
 impl<'a, R: Wait> SoleWorker<'a, R> {
-    /// A worker that has made no pass, from an actor that has looked once. Refused only with
+    /// A worker that has made no step, from an actor that has looked once. Refused only with
     /// `OutOfMemory`.
     pub(crate) fn new(
         runtime: &'a R,
@@ -60,58 +57,84 @@ impl<'a, R: Wait> SoleWorker<'a, R> {
         actor: BoardActor,
     ) -> Result<SoleWorker<'a, R>, Refusal>
         requires first { IsFirst (terms_for plan.now 1 1) 0 actor }
-        ensures actor { IfOk result (λ worker. worker ≡ record { known = actor; stopped = None }) }
         ensures refused { IfErr result (λ refusal. refusal ≡ OutOfMemory) }
     {
-        let routing = Routing::of(alloc, plan, 1)?;
-        let desk = Desk::open(alloc, plan)?;
-        let own = plan.clone()?;
-        actor.known();
+        let worker = Worker::new(alloc, actor, plan, 1, 0)?;
         Ok(SoleWorker {
             runtime,
-            actor,
-            desk,
-            plan: own,
-            routing,
-            stopped: None,
+            work: Work::Runs(worker),
         })
     }
 
-    /// One pass. What is too large the worker tells, and then the clients hear of it. Refused only
-    /// with `OutOfMemory`. A worker that was stopped does nothing more, and is refused again if it
-    /// was for want of memory.
+    /// Steps until there is no piece. What is too large the worker tells, and then the clients hear of
+    /// it. Refused only with `OutOfMemory`. A worker that was stopped does nothing more, and is refused
+    /// again if it was for want of memory.
     ///
-    /// Cost: that of [`relay`].
+    /// Cost: that of [`Worker::step`] for each piece, and of [`Worker::tidy`] without fuel.
     pub(crate) fn carry_on(&mut self, alloc: Global) -> Result<(), Refusal>
-        ensures passed { self.old.stopped ≡ None → OnOk result
-            (HasPassed bitime_below (make_pair 0 0) bitime_cmp self.old.known self.new) }
+        ensures idle { OnOk result (HasPaused bitime_below (make_pair 0 0) self.new) }
+        ensures stays { (refusal : Refusal) → self.old ≡ Stopped refusal
+            → self.new ≡ Stopped refusal }
+        ensures halted { self.new ≡ Stopped OutOfMemory → result ≡ Err OutOfMemory }
+        ensures stops { OnErr result (self.new ≡ Stopped OutOfMemory) }
         ensures refused { IfErr result (λ refusal. refusal ≡ OutOfMemory) }
     {
-        if let Some(refusal) = self.stopped {
-            return match refusal {
-                Refusal::Overflow => Ok(()),
-                _ => Err(Refusal::OutOfMemory),
-            };
-        }
-        let passed = relay(
-            alloc,
-            self.runtime,
-            &self.plan,
-            &self.routing,
-            &mut self.actor,
-            &mut self.desk,
-        );
-        match passed {
-            Ok(()) => Ok(()),
-            Err(Refusal::Overflow) => {
-                self.actor.tell_too_large(self.runtime);
-                self.stopped = Some(Refusal::Overflow);
-                Ok(())
-            }
-            Err(_) => {
-                self.stopped = Some(Refusal::OutOfMemory);
-                Err(Refusal::OutOfMemory)
-            }
+        let work = mem::replace(&mut self.work, Work::Stopped(Refusal::OutOfMemory));
+        self.work = work.carried_on(self.runtime, alloc);
+        self.work.answer()
+    }
+}
+
+impl Work {
+    // What comes of the work: the worker goes on until there is no piece for it.
+    fn carried_on<R: Wait>(self, runtime: &R, alloc: Global) -> Work
+        ensures idle { HasPaused bitime_below (make_pair 0 0) result }
+        ensures stays { (refusal : Refusal) → self ≡ Stopped refusal → result ≡ Stopped refusal }
+    {
+        match self {
+            Work::Runs(worker) => finish(runtime, alloc, worker),
+            Work::Stopped(refusal) => Work::Stopped(refusal),
         }
     }
+
+    // What the caller hears of it.
+    fn answer(&self) -> Result<(), Refusal>
+        ensures halted { self.now ≡ Stopped OutOfMemory → result ≡ Err OutOfMemory }
+        ensures stops { OnErr result (self.now ≡ Stopped OutOfMemory) }
+        ensures refused { IfErr result (λ refusal. refusal ≡ OutOfMemory) }
+    {
+        match self {
+            Work::Stopped(Refusal::OutOfMemory) => Err(Refusal::OutOfMemory),
+            _ => Ok(()),
+        }
+    }
+}
+
+// The worker goes on until there is no piece for it, and then tidies. If it has failed, it tells that.
+fn finish<R: Wait>(runtime: &R, alloc: Global, mut worker: BoardWorker) -> Work
+    ensures idle { HasPaused bitime_below (make_pair 0 0) result }
+{
+    match clear(runtime, alloc, &mut worker) {
+        Ok(()) => Work::Runs(worker),
+        Err(Refusal::OutOfMemory) => Work::Stopped(Refusal::OutOfMemory),
+        Err(refusal) => {
+            worker.tell_too_large(runtime);
+            Work::Stopped(refusal)
+        }
+    }
+}
+
+// Steps until there is no piece, and tidies.
+fn clear<R: Wait>(runtime: &R, alloc: Global, worker: &mut BoardWorker) -> Result<(), Refusal>
+    ensures idle { OnOk result (HasNothingToDo bitime_below (make_pair 0 0) worker.new) }
+    ensures refused { IfErr result (λ refusal.
+        (refusal ≡ OutOfMemory) ⊎ IsTrue worker.new.failed) }
+{
+    for _ in runtime.forever() {
+        if let Step::Idle { .. } = worker.step(alloc)? {
+            worker.tidy(alloc, 0)?;
+            return Ok(());
+        }
+    }
+    unreachable!()
 }

@@ -8,7 +8,7 @@
 //! An actor knows what it has seen. The clauses of a call are about the state that the call found
 //! and the state that it left. The laws of sharing say which events of other actors do not matter.
 //! All of this holds for any number of workers and clients. A worker computes between two tenures,
-//! without the board (crates `operator` and `worker`).
+//! without the board (crates `operator` and `desk`).
 #![tactic(auto)]
 
 mod actor;

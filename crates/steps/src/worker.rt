@@ -28,6 +28,7 @@ use plan::{NodeId, Plan};
 use shared_board::{Actor, BoardProtocol};
 use std::alloc::Global;
 use std::marker::Model;
+use std::sync::Wait;
 use update::Refusal;
 
 /// A worker of a board. A contract sees what it has seen, its desk, its hand, and whether it failed.
@@ -110,6 +111,16 @@ impl<T: Minimum, P: BoardProtocol<T>> Worker<T, P> {
             return 0;
         }
         self.desk.kept(&self.plan, node)
+    }
+
+    /// A worker that has failed tells its board that a number is too large with the changes that it has
+    /// seen ([`Actor::tell_too_large`]). It takes no more steps, so it is consumed. Takes no memory.
+    pub fn tell_too_large<R: Wait>(self, rt: &R)
+        requires failed { IsTrue self.failed }
+    {
+        self.known();
+        let Worker { mut actor, .. } = self;
+        actor.tell_too_large(rt);
     }
 
     // Whether an earlier step met a number that is too large.

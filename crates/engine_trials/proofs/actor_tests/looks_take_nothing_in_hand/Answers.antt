@@ -1,9 +1,9 @@
-use Rattle.std.proofs.Common.{◌≡◌, ◌∙◌, ◌∷◌, ◌++◌, [], ℕ, List, None, ap, sym, subst}
+use Rattle.std.proofs.Common.{◌∙◌, [], ℕ, List, ap, sym, subst}
 use Rattle.std.proofs.lemmas.List.{append-nil}
 use Rattle.hub.specs.declared.view.Entry.{Entry}
 use Rattle.hub.specs.Known.{Known}
 use Rattle.shared_board.specs.declared.event.Doing.{Doing}
-use Rattle.worker.specs.Tenures.{AreKnown, AreOn, left_by, state_left, terms_in}
+use Rattle.shared_board.specs.Tenures.{AreKnown, AreOn, left_by, state_left, terms_in}
 use Rattle.engine_trials.proofs.actor_tests.looks_take_nothing_in_hand.Goals as goal
 
 -- before the worker's own look there is nothing but what others did

@@ -1,8 +1,8 @@
-use Rattle.std.proofs.Common.{◌≡◌, ◌∙◌, ◌∷◌, ◌++◌, [], ℕ, suc, List, Some, length, length-append, ap, arith, subst}
+use Rattle.std.proofs.Common.{◌≡◌, ◌∙◌, ◌∷◌, ◌++◌, [], suc, List, Some, length, length-append, ap, arith, subst}
 use Rattle.std.specs.Prelude.{option_to_list, slice_get}
 use Rattle.plan.specs.declared.node.Node.{Node}
 use Rattle.plan.specs.declared.node.Node.TheVariants.{Input, Output}
-use Rattle.worker.specs.Tenures.{IsFirst, terms_for, terms_in}
+use Rattle.shared_board.specs.Tenures.{IsFirst, terms_for, terms_in}
 use Rattle.engine_trials.proofs.actor_tests.opened.Goals as goal
 
 -- a list of two, from its end

@@ -1,10 +1,10 @@
-use Rattle.std.proofs.Common.{◌≡◌, ℕ, ◌<◌, List, ◌∷◌, [], length, IsTrue, sym, refl, subst, ap, ◌∙◌, arith, rules}
+use Rattle.std.proofs.Common.{ℕ, ◌<◌, List, ◌∷◌, [], length, IsTrue, sym, refl, subst, ap, arith}
 use Rattle.plan.specs.Nodes.{is_input}
 use Rattle.plan.specs.declared.node.Kind.TheVariants.{Min}
 use Rattle.plan.specs.declared.node.Node.{Node}
 use Rattle.plan.specs.declared.node.Node.TheVariants.{Arrange, Input, Output, Reduce}
 use Rattle.histories.specs.Histories.Dataflows.{node_of}
-use Rattle.worker.specs.Tenures.{Terms, terms_for, terms_in}
+use Rattle.shared_board.specs.Tenures.{Terms, terms_for, terms_in}
 use Rattle.engine_trials.proofs.worker_tests.is_carried.Goals as goal
 
 abbrev least_rows_plan : List Node
@@ -20,21 +20,6 @@ feed-requires-clause-client g c =
 pub feed-requires-clause-input : goal.feed-requires-clause-input
 feed-requires-clause-input g c =
     let terms = ap terms_in c.in_ok-worker.ensures.client.seen in
-    subst (λ (t : Terms). (c.new-2.result < length t.dataflow.nodes) × IsTrue (is_input (node_of t.dataflow c.new-2.result))) (sym terms)
-    (subst (λ (p : List Node). (c.new-2.result < length p) × IsTrue (is_input (node_of (terms_for p 1 1).dataflow c.new-2.result))) (sym c.in_ok-plan.ensures)
-    (subst (λ (n : ℕ). (n < length least_rows_plan) × IsTrue (is_input (node_of (terms_for least_rows_plan 1 1).dataflow n))) (sym c.new-2.ensures) (omega (arith), refl)))
-
--- the worker has looked once, so the desk is ready for its first pass
-pub relay-requires : goal.relay-requires
-relay-requires g c =
-    let first = c.in_ok-worker.ensures.worker in
-    let terms = ap terms_in first.seen in (
-      search rules,
-      (
-        sym (ap (λ (t : Terms). t.dataflow.nodes) terms),
-        (
-          c.in_ok-routing.ensures.routing ∙ sym (ap (λ (t : Terms). t.dataflow) terms),
-          c.the_first_pass_may_begin.ensures (terms_for c.in_ok-plan.plan 1 1) refl c.in_ok-worker.field-0.worker c.in_ok-desk.desk c.known.ensures first c.in_ok-desk.ensures.ready,
-        ),
-      ),
-    )
+    subst (λ (t : Terms). (c.new-3.result < length t.dataflow.nodes) × IsTrue (is_input (node_of t.dataflow c.new-3.result))) (sym terms)
+    (subst (λ (p : List Node). (c.new-3.result < length p) × IsTrue (is_input (node_of (terms_for p 1 1).dataflow c.new-3.result))) (sym c.in_ok-plan.ensures)
+    (subst (λ (n : ℕ). (n < length least_rows_plan) × IsTrue (is_input (node_of (terms_for least_rows_plan 1 1).dataflow n))) (sym c.new-3.ensures) (omega (arith), refl)))

@@ -5,7 +5,7 @@ use Rattle.lattice.specs.Naturals.{nat_order}
 use Rattle.lattice.specs.Pairs.{make_pair, pair_order}
 use Rattle.lattice.specs.declared.product.Pair.{Pair}
 use Rattle.histories.specs.declared.event.Event.TheVariants.{Look}
-use Rattle.worker.specs.Tenures.{Terms}
+use Rattle.shared_board.specs.Tenures.{Terms}
 use Rattle.shared_board.specs.declared.event.Doing.{Doing}
 use Rattle.script.specs.Standing.{StandsAs}
 use Rattle.script.proofs.StandingLemmas.{after_looked, client_step}

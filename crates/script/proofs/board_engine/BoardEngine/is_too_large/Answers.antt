@@ -6,8 +6,8 @@ use Rattle.lattice.specs.Naturals.{nat_order, nat_bounds, nat_extends}
 use Rattle.lattice.specs.Pairs.{make_pair, pair_order, pair_bounds, pair_extends}
 use Rattle.lattice.specs.declared.product.Pair.{Pair}
 use Rattle.histories.specs.declared.event.Event.TheVariants.{Look}
-use Rattle.worker.specs.Found.{dataflow_of}
-use Rattle.worker.specs.Tenures.{Terms, state_found, state_left}
+use Rattle.shared_board.specs.Found.{dataflow_of}
+use Rattle.shared_board.specs.Tenures.{Terms, state_found, state_left}
 use Rattle.shared_board.specs.declared.event.Doing.{Doing}
 use Rattle.script.specs.Bounds.{IsLarge}
 use Rattle.script.specs.Standing.{StandsAs}

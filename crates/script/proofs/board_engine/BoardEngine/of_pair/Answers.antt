@@ -2,7 +2,7 @@ use Rattle.std.proofs.Common.{sym, ap, ◌∙◌}
 use Rattle.lattice.specs.Bitimes.{bitime_below}
 use Rattle.lattice.specs.Naturals.{nat_order}
 use Rattle.lattice.specs.Pairs.{make_pair, pair_order}
-use Rattle.worker.specs.Tenures.{Terms, terms_for, terms_in}
+use Rattle.shared_board.specs.Tenures.{Terms, terms_for, terms_in}
 use Rattle.script.proofs.StandingLemmas.{first_stands}
 use Rattle.script.proofs.board_engine.BoardEngine.of_pair.Goals as goal
 

@@ -1,7 +1,7 @@
 use Rattle.std.proofs.Common.{◌≡◌}
 use Rattle.lattice.specs.Bitimes.{bitime_below}
 use Rattle.lattice.specs.Pairs.{make_pair}
-use Rattle.worker.specs.Found.{dataflow_of}
+use Rattle.shared_board.specs.Found.{dataflow_of}
 use Rattle.script.specs.Standing.{StandsAs}
 use Rattle.script.specs.Text.{BitemporalSession}
 use Rattle.script.proofs.board_engine.BoardEngineCatchUp.catch_up.Given as goal

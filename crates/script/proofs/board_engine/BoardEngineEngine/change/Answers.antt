@@ -5,8 +5,8 @@ use Rattle.lattice.specs.Naturals.{nat_order}
 use Rattle.lattice.specs.Pairs.{make_pair, pair_order}
 use Rattle.lattice.specs.declared.product.Pair.{Pair}
 use Rattle.histories.specs.declared.event.Fed.{Fed}
-use Rattle.worker.specs.Found.{dataflow_of}
-use Rattle.worker.specs.Tenures.{Terms}
+use Rattle.shared_board.specs.Found.{dataflow_of}
+use Rattle.shared_board.specs.Tenures.{Terms}
 use Rattle.shared_board.specs.declared.event.Doing.{Doing}
 use Rattle.script.specs.Answers.{TakesChange}
 use Rattle.script.specs.Standing.{StandsAs}

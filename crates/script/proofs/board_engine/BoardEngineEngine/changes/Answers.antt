@@ -12,8 +12,8 @@ use Rattle.update.specs.declared.change.Update.{Update}
 use Rattle.update.specs.declared.refusal.Refusal.{Refusal}
 use Rattle.histories.specs.declared.event.Event.TheVariants.{Look}
 use Rattle.histories.specs.Histories.Readings.{IsQuiet}
-use Rattle.worker.specs.Found.{dataflow_of}
-use Rattle.worker.specs.Tenures.{HasLargeListed, Terms, changes_refusal_in, state_found, state_left}
+use Rattle.shared_board.specs.Found.{dataflow_of}
+use Rattle.shared_board.specs.Tenures.{HasLargeListed, Terms, changes_refusal_in, state_found, state_left}
 use Rattle.shared_board.specs.declared.event.Doing.{Doing}
 use Rattle.script.specs.Answers.{FindsChanges}
 use Rattle.script.specs.Bounds.{IsLarge, EndsByBound}

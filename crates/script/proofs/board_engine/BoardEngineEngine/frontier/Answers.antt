@@ -11,8 +11,8 @@ use Rattle.grammar.specs.Commands.{is_view_of}
 use Rattle.update.specs.declared.refusal.Refusal.{Refusal}
 use Rattle.histories.specs.declared.event.Event.TheVariants.{Look}
 use Rattle.histories.specs.Histories.Readings.{IsQuiet}
-use Rattle.worker.specs.Found.{dataflow_of}
-use Rattle.worker.specs.Tenures.{Terms, state_found, state_left}
+use Rattle.shared_board.specs.Found.{dataflow_of}
+use Rattle.shared_board.specs.Tenures.{Terms, state_found, state_left}
 use Rattle.shared_board.specs.declared.event.Doing.{Doing}
 use Rattle.script.specs.Answers.{FindsFrontier}
 use Rattle.script.specs.Bounds.{EndsByBound}

@@ -12,8 +12,8 @@ use Rattle.plan.specs.Changes.{query_at}
 use Rattle.histories.specs.declared.event.Event.TheVariants.{Look}
 use Rattle.histories.specs.Histories.Promises.{changes_in}
 use Rattle.histories.specs.Histories.Readings.{IsQuiet}
-use Rattle.worker.specs.Found.{dataflow_of}
-use Rattle.worker.specs.Tenures.{Terms, state_found, state_left}
+use Rattle.shared_board.specs.Found.{dataflow_of}
+use Rattle.shared_board.specs.Tenures.{Terms, state_found, state_left}
 use Rattle.shared_board.specs.declared.event.Doing.{Doing}
 use Rattle.script.specs.Answers.{FindsRows}
 use Rattle.script.specs.Bounds.{IsLarge, EndsByBound}

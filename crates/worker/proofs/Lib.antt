@@ -1,3 +1,0 @@
-pub mod OpenLemmas
-pub mod WitnessLemmas
-pub mod VisitLemmas

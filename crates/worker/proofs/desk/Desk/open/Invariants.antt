@@ -1,6 +1,0 @@
-use Rattle.worker.specs.Openings.{IsLaidOut}
-use Rattle.worker.proofs.desk.Desk.open.Given as goal
-
--- the desk is laid out for the nodes so far
-abbrev pub invariant-loop-n : goal.invariant-loop-n
-invariant-loop-n g l = IsLaidOut g.T.PartialOrder.below g.T.Lattice.joined g.T.Minimum.least l.plan l.desk l.n
