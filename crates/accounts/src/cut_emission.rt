@@ -6,7 +6,8 @@
 //! invariant: if it has no list of its own, then there is a last bundle.
 //!
 //! A contract sees the emission and the bundles, whichever of them has the list.
-ghost use Rattle.std.specs.Prelude.{◌≡◌, ◌++◌, IfErr, IfOk, OnErr, OnOk};
+ghost use Rattle.std.specs.Prelude.{◌≡◌, ◌<◌, ◌++◌, IfErr, IfOk, OnErr, OnOk, length};
+ghost use Rattle.accounts.specs.CutEmissions.{last_updates};
 ghost use Rattle.update.specs.declared.refusal.Refusal.TheVariants.{OutOfMemory};
 ghost use Rattle.histories.specs.declared.event.Event.TheVariants.{Give};
 ghost use Rattle.histories.specs.Histories.Cuts.{bundled};
@@ -132,6 +133,28 @@ impl<T: Minimum> CutEmission<T> {
         }
     }
 
+    /// The emission alone, to be cut again later. The bundles are let go, but for the list that is
+    /// the emission's. Takes no memory.
+    pub fn into_emission(self) -> Emission<T>
+        ensures { result ≡ self.given }
+    {
+        let CutEmission {
+            node,
+            worker,
+            own,
+            sent,
+        } = self;
+        let updates = match own {
+            Some(updates) => updates,
+            None => last_list(sent.into_vec()),
+        };
+        Emission {
+            node,
+            worker,
+            updates,
+        }
+    }
+
     // Has a view capture the updates that are given. They may move there, and then nothing is given
     // any more. If memory was refused, then nothing has changed.
     pub(crate) fn captured_by(&mut self, view: &mut View<T>) -> Result<(), Refusal>
@@ -178,5 +201,16 @@ impl<T: Minimum> CutEmission<T> {
     {
         let given = RememberedEmission::of(self.node, self.worker, self.updates());
         remembered_give(given, held, &self.sent)
+    }
+}
+
+// The list of the last bundle.
+fn last_list<T: Minimum>(mut sent: Vec<Bundle<T>>) -> UpdateList<T>
+    requires { 0 < length sent.items }
+    ensures { result ≡ last_updates sent.items }
+{
+    match sent.pop() {
+        Some(Bundle { updates, .. }) => updates,
+        None => unreachable!(),
     }
 }

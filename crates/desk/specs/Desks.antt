@@ -6,9 +6,10 @@ use Rattle.std.specs.declared.cmp.Ordering.{Ordering}
 use Rattle.lattice.specs.Frontiers.{all_beyond}
 use Rattle.update.specs.declared.change.Update.{Update}
 use Rattle.plan.specs.Changes.{has_passed}
-use Rattle.plan.specs.Nodes.{arranged_by, is_join}
+use Rattle.plan.specs.Nodes.{arranged_by, is_join, node_at}
 use Rattle.plan.specs.Widths.{width_of}
 use Rattle.plan.specs.declared.node.Node.{Node}
+use Rattle.plan.specs.declared.node.Node.TheVariants.{Output}
 use Rattle.linear.specs.Ports.{is_port}
 use Rattle.linear.specs.Widths.{are_wide}
 use Rattle.batch.specs.Descriptions.{BatchState}
@@ -17,6 +18,7 @@ use Rattle.trace.specs.Readings.{Insertion}
 use Rattle.operator.specs.Arrangements.{times_from}
 use Rattle.operator.specs.Reductions.{ReducingView, IsPendingAfter, IsReduced, pending_of}
 use Rattle.operator_laws.specs.Gathering.{IsSplit}
+use Rattle.histories.specs.declared.event.Bundle.{Bundle}
 use Rattle.histories.specs.declared.event.Event.{Event}
 use Rattle.histories.specs.Histories.{IsLegal, state_after}
 use Rattle.histories.specs.Histories.Dataflows.{Dataflow, IsDataflow, node_of}
@@ -133,6 +135,15 @@ module _ {T : Type 0} (below : T → T → Bool) (joined : T → T → T) (minim
     pub split : IsSplit below (gathered_in (slice_get d.gathered n)) out []
     pub left : gathered_in (slice_get c.gathered n) ≡ []
     pub wide : (width : ℕ) → IsTrue (are_wide width (gathered_in (slice_get d.gathered n))) → IsTrue (are_wide width out)
+
+  -- a bundle of a view is in hand, and nothing lies gathered for the view
+  pub record IsPassedOn (plan : List Node) (d : DeskView T) (h : Hand T) : Type 0 where
+    pub bundle : Bundle T
+    pub more : Bool
+    pub taken : h ≡ Taken bundle more
+    pub source : ℕ
+    pub view : node_at plan bundle.place.node ≡ Output source
+    pub none : gathered_in (slice_get d.gathered bundle.place.node) ≡ []
 
   -- a batch was put into the spine of its node, unless it is empty, and nothing else has changed
   pub record IsPutAway (p : Dataflow) (n : ℕ) (batch : BatchState T) (d c : DeskView T) : Type 0 where

@@ -7,14 +7,17 @@ ghost use Rattle.desk.specs.Desks.{IsComputed, IsSomeones, IsTooLarge, Leads};
 
 use crate::desk::Desk;
 use crate::finding::ready;
+use crate::passing_on::pass_on;
 use desk_laws::Hand;
 use lattice::Minimum;
 use plan::{NodeId, Plan};
 use std::alloc::Global;
 use update::Refusal;
 
-// Once so many updates lie gathered at a node, they are given, although more bundles wait there.
-const MAX_GATHERED: usize = 1024;
+// Once so many updates lie gathered at a node, they are given, although more bundles wait there. Until
+// then it waits for all of them: so what comes from two sources is consolidated, and a view captures
+// it at once.
+const MAX_GATHERED: usize = 1 << 20;
 
 // Takes this in hand.
 fn take_in_hand<T: Minimum>(hand: &mut Hand<T>, next: Hand<T>)
@@ -34,6 +37,10 @@ impl<T: Minimum> Desk<T> {
         ensures refused { IfErr result (IsMemoryOrOverflow (IsTooLarge T.below T.joined T.least T.cmp
             plan.now self.old hand.old)) }
     {
+        if self.passes_on(plan, hand) {
+            pass_on(hand);
+            return Ok(());
+        }
         match &*hand {
             Hand::Taken { bundle, more } => {
                 let laid = self.lay(alloc, plan, bundle, *more)?;

@@ -55,7 +55,8 @@ impl<T: Minimum> Gathered<T> {
         self.updates.len()
     }
 
-    // Moves updates to the end. If memory was refused, then nothing has changed here.
+    // Moves updates to the end; the list itself, if there were none before. If memory was refused, then
+    // nothing has changed here.
     pub(crate) fn append(&mut self, alloc: Global, more: Vec<Update<T>>) -> Result<(), Refusal>
         ensures more { OnOk result (self.new ≡ self.old ++ more.items) }
         ensures same { OnErr result (self.new ≡ self.old) }
@@ -63,7 +64,11 @@ impl<T: Minimum> Gathered<T> {
     {
         let front = front_with(alloc, self.front.as_slice(), more.as_slice())?;
         let mut more: Updates<T> = more.into();
-        self.updates.append(&mut more)?;
+        if self.updates.len() == 0 {
+            self.updates = more;
+        } else {
+            self.updates.append(&mut more)?;
+        }
         self.front = front;
         Ok(())
     }

@@ -21,6 +21,7 @@ mod joining;
 mod keeping;
 mod laying;
 mod opening;
+mod passing_on;
 mod putting_away;
 mod sealing;
 mod tidying;

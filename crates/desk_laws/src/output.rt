@@ -38,7 +38,7 @@ impl<T> Model for Output<T> {
 impl<T: Lattice> Output<T> {
     /// The output as a list that can be given. If memory was refused, the output comes back as it was.
     ///
-    /// Cost: none, or a copy of the answer of a reduction.
+    /// Cost: none, or for the answer of a reduction that of [`Columns::append_columns`].
     pub fn into_list(self, alloc: Global) -> Result<UpdateList<T>, Output<T>>
         ensures list { IfOk result (λ list. list ≡ self) }
         ensures returned { IfErr result (λ back. back ≡ self) }
@@ -49,19 +49,6 @@ impl<T: Lattice> Output<T> {
             Form::Answered(columns) => listed(alloc, columns),
         }
     }
-
-    /// A copy of the output, as a list that can be given. Refused only with `OutOfMemory`.
-    ///
-    /// Cost: one step for each column of each row.
-    pub fn to_list(&self, alloc: Global) -> Result<UpdateList<T>, Refusal>
-        ensures list { IfOk result (λ list. list ≡ self.now) }
-        ensures refused { IfErr result (λ refusal. refusal ≡ OutOfMemory) }
-    {
-        match &self.form {
-            Form::Listed(list) => list.copy(alloc),
-            Form::Answered(columns) => Ok(columns.to_vec(alloc)?.into()),
-        }
-    }
 }
 
 // The updates of columns as a list. If memory was refused, they come back.
@@ -69,11 +56,20 @@ fn listed<T: Lattice>(alloc: Global, columns: Columns<T>) -> Result<UpdateList<T
     ensures list { IfOk result (λ list. list ≡ columns) }
     ensures returned { IfErr result (λ back. back ≡ columns) }
 {
-    let copied = columns.to_vec(alloc);
-    match copied {
-        Ok(updates) => Ok(updates.into()),
+    match packed_copy(alloc, &columns) {
+        Ok(list) => Ok(list),
         Err(_refused) => Err(columns.into()),
     }
+}
+
+// A copy of columns, as a list.
+fn packed_copy<T: Lattice>(alloc: Global, columns: &Columns<T>) -> Result<UpdateList<T>, Refusal>
+    ensures copied { IfOk result (λ list. list ≡ columns.now) }
+    ensures refused { IfErr result (λ refusal. refusal ≡ OutOfMemory) }
+{
+    let mut copy = Columns::new(alloc);
+    copy.append_columns(columns)?;
+    UpdateList::packed(alloc, copy)
 }
 
 /// Takes no memory.

@@ -30,16 +30,12 @@ use Rattle.desk_laws.proofs.BeyondLemmas.{batch_beyond, ready_beyond}
 use Rattle.desk_laws.proofs.GivenLemmas.{due_waits, held_back_lem, ready_lem, split_parts}
 use Rattle.desk_laws.proofs.SealedLemmas.{empty_given, sealed_given}
 use Rattle.desk.specs.Desks.{IsComputed, IsOf, IsOnPlan, IsRight}
-use Rattle.steps.specs.Steps.{HasLeftLater, HasSent, IsPutDown, output_of}
+use Rattle.steps.specs.Steps.{HasLeftLater, HasSent, IsPutDown, emission_of, output_of}
 use Rattle.steps.specs.declared.step.Step.{Step}
 use Rattle.steps.specs.declared.step.Step.TheVariants.{Gave, Busy}
 use Rattle.steps.specs.Workers.{IsRightOf}
 use Rattle.steps.proofs.SentLemmas.{none_sent}
 use Rattle.steps.proofs.TenureLemmas.{right_after, tenure_of}
-
--- what a worker gives at a node, of what it has in hand
-abbrev pub emission_of : {T : Type 0} → ℕ → ℕ → List (Update T) → Emission T
-emission_of n k us = record { node = n; worker = k; updates = us }
 
 -- which hands are computed
 computed_form : {T : Type 0} (h : Hand T) (n : ℕ) → IsComputed h → hand_node h ≡ Some n → ((more : Bool) × (h ≡ Kept n more)) ⊎ (((us : List (Update T)) × (h ≡ Ready n us)) ⊎ ((batch : BatchState T) × (h ≡ Sealed n batch)))

@@ -49,6 +49,15 @@ module _ {T : Type 0} where
   output_of (Sealed node batch) = batch.updates
   output_of other = []
 
+  -- what is in hand without what is ready to be given
+  abbrev pub without_output : Hand T → Hand T
+  without_output (Ready node updates) = Ready node []
+  without_output other = other
+
+  -- what a worker gives at a node
+  abbrev pub emission_of : ℕ → ℕ → List (Update T) → Emission T
+  emission_of n k us = record { node = n; worker = k; updates = us }
+
   -- the actor has seen nothing new, or it has looked
   abbrev pub LooksAtMost : Known (Doing T) → Known (Doing T) → Type 0
   LooksAtMost old new = (new ≡ old) ⊎ Adds old (Look old.number) new

@@ -1,9 +1,9 @@
 //! A worker tries to enter the board, and gives what it has in hand. One tenure.
 //!
 //! Of what is kept it gives nothing, and holds back what lies on the desk for the node. An empty batch
-//! is given as nothing too. What is given is a copy: if another actor has the board, or memory is
-//! refused, then the hand is as it was.
-ghost use Rattle.std.specs.Prelude.{◌≡◌, ◌<◌, Some, IfErr, IfOk, IsTrue, length};
+//! is given as nothing too. What is ready moves to the board. If another actor has the board, or memory
+//! is refused, then it comes back, and the hand is as it was.
+ghost use Rattle.std.specs.Prelude.{◌≡◌, ◌<◌, [], Some, IfErr, IfOk, IsTrue, OnErr, OnOk, length};
 ghost use Rattle.update.specs.declared.refusal.Refusal.TheVariants.{OutOfMemory};
 ghost use Rattle.plan.specs.Widths.{width_of};
 ghost use Rattle.linear.specs.Widths.{are_wide};
@@ -14,14 +14,17 @@ ghost use Rattle.operator_laws.specs.Gathering.{IsCut};
 ghost use Rattle.shared_board.specs.Found.{dataflow_of};
 ghost use Rattle.shared_board.specs.Tenures.{state_left};
 ghost use Rattle.desk_laws.specs.Own.{IsHandOn, hand_node};
+ghost use Rattle.desk_laws.specs.declared.hand.Hand.{Hand};
 ghost use Rattle.desk_laws.specs.declared.hand.Hand.TheVariants.{Free};
 ghost use Rattle.desk.specs.Desks.{IsComputed};
-ghost use Rattle.steps.specs.Steps.{HasLeftLater, HasSent, HasTriedToGive, IsPutDown, LooksAtMost, output_of};
+ghost use Rattle.steps.specs.Steps.{HasLeftLater, HasSent, HasTriedToGive, IsPutDown, LooksAtMost, emission_of, output_of, without_output};
+ghost use Rattle.steps.specs.declared.step.Step.TheVariants.{Busy};
 ghost use Rattle.steps.specs.Workers.{IsRightOf};
 
 use crate::step::Step;
 use columns::UpdateList;
 use desk::{Desk, Hand};
+use desk_laws::Output;
 use lattice::Minimum;
 use machine::{Emission, Routing};
 use operator::updates_of;
@@ -31,52 +34,108 @@ use std::alloc::Global;
 use std::mem;
 use update::Refusal;
 
-// A copy of what is given of what is in hand.
-fn output<T: Minimum>(alloc: Global, hand: &Hand<T>) -> Result<UpdateList<T>, Refusal>
-    ensures output { IfOk result (λ list. list ≡ output_of hand.now) }
+// No updates.
+fn nothing<T: Minimum>(alloc: Global) -> UpdateList<T>
+    ensures { result ≡ [] }
+{
+    Vec::new(alloc).into()
+}
+
+// What is given of what is in hand. What is ready leaves the hand; of a batch it is a copy.
+fn take_output<T: Minimum>(alloc: Global, hand: &mut Hand<T>) -> Result<UpdateList<T>, Refusal>
+    ensures output { IfOk result (λ list. list ≡ output_of hand.old) }
+    ensures emptied { OnOk result (hand.new ≡ without_output hand.old) }
+    ensures same { OnErr result (hand.new ≡ hand.old) }
     ensures only { IfErr result (λ refusal. refusal ≡ OutOfMemory) }
 {
     match hand {
-        Hand::Ready { updates, .. } => updates.to_list(alloc),
+        Hand::Ready { updates, .. } => take_list(alloc, updates),
         Hand::Sealed { batch, .. } => {
             let updates = updates_of(alloc, batch)?;
             Ok(updates.into())
         }
-        _ => Ok(Vec::new(alloc).into()),
+        _ => Ok(nothing(alloc)),
+    }
+}
+
+// Takes an output out as a list. If memory was refused, then the output is as it was.
+fn take_list<T: Minimum>(alloc: Global, output: &mut Output<T>) -> Result<UpdateList<T>, Refusal>
+    ensures output { IfOk result (λ list. list ≡ output.old) }
+    ensures emptied { OnOk result (output.new ≡ []) }
+    ensures same { OnErr result (output.new ≡ output.old) }
+    ensures only { IfErr result (λ refusal. refusal ≡ OutOfMemory) }
+{
+    let taken = mem::replace(output, nothing(alloc).into());
+    match taken.into_list(alloc) {
+        Ok(list) => Ok(list),
+        Err(back) => {
+            *output = back;
+            Err(Refusal::OutOfMemory)
+        }
+    }
+}
+
+// Puts back what was not given.
+fn put_back<T: Minimum>(hand: &mut Hand<T>, output: UpdateList<T>)
+    ensures { (before : Hand T) → hand.old ≡ without_output before → output ≡ output_of before
+        → hand.new ≡ before }
+{
+    if let Hand::Ready { updates, .. } = hand {
+        *updates = output.into();
     }
 }
 
 // Cuts what a worker computed into bundles, and tries to give it. The give must be allowed in the state
-// that the worker left. Refused only with `OutOfMemory`.
+// that the worker left. Unless it is given, the updates are as they were. Refused only with
+// `OutOfMemory`.
 fn send<T: Minimum, P: BoardProtocol<T>>(
     alloc: Global,
     routing: &Routing,
     actor: &mut Actor<T, P>,
-    emission: Emission<T>,
+    node: NodeId,
+    worker: usize,
+    updates: &mut UpdateList<T>,
     held: Vec<T>,
 ) -> Result<Step, Refusal>
     requires routing { routing.now ≡ dataflow_of actor.old }
-    requires own { emission.worker ≡ actor.old.number }
+    requires own { worker ≡ actor.old.number }
     requires worker { actor.old.number < (dataflow_of actor.old).workers }
-    requires within { emission.node < length (dataflow_of actor.old).nodes }
-    requires wide { IsTrue (are_wide (width_of (dataflow_of actor.old).nodes emission.node)
-        emission.updates) }
-    requires allowed { IsCut T.below (dataflow_of actor.old) emission
-        (cut T.below (dataflow_of actor.old) emission)
-        → IsGive T.below (dataflow_of actor.old) (state_left T.below T.least actor.old) emission
-        held.items (cut T.below (dataflow_of actor.old) emission) }
-    ensures sent { IfOk result (HasSent T.below actor.old actor.new emission held.items) }
+    requires within { node < length (dataflow_of actor.old).nodes }
+    requires wide { IsTrue (are_wide (width_of (dataflow_of actor.old).nodes node) updates.old) }
+    requires allowed { IsCut T.below (dataflow_of actor.old) (emission_of node worker updates.old)
+        (cut T.below (dataflow_of actor.old) (emission_of node worker updates.old))
+        → IsGive T.below (dataflow_of actor.old) (state_left T.below T.least actor.old)
+        (emission_of node worker updates.old) held.items
+        (cut T.below (dataflow_of actor.old) (emission_of node worker updates.old)) }
+    ensures sent { IfOk result
+        (HasSent T.below actor.old actor.new (emission_of node worker updates.old) held.items) }
+    ensures kept { IfOk result (λ step. step ≡ Busy → updates.new ≡ updates.old) }
+    ensures same { OnErr result (updates.new ≡ updates.old) }
     ensures refused { IfErr result (λ refusal. (refusal ≡ OutOfMemory)
         × LooksAtMost actor.old actor.new) }
 {
-    let Ok(cut) = routing.cut(alloc, emission) else {
-        return Err(Refusal::OutOfMemory);
+    let emission = Emission {
+        node,
+        worker,
+        updates: mem::replace(updates, nothing(alloc)),
     };
-    let answer = actor.try_give(cut, held.into());
-    match answer {
+    let cut = match routing.cut(alloc, emission) {
+        Ok(cut) => cut,
+        Err(back) => {
+            *updates = back.updates;
+            return Err(Refusal::OutOfMemory);
+        }
+    };
+    match actor.try_give(cut, held.into()) {
         Ok(Ok(())) => Ok(Step::Gave),
-        Ok(Err(_ungiven)) => Err(Refusal::OutOfMemory),
-        Err(_ungiven) => Ok(Step::Busy),
+        Ok(Err(ungiven)) => {
+            *updates = ungiven.cut.into_emission().updates;
+            Err(Refusal::OutOfMemory)
+        }
+        Err(ungiven) => {
+            *updates = ungiven.cut.into_emission().updates;
+            Ok(Step::Busy)
+        }
     }
 }
 
@@ -118,18 +177,13 @@ pub(crate) fn give<T: Minimum, P: BoardProtocol<T>>(
         × (hand.new ≡ hand.old) × LooksAtMost actor.old actor.new) }
 {
     actor.known();
-    let updates = output(alloc, hand)?;
     let held = desk.held(alloc, plan, node)?;
-    let emission = Emission {
-        node,
-        worker: number,
-        updates,
-    };
-    let answer = send(alloc, routing, actor, emission, held);
+    let mut output = take_output(alloc, hand)?;
+    let answer = send(alloc, routing, actor, node, number, &mut output, held);
     actor.known();
-    let step = answer?;
-    if let Step::Gave = step {
-        put_down(desk, hand);
+    match answer {
+        Ok(Step::Gave) => put_down(desk, hand),
+        _ => put_back(hand, output),
     }
-    Ok(step)
+    answer
 }

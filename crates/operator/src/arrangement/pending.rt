@@ -17,6 +17,7 @@ use batch::{Batch, Builder};
 use lattice::{Lattice, Minimum};
 use std::alloc::Global;
 use std::marker::Model;
+use std::mem;
 use update::{Refusal, Update};
 
 // A list with room for at most this many updates keeps it when it is emptied, since the next updates
@@ -57,8 +58,8 @@ impl<T: Lattice> Waiting<T> {
         }
     }
 
-    // Moves updates to the end, and leaves their list empty. If memory was refused, both are as they
-    // were.
+    // Moves updates to the end, and leaves their list empty. If there were none before, and no room for
+    // them, then the list itself moves. If memory was refused, both are as they were.
     pub(crate) fn take_in(&mut self, updates: &mut Vec<Update<T>>) -> Result<(), Refusal>
         ensures ok { OnOk result (self.new
             ≡ record self.old { updates = self.old.updates ++ updates.old.items }) }
@@ -69,7 +70,11 @@ impl<T: Lattice> Waiting<T> {
     {
         let alloc = *self.updates.allocator();
         let front = front_with(alloc, self.front.as_slice(), updates.as_slice())?;
-        self.updates.append(updates)?;
+        if self.updates.is_empty() && self.updates.capacity() < updates.len() {
+            mem::swap(&mut self.updates, updates);
+        } else {
+            self.updates.append(updates)?;
+        }
         self.front = front;
         Ok(())
     }
