@@ -13,6 +13,7 @@ use crate::columns::Columns;
 use lattice::Lattice;
 use std::alloc::Global;
 use std::marker::Model;
+use std::mem;
 use update::{Refusal, Update};
 
 // The form of a list.
@@ -47,15 +48,17 @@ impl<T: Drop> Drop for UpdateList<T> {
 }
 
 impl<T: Lattice> UpdateList<T> {
-    /// A list that is kept column by column. Refused only with `OutOfMemory`.
-    pub fn packed(alloc: Global, columns: Columns<T>) -> Result<UpdateList<T>, Refusal>
+    /// A list that is kept column by column. If memory was refused, the columns come back.
+    pub fn packed(alloc: Global, columns: Columns<T>) -> Result<UpdateList<T>, Columns<T>>
         ensures packed { IfOk result (λ list. list ≡ columns) }
-        ensures refused { IfErr result (λ refusal. refusal ≡ OutOfMemory) }
+        ensures returned { IfErr result (λ back. back ≡ columns) }
     {
-        let columns = Box::new(alloc, columns)?;
-        Ok(UpdateList {
-            form: Form::Packed(columns),
-        })
+        match Box::new(alloc, columns) {
+            Ok(columns) => Ok(UpdateList {
+                form: Form::Packed(columns),
+            }),
+            Err(refused) => Err(refused.value),
+        }
     }
 
     /// The number of updates. Takes no memory.
@@ -68,18 +71,19 @@ impl<T: Lattice> UpdateList<T> {
         }
     }
 
-    /// The updates as a vector. Refused only with `OutOfMemory`, and only if they are in columns.
+    /// Takes the updates out as a vector, after which the list is of no use. Refused only with
+    /// `OutOfMemory`, and only if they are in columns; then the list is as before.
     ///
     /// Cost: none, or that of [`Columns::to_vec`].
-    pub fn into_vec(self, alloc: Global) -> Result<Vec<Update<T>>, Refusal>
-        ensures updates { IfOk result (λ updates. updates.items ≡ self) }
+    pub fn take_vec(&mut self, alloc: Global) -> Result<Vec<Update<T>>, Refusal>
+        ensures updates { IfOk result (λ updates. updates.items ≡ self.old) }
+        ensures same { OnErr result (self.new ≡ self.old) }
         ensures refused { IfErr result (λ refusal. refusal ≡ OutOfMemory) }
     {
-        let UpdateList { form } = self;
-        match form {
-            Form::Plain(updates) => Ok(updates),
-            Form::Packed(columns) => columns.to_vec(alloc),
+        if let Form::Plain(updates) = &mut self.form {
+            return Ok(mem::replace(updates, Vec::new(alloc)));
         }
+        self.to_vec(alloc)
     }
 
     /// The time of update `i`, counted from 0. Takes no memory.
@@ -172,7 +176,10 @@ fn packed_copy<T: Lattice>(alloc: Global, columns: &Columns<T>) -> Result<Update
 {
     let mut copy = Columns::new(alloc);
     copy.append_columns(columns)?;
-    UpdateList::packed(alloc, copy)
+    match UpdateList::packed(alloc, copy) {
+        Ok(list) => Ok(list),
+        Err(_copy) => Err(Refusal::OutOfMemory),
+    }
 }
 
 /// Takes no memory.

@@ -184,6 +184,14 @@ fn rows_of_two_lists_are_compared_in_place(rt: HostRuntime) -> Result<(), Fail> 
     Ok(())
 }
 
+// The six updates in a list of columns.
+fn packed(alloc: Global) -> Result<UpdateList<Bitime>, Refusal> {
+    match UpdateList::packed(alloc, pushed(alloc)?) {
+        Ok(list) => Ok(list),
+        Err(_columns) => Err(Refusal::OutOfMemory),
+    }
+}
+
 // Whether a list has the six updates.
 fn is_six(rt: &HostRuntime, list: &UpdateList<Bitime>) -> Result<bool, Fail> {
     let want = six_again(rt.alloc())?;
@@ -203,14 +211,14 @@ fn is_six(rt: &HostRuntime, list: &UpdateList<Bitime>) -> Result<bool, Fail> {
 fn lists_are_the_same_in_both_forms(rt: HostRuntime) -> Result<(), Fail> {
     let alloc = rt.alloc();
     let plain = UpdateList::from(six_again(alloc)?);
-    let packed = UpdateList::packed(alloc, pushed(alloc)?)?;
+    let mut packed = packed(alloc)?;
     assert!(rt; is_six(&rt, &plain)? && is_six(&rt, &packed)?);
     assert!(rt; is_six(&rt, &plain.copy(alloc)?)? && is_six(&rt, &packed.copy(alloc)?)?);
     let mut both = Columns::new(alloc);
     plain.append_to(&mut both)?;
     packed.append_to(&mut both)?;
     assert!(rt; both.runs() == 6 && both.len() == 12);
-    let again = UpdateList::from(packed.into_vec(alloc)?);
+    let again = UpdateList::from(packed.take_vec(alloc)?);
     assert!(rt; is_six(&rt, &again)?);
     Ok(())
 }
@@ -220,14 +228,17 @@ fn lists_are_the_same_in_both_forms(rt: HostRuntime) -> Result<(), Fail> {
 fn lists_move_behind_what_is_there(rt: HostRuntime) -> Result<(), Fail> {
     let alloc = rt.alloc();
     let mut moved = Columns::new(alloc);
-    UpdateList::packed(alloc, pushed(alloc)?)?.move_to(&mut moved)?;
+    packed(alloc)?.move_to(&mut moved)?;
     assert!(rt; moved.len() == 6 && moved.runs() == 3);
-    UpdateList::packed(alloc, pushed(alloc)?)?.move_to(&mut moved)?;
+    packed(alloc)?.move_to(&mut moved)?;
     UpdateList::from(six_again(alloc)?).move_to(&mut moved)?;
     assert!(rt; moved.len() == 18 && moved.runs() == 9);
     let mut plain = Columns::new(alloc);
     UpdateList::from(six_again(alloc)?).move_to(&mut plain)?;
-    assert!(rt; is_six(&rt, &UpdateList::packed(alloc, plain)?)?);
+    let Ok(packed) = UpdateList::packed(alloc, plain) else {
+        panic!(rt; "the list wants memory")
+    };
+    assert!(rt; is_six(&rt, &packed)?);
     Ok(())
 }
 

@@ -38,7 +38,7 @@ impl<T> Model for Output<T> {
 impl<T: Lattice> Output<T> {
     /// The output as a list that can be given. If memory was refused, the output comes back as it was.
     ///
-    /// Cost: none, or for the answer of a reduction that of [`Columns::append_columns`].
+    /// Cost: constant.
     pub fn into_list(self, alloc: Global) -> Result<UpdateList<T>, Output<T>>
         ensures list { IfOk result (λ list. list ≡ self) }
         ensures returned { IfErr result (λ back. back ≡ self) }
@@ -46,30 +46,12 @@ impl<T: Lattice> Output<T> {
         let Output { form } = self;
         match form {
             Form::Listed(list) => Ok(list),
-            Form::Answered(columns) => listed(alloc, columns),
+            Form::Answered(columns) => match UpdateList::packed(alloc, columns) {
+                Ok(list) => Ok(list),
+                Err(back) => Err(back.into()),
+            },
         }
     }
-}
-
-// The updates of columns as a list. If memory was refused, they come back.
-fn listed<T: Lattice>(alloc: Global, columns: Columns<T>) -> Result<UpdateList<T>, Output<T>>
-    ensures list { IfOk result (λ list. list ≡ columns) }
-    ensures returned { IfErr result (λ back. back ≡ columns) }
-{
-    match packed_copy(alloc, &columns) {
-        Ok(list) => Ok(list),
-        Err(_refused) => Err(columns.into()),
-    }
-}
-
-// A copy of columns, as a list.
-fn packed_copy<T: Lattice>(alloc: Global, columns: &Columns<T>) -> Result<UpdateList<T>, Refusal>
-    ensures copied { IfOk result (λ list. list ≡ columns.now) }
-    ensures refused { IfErr result (λ refusal. refusal ≡ OutOfMemory) }
-{
-    let mut copy = Columns::new(alloc);
-    copy.append_columns(columns)?;
-    UpdateList::packed(alloc, copy)
 }
 
 /// Takes no memory.

@@ -91,16 +91,6 @@ module _ {T : Type 0} (below : T → T → Bool) where
       → IsTrue (forbids below s.holds (reached s.list.start taken))
       → Contains (boundaries s) (reached s.list.start taken)
 
--- the arrangement after it kept a batch: one without updates is not inserted. The readers' holds
--- stay
-pub record IsKeptWith {T : Type 0} (below : T → T → Bool) (a b : ArrangementState T) (batch : BatchState T) : Type 0 where
-  pub width : b.width ≡ a.width
-  pub start : b.spine.list.start ≡ a.spine.list.start
-  pub waiting : b.waiting ≡ a.waiting
-  pub readers : (number : ℕ) → 0 < number → slice_get b.holds number ≡ slice_get a.holds number
-  pub none : batch.updates ≡ [] → (h : List (Insertion T)) → Stands below a.spine h → Stands below b.spine h
-  pub some : batch.updates ≢ [] → (h : List (Insertion T)) → Stands below a.spine h → Stands below b.spine (insertion_of batch ∷ h)
-
 -- the arrangement with one more hold, from where its spine has come
 pub record IsWithReader {T : Type 0} (below : T → T → Bool) (minimum : T) (a b : ArrangementState T) : Type 0 where
   pub width : b.width ≡ a.width

@@ -17,13 +17,13 @@
 #![tactic(auto)]
 
 mod arrangement;
+mod copying;
 mod frontier;
-mod insertion;
 mod joins;
 mod reduction;
 
 pub use arrangement::{Arrangement, what_is_taken_is_up_to_a_boundary};
+pub use copying::updates_of;
 pub use frontier::{antichain_of, front_with, put_in_updates};
-pub use insertion::{keep, updates_of};
 pub use joins::Joining;
 pub use reduction::Reducing;

@@ -1,9 +1,9 @@
 //! When a worker finds the board quiet. Clauses say what it means that the board was quiet. No
 //! clause says that it ever is.
-use crate::schedule::{until_idle, until_idle_at_last};
+use crate::schedule::{until_idle, until_idle_at_last, until_quiet};
 use crate::worked::{BoardClient, Crew, Worked};
 use crate::worked_tests::{seven_twice, worked};
-use lattice::Minimum;
+use lattice::{Bitime, Minimum};
 use plan::NodeId;
 use shared_board::BoardProtocol;
 use std::alloc::Global;
@@ -58,6 +58,41 @@ fn a_lone_step_is_not_quiet(rt: HostRuntime) -> Result<(), Fail> {
     assert!(rt; !stepped(&rt, rt.alloc(), &mut crew)?);
     assert_between(&rt, rt.alloc(), &mut client, worked.view())?;
     assert!(rt; stepped(&rt, rt.alloc(), &mut crew)?);
+    worked.assert_found(&rt, rt.alloc(), &mut client)?;
+    Ok(())
+}
+
+// The example of a view of one input, to which all times before (0, 1) are closed.
+fn closed(alloc: Global, changes: &[Change]) -> Result<Worked<Bitime>, Refusal> {
+    let nodes = [input(1), view(0)];
+    worked(alloc, &nodes, &[changes], &[at((0, 1))], changes)
+}
+
+// Row 7 is fed, and its time is closed. Until the workers have carried it on, the view's frontier is
+// where it was, and nothing can be read. A frontier that moved with the input's would show a view
+// without the row.
+#[test]
+fn work_in_flight_holds_the_frontier(rt: HostRuntime) -> Result<(), Fail> {
+    let worked = closed(rt.alloc(), &[((0, 0), &[7], 1)])?;
+    let mut crew: Crew = Vec::new(rt.alloc());
+    let mut draws = Draws::new(0);
+    let mut client = worked.fed(&rt, rt.alloc(), 2, &mut crew, &mut draws, 1)?;
+    assert!(rt; client.frontier(&rt, worked.view())?.elements() == [at((0, 0))].as_slice());
+    let read = client.read(&rt, worked.view(), at((0, 0)));
+    assert!(rt; matches!(read, Err(Refusal::NotPassed)));
+    assert!(rt; until_quiet(rt.alloc(), &mut crew, &mut draws)?);
+    assert!(rt; client.frontier(&rt, worked.view())?.elements() == [at((0, 1))].as_slice());
+    worked.assert_found(&rt, rt.alloc(), &mut client)?;
+    Ok(())
+}
+
+// With nothing in flight the view's frontier follows at once, before any step.
+#[test]
+fn nothing_in_flight_holds_no_frontier(rt: HostRuntime) -> Result<(), Fail> {
+    let worked = closed(rt.alloc(), &[])?;
+    let mut crew: Crew = Vec::new(rt.alloc());
+    let mut client = worked.fed(&rt, rt.alloc(), 2, &mut crew, &mut Draws::new(0), 1)?;
+    assert!(rt; client.frontier(&rt, worked.view())?.elements() == [at((0, 1))].as_slice());
     worked.assert_found(&rt, rt.alloc(), &mut client)?;
     Ok(())
 }

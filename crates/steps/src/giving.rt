@@ -50,10 +50,7 @@ fn take_output<T: Minimum>(alloc: Global, hand: &mut Hand<T>) -> Result<UpdateLi
 {
     match hand {
         Hand::Ready { updates, .. } => take_list(alloc, updates),
-        Hand::Sealed { batch, .. } => {
-            let updates = updates_of(alloc, batch)?;
-            Ok(updates.into())
-        }
+        Hand::Sealed { batch, .. } => updates_of(alloc, batch),
         _ => Ok(nothing(alloc)),
     }
 }

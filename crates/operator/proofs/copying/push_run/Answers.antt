@@ -1,0 +1,15 @@
+use Rattle.std.proofs.Common.{◌≤◌, ◌++◌, arith}
+use Rattle.batch.proofs.CopyLemmas.{one_copied, same_update}
+use Rattle.operator.proofs.copying.push_run.Goals as goal
+
+pub loop-i-preserved : goal.loop-i-preserved
+loop-i-preserved g c =
+    let us = c.args.batch.now.updates in
+    let i = c.loop-i.i in
+    let time = c.time.result in
+    let row = c.args.row.now in
+    let diff = c.diff.result in
+    let begun : c.args.part.start ≤ i = omega (arith, c.loop-i.auto.i) in
+    one_copied c.args.list.now c.loop-i.list c.push_row.new.self us c.args.part.start i
+    (record { time = time; row = row; diff = diff }) begun c.loop-i.invariant c.in_ok-push_row.ensures.more
+    (same_update us i time row diff c.time.ensures c.diff.ensures (c.requires.alike i (record { time = time; row = row; diff = diff }) begun (omega (arith, c.loop-i-test.true))))
