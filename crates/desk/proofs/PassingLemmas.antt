@@ -1,12 +1,15 @@
--- A view's bundle is given as it is: as if it had been gathered alone, and all of it taken out again.
-use Rattle.std.proofs.Common.{◌≡◌, ℕ, zero, suc, ◌<◌, Bool, List, [], ◌∷◌, ◌++◌, append-nil, length, set, Some, None, IsTrue, arith, sym, refl, ap, ◌∙◌, subst}
+-- What a linear node makes of a bundle is ready at once: as if it had been gathered alone, and all of it
+-- taken out again.
+use Rattle.std.proofs.Common.{◌≡◌, ℕ, zero, suc, ◌<◌, Bool, false, List, [], ◌∷◌, ◌++◌, length, set, Some, None, IsTrue, arith, sym, refl, ap, ◌∙◌, subst}
 use Rattle.std.specs.List.{slice_get}
+use Rattle.std.proofs.lemmas.Bool.{true≢false}
+use Rattle.std.proofs.lemmas.List.{append-nil}
 use Rattle.std.proofs.lemmas.Option.{same_Some}
 use Rattle.lattice.specs.Order.{PartialOrderLaws}
 use Rattle.update.specs.declared.change.Update.{Update}
 use Rattle.plan.specs.Nodes.{arranged_by, is_linear, is_reduction, node_at}
 use Rattle.plan.specs.declared.node.Node.{Node}
-use Rattle.plan.specs.declared.node.Node.TheVariants.{Output}
+use Rattle.plan.specs.declared.node.Node.TheVariants.{Reduce}
 use Rattle.linear.specs.Applied.{linear_output}
 use Rattle.histories.specs.declared.event.Bundle.{Bundle}
 use Rattle.histories.specs.Histories.{state_after}
@@ -17,7 +20,7 @@ use Rattle.desk_laws.specs.Own.{DeskView, gathered_in}
 use Rattle.desk_laws.specs.declared.hand.Hand.{Hand}
 use Rattle.desk_laws.specs.declared.hand.Hand.TheVariants.{Ready, Taken}
 use Rattle.desk_laws.proofs.GivenLemmas.{split_parts}
-use Rattle.desk.specs.Desks.{IsPassedOn, IsRight, Leads}
+use Rattle.desk.specs.Desks.{IsMadeOf, IsPassedOn, IsRight, Leads}
 use Rattle.desk.proofs.DeskLemmas.{laid_gathered}
 use Rattle.desk.proofs.FindingLemmas.{kept_ready, taken_out}
 use Rattle.desk.proofs.LayingLemmas.{laid_right}
@@ -40,35 +43,36 @@ module _ {T : Type 0} where
   split_all : (below : T → T → Bool) (us : List (Update T)) → IsSplit below us us []
   split_all below us = subst (λ vs. IsSplit below vs us []) (append-nil us) (split_parts below us [])
 
-module _ {T : Type 0} (below : T → T → Bool) (joined : T → T → T) (minimum : T) (o : PartialOrderLaws below) (p : Dataflow) (q : IsDataflow p) (w : State T) (k : ℕ) (d : DeskView T) (bundle : Bundle T) (more : Bool) (source : ℕ) where
+-- a linear node is no reduction
+no_reduction : (node : Node) → IsTrue (is_linear node) → is_reduction node ≡ false
+no_reduction (Reduce kind source) h = absurd (true≢false (sym h))
+no_reduction other h = refl
+
+module _ {T : Type 0} (below : T → T → Bool) (joined : T → T → T) (minimum : T) (o : PartialOrderLaws below) (p : Dataflow) (q : IsDataflow p) (w : State T) (k : ℕ) (d : DeskView T) (bundle : Bundle T) (more : Bool) where
   abbrev n : ℕ
   n = bundle.place.node
 
-  abbrev us : List (Update T)
-  us = bundle.updates
+  abbrev made : List (Update T)
+  made = linear_output (node_of p n) bundle.updates
 
-  -- the desk as if the bundle had been gathered
+  -- the desk as if what is made had been gathered
   abbrev c : DeskView T
-  c = record d { gathered = set d.gathered n us }
+  c = record d { gathered = set d.gathered n made }
 
-  pub passed_right : node_of p n ≡ Output source → gathered_in (slice_get d.gathered n) ≡ [] → IsRight below joined minimum p w k d (Taken bundle more) → IsRight below joined minimum p w k d (Ready n us)
-  passed_right view none x =
-      let within = x.on_plan.hand.0 in
-      let there = empty_there d.gathered n (subst (λ m. n < m) (sym x.on_plan.places) within) none in
-      let plain = ap arranged_by view in
-      let same = ap (λ node. linear_output node us) view in
-      let laid = laid_gathered below joined minimum p n d [] us there plain in
-      let kept = laid_right below joined minimum p q d c bundle more o w k (ap is_linear view) (subst (λ made. IsLaid made) (sym same) laid) x in
-      let taken = taken_out below joined minimum c n us us (get_own d.gathered n us [] there) (split_all below us) (λ width h. h) in
-      subst (λ gathered. IsRight below joined minimum p w k (record d { gathered = gathered }) (Ready n us)) (set_back d.gathered n us [] there)
-      (kept_ready below joined minimum p n us c (record c { gathered = set c.gathered n [] }) taken plain o q w k within (ap is_reduction view) more kept)
-    where
-      abbrev IsLaid : List (Update T) → Type 0
-      IsLaid made = Rattle.desk.specs.Desks.IsLaidIn below joined minimum p n made d c
+  pub passed_right : IsTrue (is_linear (node_of p n)) → arranged_by (node_of p n) ≡ None → gathered_in (slice_get d.gathered n) ≡ [] → IsRight below joined minimum p w k d (Taken bundle more) → IsRight below joined minimum p w k d (Ready n made)
+  passed_right linear plain none x =
+      let there = empty_there d.gathered n (subst (λ m. n < m) (sym x.on_plan.places) x.on_plan.hand.0) none in
+      let kept = laid_right below joined minimum p q d c bundle more o w k linear (laid_gathered below joined minimum p n d [] made there plain) x in
+      let taken = taken_out below joined minimum c n made made (get_own d.gathered n made [] there) (split_all below made) (λ width h. h) in
+      subst (λ gathered. IsRight below joined minimum p w k (record d { gathered = gathered }) (Ready n made)) (set_back d.gathered n made [] there)
+      (kept_ready below joined minimum p n made c (record c { gathered = set c.gathered n [] }) taken plain o q w k x.on_plan.hand.0 (no_reduction (node_of p n) linear) more kept)
 
--- whichever worker has the bundle in hand
-pub passed_leads : {T : Type 0} (below : T → T → Bool) (joined : T → T → T) (minimum : T) (o : PartialOrderLaws below) (plan : List Node) (d : DeskView T) (h g : Hand T) (is : IsPassedOn plan d h) → g ≡ Ready is.bundle.place.node is.bundle.updates → Leads below joined minimum plan d h d g
-passed_leads below joined minimum o plan d h g is made p q e es legal k x =
-    let w = state_after below minimum p es in
-    subst (λ f. IsRight below joined minimum p w k d f) (sym made)
-    (passed_right below joined minimum o p q w k d is.bundle is.more is.source (ap (λ nodes. node_at nodes is.bundle.place.node) e ∙ is.view) is.none (subst (λ f. IsRight below joined minimum p w k d f) is.taken x))
+module _ {T : Type 0} (below : T → T → Bool) (joined : T → T → T) (minimum : T) (o : PartialOrderLaws below) (plan : List Node) (d : DeskView T) (h : Hand T) (is : IsPassedOn plan d h) where
+  -- whichever worker has the bundle in hand
+  pub passed_leads : (g : Hand T) → IsMadeOf plan h g → Leads below joined minimum plan d h d g
+  passed_leads g made p q e es legal k x =
+      let n = is.bundle.place.node in
+      let w = state_after below minimum p es in
+      subst (λ f. IsRight below joined minimum p w k d f) (sym (made is.bundle is.more is.taken))
+      (subst (λ nodes. IsRight below joined minimum p w k d (Ready n (linear_output (node_at nodes n) is.bundle.updates))) e
+      (passed_right below joined minimum o p q w k d is.bundle is.more (subst (λ nodes. IsTrue (is_linear (node_at nodes n))) (sym e) is.linear) (ap (λ nodes. arranged_by (node_at nodes n)) e ∙ is.plain) is.none (subst (λ f. IsRight below joined minimum p w k d f) is.taken x)))

@@ -6,10 +6,10 @@ use Rattle.std.specs.declared.cmp.Ordering.{Ordering}
 use Rattle.lattice.specs.Frontiers.{all_beyond}
 use Rattle.update.specs.declared.change.Update.{Update}
 use Rattle.plan.specs.Changes.{has_passed}
-use Rattle.plan.specs.Nodes.{arranged_by, is_join, node_at}
+use Rattle.plan.specs.Nodes.{arranged_by, is_join, is_linear, node_at}
 use Rattle.plan.specs.Widths.{width_of}
 use Rattle.plan.specs.declared.node.Node.{Node}
-use Rattle.plan.specs.declared.node.Node.TheVariants.{Output}
+use Rattle.linear.specs.Applied.{linear_output}
 use Rattle.linear.specs.Ports.{is_port}
 use Rattle.linear.specs.Widths.{are_wide}
 use Rattle.batch.specs.Descriptions.{BatchState}
@@ -136,14 +136,19 @@ module _ {T : Type 0} (below : T → T → Bool) (joined : T → T → T) (minim
     pub left : gathered_in (slice_get c.gathered n) ≡ []
     pub wide : (width : ℕ) → IsTrue (are_wide width (gathered_in (slice_get d.gathered n))) → IsTrue (are_wide width out)
 
-  -- a bundle of a view is in hand, and nothing lies gathered for the view
+  -- a bundle of a linear node is in hand, and nothing lies gathered for the node
   pub record IsPassedOn (plan : List Node) (d : DeskView T) (h : Hand T) : Type 0 where
     pub bundle : Bundle T
     pub more : Bool
     pub taken : h ≡ Taken bundle more
-    pub source : ℕ
-    pub view : node_at plan bundle.place.node ≡ Output source
+    pub linear : IsTrue (is_linear (node_at plan bundle.place.node))
+    pub plain : arranged_by (node_at plan bundle.place.node) ≡ None
     pub none : gathered_in (slice_get d.gathered bundle.place.node) ≡ []
+
+  -- what the node makes of the bundle is ready
+  abbrev pub IsMadeOf : List Node → Hand T → Hand T → Type 0
+  IsMadeOf plan h g = (bundle : Bundle T) (more : Bool) → h ≡ Taken bundle more
+      → g ≡ Ready bundle.place.node (linear_output (node_at plan bundle.place.node) bundle.updates)
 
   -- a batch was put into the spine of its node, unless it is empty, and nothing else has changed
   pub record IsPutAway (p : Dataflow) (n : ℕ) (batch : BatchState T) (d c : DeskView T) : Type 0 where

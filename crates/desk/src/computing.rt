@@ -38,8 +38,7 @@ impl<T: Minimum> Desk<T> {
             plan.now self.old hand.old)) }
     {
         if self.passes_on(plan, hand) {
-            pass_on(hand);
-            return Ok(());
+            return pass_on(alloc, plan, hand);
         }
         match &*hand {
             Hand::Taken { bundle, more } => {

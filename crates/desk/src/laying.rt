@@ -42,9 +42,9 @@ fn applied<T: Minimum>(
     ensures applied { IfOk result (λ out. out.items ≡ linear_output operator.now updates.now) }
     ensures refused { IfErr result (IsMemoryOrOverflow (Overflows operator.now updates.now)) }
 {
-    let updates = updates.to_vec(alloc)?;
-    let out = linear::apply(operator, updates)?;
-    Ok(out)
+    let mut updates = updates.to_vec(alloc)?;
+    linear::apply(operator, &mut updates)?;
+    Ok(updates)
 }
 
 impl<T: Minimum> Desk<T> {

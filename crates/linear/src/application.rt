@@ -4,7 +4,7 @@
 //! to the front, in their old order, and cuts off the rest. The other nodes pass on what comes: a
 //! concat merges two lists of updates into one, and a caller that takes from both ports has merged
 //! them already. So no operator allocates.
-ghost use Rattle.std.specs.Prelude.{◌≡◌, ◌≤◌, ◌↔◌, ℕ, Bool, map, length, IfOk, IfErr, IsErr, OnOk, IsTrue};
+ghost use Rattle.std.specs.Prelude.{◌≡◌, ◌≤◌, ◌↔◌, ℕ, Bool, map, length, IfErr, IsErr, OnErr, OnOk, IsTrue, false};
 ghost use Rattle.std.specs.List.{filter, list_all};
 ghost use Rattle.row.specs.Testing.{passes, is_test_within};
 ghost use Rattle.update.specs.Bags.{Alike};
@@ -60,6 +60,50 @@ fn negate_diffs<T: Lattice>(updates: &mut [Update<T>]) -> Result<(), Refusal>
     Ok(())
 }
 
+// Whether each diff has an opposite.
+fn have_opposites<T: Lattice>(updates: &[Update<T>]) -> bool
+    ensures { result ≡ false ↔ HasLargeDiff (map negated_update updates.now) }
+{
+    for update in updates {
+        let Some(_opposite) = update.diff.negate() else {
+            return false;
+        };
+    }
+    true
+}
+
+// Negates each diff, or none.
+fn negate_all<T: Lattice>(updates: &mut [Update<T>]) -> Result<(), Refusal>
+    ensures negated { OnOk result (updates.new ≡ map negated_update updates.old) }
+    ensures same { OnErr result (updates.new ≡ updates.old) }
+    ensures large { IsErr result ↔ HasLargeDiff (map negated_update updates.old) }
+    ensures only { IfErr result (λ refused. refused ≡ Refusal.Overflow) }
+{
+    if !have_opposites(updates) {
+        return Err(Refusal::Overflow);
+    }
+    negate_diffs(updates)
+}
+
+// Replaces updates by the output of a linear node for them.
+fn overwrite<T: Lattice>(node: &Node, updates: &mut Vec<Update<T>>) -> Result<(), Refusal>
+    requires rows { IsTrue (takes_rows node.now updates.old.items) }
+    ensures applied { OnOk result
+        (updates.new.items ≡ linear_output node.now updates.old.items) }
+    ensures same { OnErr result (updates.new.items ≡ updates.old.items) }
+    ensures overflow { IsErr result ↔ Overflows node.now updates.old.items }
+    ensures only { IfErr result (λ refused. refused ≡ Refusal.Overflow) }
+{
+    match node {
+        Node::Map { items, .. } => map_rows(updates, items.as_slice()),
+        Node::Filter { test, .. } => keep_passing(updates, test),
+        Node::Negate { .. } => return negate_all(updates),
+        // An input, a concat, an arrangement or a view.
+        _ => {}
+    }
+    Ok(())
+}
+
 /// Applies a linear node to the updates that come to one of its ports. A map replaces each row by
 /// its image, a filter keeps the rows that pass, a negation negates each difference, and any other
 /// node passes on what comes. The times stay, and so does the order. At every time, the sum of the
@@ -68,33 +112,26 @@ fn negate_diffs<T: Lattice>(updates: &mut [Update<T>]) -> Result<(), Refusal>
 /// The node must be no join and no reduction, and its items or its test must name only columns that
 /// the rows have; in a plan they do ([`plans_fit`](crate::plans_fit)). [`Refusal::Overflow`] if and
 /// only if the node is a negation and some difference is -2^63, whose opposite does not fit in 64
-/// bits; the list is then dropped. Takes no memory.
+/// bits; the list is then as it was. Takes no memory.
 ///
 /// Cost: linear in the number of updates, and constant if the node passes on what comes. The list
 /// is not consolidated: rows with the same image stay apart.
-pub fn apply<T: Lattice>(
-    node: &Node,
-    mut updates: Vec<Update<T>>,
-) -> Result<Vec<Update<T>>, Refusal>
+pub fn apply<T: Lattice>(node: &Node, updates: &mut Vec<Update<T>>) -> Result<(), Refusal>
     requires linear { IsTrue (is_linear node.now) }
-    requires rows { IsTrue (takes_rows node.now updates.items) }
-    ensures applied { IfOk result (λ out. out.items ≡ linear_output node.now updates.items) }
-    ensures sums { IfOk result (λ out. (k port : ℕ) (t : T) → IsTrue (is_port node.now port)
-        → Alike (as_of T.below t out.items)
-        (operator_output k node.now (at_port port (as_of T.below t updates.items)))) }
-    ensures times { IfOk result (λ out. (p : T → Bool)
-        → IsTrue (list_all (λ u. p u.time) updates.items)
-        → IsTrue (list_all (λ u. p u.time) out.items)) }
-    ensures size { IfOk result (λ out. size out.items ≤ size updates.items) }
-    ensures overflow { IsErr result ↔ Overflows node.now updates.items }
+    requires rows { IsTrue (takes_rows node.now updates.old.items) }
+    ensures applied { OnOk result
+        (updates.new.items ≡ linear_output node.now updates.old.items) }
+    ensures sums { OnOk result ((k port : ℕ) (t : T) → IsTrue (is_port node.now port)
+        → Alike (as_of T.below t updates.new.items)
+        (operator_output k node.now (at_port port (as_of T.below t updates.old.items)))) }
+    ensures times { OnOk result ((p : T → Bool)
+        → IsTrue (list_all (λ u. p u.time) updates.old.items)
+        → IsTrue (list_all (λ u. p u.time) updates.new.items)) }
+    ensures size { OnOk result (size updates.new.items ≤ size updates.old.items) }
+    ensures same { OnErr result (updates.new.items ≡ updates.old.items) }
+    ensures overflow { IsErr result ↔ Overflows node.now updates.old.items }
     ensures only { IfErr result (λ refused. refused ≡ Refusal.Overflow) }
 {
-    match node {
-        Node::Map { items, .. } => map_rows(&mut updates, items.as_slice()),
-        Node::Filter { test, .. } => keep_passing(&mut updates, test),
-        Node::Negate { .. } => negate_diffs(&mut updates)?,
-        // An input, a concat, an arrangement or a view.
-        _ => {}
-    }
-    Ok(updates)
+    overwrite(node, updates)?;
+    Ok(())
 }
