@@ -5,12 +5,14 @@ use Rattle.std.specs.List.{slice_get}
 use Rattle.std.proofs.lemmas.Bool.{true≢false}
 use Rattle.std.proofs.lemmas.List.{append-nil}
 use Rattle.std.proofs.lemmas.Option.{same_Some}
+use Rattle.std.specs.declared.cmp.Ordering.{Ordering}
 use Rattle.lattice.specs.Order.{PartialOrderLaws}
 use Rattle.update.specs.declared.change.Update.{Update}
 use Rattle.plan.specs.Nodes.{arranged_by, is_linear, is_reduction, node_at}
 use Rattle.plan.specs.declared.node.Node.{Node}
 use Rattle.plan.specs.declared.node.Node.TheVariants.{Reduce}
-use Rattle.linear.specs.Applied.{linear_output}
+use Rattle.linear.specs.Applied.{Overflows, linear_output}
+use Rattle.linear.specs.Widths.{takes_rows}
 use Rattle.histories.specs.declared.event.Bundle.{Bundle}
 use Rattle.histories.specs.Histories.{state_after}
 use Rattle.histories.specs.Histories.Dataflows.{Dataflow, IsDataflow, node_of}
@@ -20,10 +22,11 @@ use Rattle.desk_laws.specs.Own.{DeskView, gathered_in}
 use Rattle.desk_laws.specs.declared.hand.Hand.{Hand}
 use Rattle.desk_laws.specs.declared.hand.Hand.TheVariants.{Ready, Taken}
 use Rattle.desk_laws.proofs.GivenLemmas.{split_parts}
-use Rattle.desk.specs.Desks.{IsMadeOf, IsPassedOn, IsRight, Leads}
+use Rattle.desk.specs.Desks.{IsMadeOf, IsPassedOn, IsRight, IsSomeones, IsTooLarge, Leads}
+use Rattle.desk.proofs.BundleLemmas.{bundle_rows}
 use Rattle.desk.proofs.DeskLemmas.{laid_gathered}
 use Rattle.desk.proofs.FindingLemmas.{kept_ready, taken_out}
-use Rattle.desk.proofs.LayingLemmas.{laid_right}
+use Rattle.desk.proofs.LayingLemmas.{laid_right, made_too_large}
 use Rattle.desk.proofs.PlaceLemmas.{get_own}
 
 -- a place that is written twice is as it was, if the second time it is
@@ -76,3 +79,11 @@ module _ {T : Type 0} (below : T → T → Bool) (joined : T → T → T) (minim
       subst (λ f. IsRight below joined minimum p w k d f) (sym (made is.bundle is.more is.taken))
       (subst (λ nodes. IsRight below joined minimum p w k d (Ready n (linear_output (node_at nodes n) is.bundle.updates))) e
       (passed_right below joined minimum o p q w k d is.bundle is.more (subst (λ nodes. IsTrue (is_linear (node_at nodes n))) (sym e) is.linear) (ap (λ nodes. arranged_by (node_at nodes n)) e ∙ is.plain) is.none (subst (λ f. IsRight below joined minimum p w k d f) is.taken x)))
+
+  -- why the node could not take the bundle
+  pub passed_too_large : (cmp : T → T → Ordering) → ((bundle : Bundle T) × (more : Bool) × (h ≡ Taken bundle more) × Overflows (node_at plan bundle.place.node) bundle.updates) → IsTooLarge below joined minimum cmp plan d h
+  passed_too_large cmp over = subst (λ f. IsTooLarge below joined minimum cmp plan d f) (sym over.2) (made_too_large below joined minimum o cmp plan d over.0 over.1 over.3)
+
+  -- the rows are as wide as the node takes them
+  pub passed_rows : IsSomeones below joined minimum plan d h → (bundle : Bundle T) × (more : Bool) × (h ≡ Taken bundle more) × IsTrue (is_linear (node_at plan bundle.place.node)) × IsTrue (takes_rows (node_at plan bundle.place.node) bundle.updates)
+  passed_rows x = (is.bundle, is.more, is.taken, is.linear, bundle_rows below joined minimum plan d is.bundle is.more (subst (λ f. IsSomeones below joined minimum plan d f) is.taken x))

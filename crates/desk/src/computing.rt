@@ -38,7 +38,8 @@ impl<T: Minimum> Desk<T> {
             plan.now self.old hand.old)) }
     {
         if self.passes_on(plan, hand) {
-            return pass_on(alloc, plan, hand);
+            pass_on(alloc, plan, hand)?;
+            return Ok(());
         }
         match &*hand {
             Hand::Taken { bundle, more } => {
@@ -103,9 +104,10 @@ impl<T: Minimum> Desk<T> {
     ///   fed.
     /// - [`Refusal::OutOfMemory`] only if memory was refused.
     ///
-    /// Cost: a copy of the bundle, and then at a linear node one step for each update, at a join or a
-    /// reduction that of [`operator::Joining`] or [`operator::Reducing`]. A turn costs n log n
-    /// comparisons in the number of updates that the frontier has passed.
+    /// Cost: at a linear node one step for each update, and no copy, unless short bundles are gathered
+    /// or the node has two sources. At an arrange node, a join or a reduction a copy of the bundle, and
+    /// then that of [`operator::Arrangement`], [`operator::Joining`] or [`operator::Reducing`]. A turn
+    /// costs n log n comparisons in the number of updates that the frontier has passed.
     pub fn compute(&mut self, alloc: Global, plan: &Plan, hand: &mut Hand<T>) -> Result<(), Refusal>
         requires someones { IsSomeones T.below T.joined T.least plan.now self.old hand.old }
         ensures leads { Leads T.below T.joined T.least plan.now self.old hand.old self.new hand.new }

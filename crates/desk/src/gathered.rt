@@ -12,7 +12,7 @@ ghost use Rattle.histories.specs.Histories.States.{times};
 ghost use Rattle.operator_laws.specs.Gathering.{IsSplit};
 
 use lattice::Minimum;
-use operator::front_with;
+use operator::{front_with, renew};
 use plan::Node;
 use std::alloc::Global;
 use std::marker::Model;
@@ -37,6 +37,21 @@ impl<T: Minimum> Model for Gathered<T> {
     ghost invariant = { λ g. IsFrontOf T.below g.front.items g.updates };
 }
 
+// Moves updates to the end of a list. If it has none, then the other list takes its place. If memory
+// was refused, then nothing has changed.
+fn move_behind<T: Minimum>(list: &mut Updates<T>, more: Updates<T>) -> Result<(), Refusal>
+    ensures more { OnOk result (list.new ≡ list.old ++ more) }
+    ensures same { OnErr result (list.new ≡ list.old) }
+    ensures only { IfErr result (λ refused. refused ≡ OutOfMemory) }
+{
+    if list.len() == 0 {
+        *list = more;
+        return Ok(());
+    }
+    let mut more = more;
+    list.append(&mut more)
+}
+
 impl<T: Minimum> Gathered<T> {
     // Nothing. Takes no memory.
     pub(crate) fn new(alloc: Global) -> Gathered<T>
@@ -55,21 +70,15 @@ impl<T: Minimum> Gathered<T> {
         self.updates.len()
     }
 
-    // Moves updates to the end; the list itself, if there were none before. If memory was refused, then
-    // nothing has changed here.
+    // Moves updates to the end. If memory was refused, then nothing has changed here.
     pub(crate) fn append(&mut self, alloc: Global, more: Vec<Update<T>>) -> Result<(), Refusal>
         ensures more { OnOk result (self.new ≡ self.old ++ more.items) }
         ensures same { OnErr result (self.new ≡ self.old) }
         ensures only { IfErr result (λ refused. refused ≡ OutOfMemory) }
     {
         let front = front_with(alloc, self.front.as_slice(), more.as_slice())?;
-        let mut more: Updates<T> = more.into();
-        if self.updates.len() == 0 {
-            self.updates = more;
-        } else {
-            self.updates.append(&mut more)?;
-        }
-        self.front = front;
+        move_behind(&mut self.updates, more.into())?;
+        renew(&mut self.front, front);
         Ok(())
     }
 

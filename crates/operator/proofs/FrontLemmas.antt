@@ -1,14 +1,17 @@
 -- The least times of some updates: a step of the loops that find them, and what they are as a
 -- frontier.
-use Rattle.std.proofs.Common.{◌≡◌, ℕ, suc, ◌+◌, ◌<◌, Bool, true, false, cond, ◌||◌, List, [], ◌∷◌, ◌++◌, IsTrue, length, drop, get_or, add-one, drop-cons, refl, sym, ◌∙◌, ap}
+use Rattle.std.proofs.Common.{◌≡◌, ℕ, suc, ◌+◌, ◌<◌, Bool, true, false, cond, ◌||◌, Option, Some, None, List, [], ◌∷◌, ◌++◌, IsTrue, length, drop, get_or, add-one, drop-cons, refl, sym, subst, ◌∙◌, ap}
 use Rattle.lattice.specs.Order.{PartialOrderLaws}
 use Rattle.lattice.specs.Frontiers.{is_beyond, all_beyond}
 use Rattle.lattice.proofs.FrontierLemmas.{all_beyond_from}
 use Rattle.std.specs.declared.cmp.Ordering.{Ordering}
 use Rattle.std.specs.declared.cmp.Ordering.TheVariants.{Less}
+use Rattle.std.specs.List.{list_all}
+use Rattle.std.specs.Prelude.{IfSome}
+use Rattle.std.proofs.lemmas.Bool.{and_parts}
 use Rattle.std.proofs.lemmas.List.Folds.{list_any-append}
 use Rattle.antichain.specs.Insertion.{insertion, not_above}
-use Rattle.antichain.proofs.InsertionLemmas.{beyond_inserted}
+use Rattle.antichain.proofs.InsertionLemmas.{beyond_already, beyond_inserted}
 use Rattle.update.specs.declared.change.Update.{Update}
 use Rattle.batch.specs.Intervals.{open_updates}
 use Rattle.operator.specs.Arrangements.{IsFrontOf, times_of}
@@ -77,6 +80,23 @@ module _ {T : Type 0} (below : T → T → Bool) where
   front_more F G us vs f e = record {
     beyond = λ t. e t ∙ ap (λ b. b || is_beyond below (times_of vs) t) (f.beyond t) ∙ sym (beyond-append us vs t);
   }
+
+  -- times that all updates are beyond, already
+  pub beyond_covered : PartialOrderLaws below → (F : List T) (us : List (Update T)) (t : T) → IsTrue (list_all (λ u. is_beyond below F u.time) us) → is_beyond below F t ≡ (is_beyond below F t || is_beyond below (times_of us) t)
+  beyond_covered o F [] t h = sym (or_false (is_beyond below F t))
+  beyond_covered o F (u ∷ us) t h =
+      let both = and_parts (is_beyond below F u.time) (list_all (λ v. is_beyond below F v.time) us) h in
+      beyond_covered o F us t both.1
+      ∙ ap (λ b. b || is_beyond below (times_of us) t) (beyond_already o u.time t F both.0)
+      ∙ or_turn (below u.time t) (is_beyond below F t) (is_beyond below (times_of us) t)
+
+  -- the front, with a newer one in its place if there is one
+  pub front_renewed : {V : Type 0} (items : V → List T) (more : Option V) (F G : List T) (us vs : List (Update T)) → IsFrontOf below F us
+      → IfSome more (λ v. (t : T) → is_beyond below (items v) t ≡ (is_beyond below F t || is_beyond below (times_of vs) t))
+      → (more ≡ None → (t : T) → is_beyond below F t ≡ (is_beyond below F t || is_beyond below (times_of vs) t))
+      → IfSome more (λ v. G ≡ items v) → (more ≡ None → G ≡ F) → IsFrontOf below G (us ++ vs)
+  front_renewed items (Some v) F G us vs f some none is kept = subst (λ H. IsFrontOf below H (us ++ vs)) (sym is) (front_more F (items v) us vs f some)
+  front_renewed items None F G us vs f some none is kept = subst (λ H. IsFrontOf below H (us ++ vs)) (sym (kept refl)) (front_more F F us vs f (none refl))
 
   -- a front and the times of its updates are beyond each other
   pub front_covers : PartialOrderLaws below → (F : List T) (us : List (Update T)) → IsFrontOf below F us → IsTrue (all_beyond below F (times_of us))

@@ -3,7 +3,7 @@
 //! What a worker holds at a node is the least of the times that wait there. The list has no time at
 //! or after another one of it, and the same times are beyond it as are at or after one of those
 //! that were put in.
-ghost use Rattle.std.specs.Prelude.{◌≡◌, ◌||◌, IfOk, IfErr, OnOk};
+ghost use Rattle.std.specs.Prelude.{◌≡◌, ◌||◌, IfOk, IfErr, IfSome, IsTrue, None, OnOk};
 ghost use Rattle.lattice.specs.Frontiers.{is_beyond};
 ghost use Rattle.antichain.specs.Antichains.{IsFrontier};
 ghost use Rattle.antichain.specs.Insertion.{not_above};
@@ -59,12 +59,10 @@ pub(crate) fn put_in_all<T: Lattice>(front: &mut Vec<T>, times: &[T]) -> Result<
     Ok(())
 }
 
-/// Takes in the times of all of these updates: the same times are beyond `front` afterwards as were
-/// before, or are at or after one of these. [`Refusal::OutOfMemory`] only if memory was refused;
-/// then some of the times may have been taken in.
-///
-/// Cost: each time is compared with those that `front` has.
-pub fn put_in_updates<T: Lattice>(front: &mut Vec<T>, updates: &[Update<T>]) -> Result<(), Refusal>
+// Takes in the times of all of these updates: the same times are beyond `front` afterwards as were
+// before, or are at or after one of these. If memory was refused, then some of the times may have been
+// taken in.
+fn put_in_updates<T: Lattice>(front: &mut Vec<T>, updates: &[Update<T>]) -> Result<(), Refusal>
     ensures beyond { OnOk result ((t : T) → is_beyond T.below front.new.items t
         ≡ (is_beyond T.below front.old.items t || is_beyond T.below (times_of updates.now) t)) }
     ensures only { IfErr result (λ refused. refused ≡ Refusal.OutOfMemory) }
@@ -75,22 +73,46 @@ pub fn put_in_updates<T: Lattice>(front: &mut Vec<T>, updates: &[Update<T>]) -> 
     Ok(())
 }
 
-/// The least of some times and of the times of some updates. [`Refusal::OutOfMemory`] only if
-/// memory for the list was refused.
+// Whether the time of each update is at or after one of these times.
+fn covers<T: Lattice>(times: &[T], updates: &[Update<T>]) -> bool
+    ensures { IsTrue result → (t : T) → is_beyond T.below times.now t
+        ≡ (is_beyond T.below times.now t || is_beyond T.below (times_of updates.now) t) }
+{
+    updates.iter().all(|update| is_beyond(times, &update.time))
+}
+
+/// The least of some times and of the times of some updates; `None` if the updates add none.
+/// [`Refusal::OutOfMemory`] only if memory for the list was refused.
 ///
-/// Cost: as for [`put_in_updates`].
+/// Cost: each time is compared with those of the list. With `None` it takes no memory.
 pub fn front_with<T: Lattice>(
     alloc: Global,
     times: &[T],
     updates: &[Update<T>],
-) -> Result<Vec<T>, Refusal>
-    ensures beyond { IfOk result (λ front. (t : T) → is_beyond T.below front.items t
+) -> Result<Option<Vec<T>>, Refusal>
+    ensures more { IfOk result (λ more. IfSome more (λ front. (t : T)
+        → is_beyond T.below front.items t
+        ≡ (is_beyond T.below times.now t || is_beyond T.below (times_of updates.now) t))) }
+    ensures none { IfOk result (λ more. more ≡ None → (t : T) → is_beyond T.below times.now t
         ≡ (is_beyond T.below times.now t || is_beyond T.below (times_of updates.now) t)) }
     ensures only { IfErr result (λ refused. refused ≡ Refusal.OutOfMemory) }
 {
+    if covers(times, updates) {
+        return Ok(None);
+    }
     let mut front = Vec::from_slice(alloc, times)?;
     put_in_updates(&mut front, updates)?;
-    Ok(front)
+    Ok(Some(front))
+}
+
+/// Puts a front in place of another one, if there is one. Takes no memory.
+pub fn renew<T: Lattice>(front: &mut Vec<T>, more: Option<Vec<T>>)
+    ensures more { IfSome more (λ newer. front.new.items ≡ newer.items) }
+    ensures none { more ≡ None → front.new.items ≡ front.old.items }
+{
+    if let Some(newer) = more {
+        *front = newer;
+    }
 }
 
 // The least times of the updates that the frontier has not passed.

@@ -8,7 +8,7 @@
 //!
 //! Updates come to a node in any order, and they may cancel one another. They are sealed into
 //! batches here. For updates that must wait, the worker holds back the least of their times
-//! ([`front_with`], [`put_in_updates`]).
+//! ([`front_with`], [`renew`]).
 //!
 //! A call here is not an event of the machine. The worker makes it between two events, and nobody
 //! else sees what it does. Crate `operator_laws` says in which states of the machine the answers
@@ -24,6 +24,6 @@ mod reduction;
 
 pub use arrangement::{Arrangement, what_is_taken_is_up_to_a_boundary};
 pub use copying::updates_of;
-pub use frontier::{antichain_of, front_with, put_in_updates};
+pub use frontier::{antichain_of, front_with, renew};
 pub use joins::Joining;
 pub use reduction::Reducing;

@@ -1,6 +1,6 @@
 -- What a step of a worker adds to what it has seen, and what it then has in hand. Each step is one
 -- event, or none.
-use Rattle.std.specs.Prelude.{◌≡◌, ℕ, ◌↔◌, ◌⊎◌, Bool, false, List, [], Some, IsTrue}
+use Rattle.std.specs.Prelude.{◌≡◌, ℕ, ◌↔◌, ◌⊎◌, Bool, true, false, List, [], Some, IsTrue}
 use Rattle.std.specs.declared.cmp.Ordering.{Ordering}
 use Rattle.update.specs.declared.change.Update.{Update}
 use Rattle.update.specs.declared.refusal.Refusal.{Refusal}
@@ -57,6 +57,11 @@ module _ {T : Type 0} where
   -- what a worker gives at a node
   abbrev pub emission_of : ℕ → ℕ → List (Update T) → Emission T
   emission_of n k us = record { node = n; worker = k; updates = us }
+
+  -- the step in which something was given, or another actor had the board
+  abbrev pub gave_or_busy : Bool → Step
+  gave_or_busy true = Gave
+  gave_or_busy false = Busy
 
   -- the actor has seen nothing new, or it has looked
   abbrev pub LooksAtMost : Known (Doing T) → Known (Doing T) → Type 0

@@ -3,7 +3,7 @@
 //! Of what is kept it gives nothing, and holds back what lies on the desk for the node. An empty batch
 //! is given as nothing too. What is ready moves to the board. If another actor has the board, or memory
 //! is refused, then it comes back, and the hand is as it was.
-ghost use Rattle.std.specs.Prelude.{◌≡◌, ◌<◌, [], Some, IfErr, IfOk, IsTrue, OnErr, OnOk, length};
+ghost use Rattle.std.specs.Prelude.{◌≡◌, ◌<◌, [], Some, false, IfErr, IfOk, IsTrue, OnErr, OnOk, length};
 ghost use Rattle.update.specs.declared.refusal.Refusal.TheVariants.{OutOfMemory};
 ghost use Rattle.plan.specs.Widths.{width_of};
 ghost use Rattle.linear.specs.Widths.{are_wide};
@@ -17,8 +17,7 @@ ghost use Rattle.desk_laws.specs.Own.{IsHandOn, hand_node};
 ghost use Rattle.desk_laws.specs.declared.hand.Hand.{Hand};
 ghost use Rattle.desk_laws.specs.declared.hand.Hand.TheVariants.{Free};
 ghost use Rattle.desk.specs.Desks.{IsComputed};
-ghost use Rattle.steps.specs.Steps.{HasLeftLater, HasSent, HasTriedToGive, IsPutDown, LooksAtMost, emission_of, output_of, without_output};
-ghost use Rattle.steps.specs.declared.step.Step.TheVariants.{Busy};
+ghost use Rattle.steps.specs.Steps.{HasLeftLater, HasSent, HasTriedToGive, IsPutDown, LooksAtMost, emission_of, gave_or_busy, output_of, without_output};
 ghost use Rattle.steps.specs.Workers.{IsRightOf};
 
 use crate::step::Step;
@@ -82,9 +81,9 @@ fn put_back<T: Minimum>(hand: &mut Hand<T>, output: UpdateList<T>)
     }
 }
 
-// Cuts what a worker computed into bundles, and tries to give it. The give must be allowed in the state
-// that the worker left. Unless it is given, the updates are as they were. Refused only with
-// `OutOfMemory`.
+// Cuts what a worker computed into bundles, and tries to give it. The answer is whether it was given:
+// else another actor had the board. The give must be allowed in the state that the worker left. Unless
+// it is given, the updates are as they were. Refused only with `OutOfMemory`.
 fn send<T: Minimum, P: BoardProtocol<T>>(
     alloc: Global,
     routing: &Routing,
@@ -93,7 +92,7 @@ fn send<T: Minimum, P: BoardProtocol<T>>(
     worker: usize,
     updates: &mut UpdateList<T>,
     held: Vec<T>,
-) -> Result<Step, Refusal>
+) -> Result<bool, Refusal>
     requires routing { routing.now ≡ dataflow_of actor.old }
     requires own { worker ≡ actor.old.number }
     requires worker { actor.old.number < (dataflow_of actor.old).workers }
@@ -104,9 +103,9 @@ fn send<T: Minimum, P: BoardProtocol<T>>(
         → IsGive T.below (dataflow_of actor.old) (state_left T.below T.least actor.old)
         (emission_of node worker updates.old) held.items
         (cut T.below (dataflow_of actor.old) (emission_of node worker updates.old)) }
-    ensures sent { IfOk result
-        (HasSent T.below actor.old actor.new (emission_of node worker updates.old) held.items) }
-    ensures kept { IfOk result (λ step. step ≡ Busy → updates.new ≡ updates.old) }
+    ensures sent { IfOk result (λ gave. HasSent T.below actor.old actor.new
+        (emission_of node worker updates.old) held.items (gave_or_busy gave)) }
+    ensures kept { IfOk result (λ gave. gave ≡ false → updates.new ≡ updates.old) }
     ensures same { OnErr result (updates.new ≡ updates.old) }
     ensures refused { IfErr result (λ refusal. (refusal ≡ OutOfMemory)
         × LooksAtMost actor.old actor.new) }
@@ -124,14 +123,14 @@ fn send<T: Minimum, P: BoardProtocol<T>>(
         }
     };
     match actor.try_give(cut, held.into()) {
-        Ok(Ok(())) => Ok(Step::Gave),
+        Ok(Ok(())) => Ok(true),
         Ok(Err(ungiven)) => {
             *updates = ungiven.cut.into_emission().updates;
             Err(Refusal::OutOfMemory)
         }
         Err(ungiven) => {
             *updates = ungiven.cut.into_emission().updates;
-            Ok(Step::Busy)
+            Ok(false)
         }
     }
 }
@@ -179,8 +178,17 @@ pub(crate) fn give<T: Minimum, P: BoardProtocol<T>>(
     let answer = send(alloc, routing, actor, node, number, &mut output, held);
     actor.known();
     match answer {
-        Ok(Step::Gave) => put_down(desk, hand),
-        _ => put_back(hand, output),
+        Ok(true) => {
+            put_down(desk, hand);
+            Ok(Step::Gave)
+        }
+        Ok(false) => {
+            put_back(hand, output);
+            Ok(Step::Busy)
+        }
+        Err(refusal) => {
+            put_back(hand, output);
+            Err(refusal)
+        }
     }
-    answer
 }

@@ -58,7 +58,7 @@ impl<T: Minimum, P: BoardProtocol<T>> Worker<T, P> {
     ///
     /// Cost: one attempt to enter the board. A take costs that of
     /// [`Actor::try_take_piece`](shared_board::Actor::try_take_piece) and of [`desk::Desk::compute`]. A
-    /// give costs a copy of what is given, and that of [`machine::Routing::cut`].
+    /// give costs that of [`machine::Routing::cut`], and of a batch a copy.
     pub fn step_at(&mut self, alloc: Global, pick: usize) -> Result<Step, Refusal>
         ensures step { IfOk result (IsStep T.below T.least pick self.old self.new) }
         ensures going { IfOk result (λ step. self.new.failed ≡ false) }

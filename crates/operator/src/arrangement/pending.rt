@@ -11,7 +11,7 @@ ghost use Rattle.batch.specs.Batches.{IsSealed};
 ghost use Rattle.batch.specs.Intervals.{all_between, is_interval_of, passed_updates, open_updates};
 ghost use Rattle.operator.specs.Arrangements.{times_of};
 
-use crate::frontier::{antichain_of, front_of_open, front_with};
+use crate::frontier::{antichain_of, front_of_open, front_with, renew};
 use antichain::{Antichain, is_beyond};
 use batch::{Batch, Builder};
 use lattice::{Lattice, Minimum};
@@ -58,8 +58,8 @@ impl<T: Lattice> Waiting<T> {
         }
     }
 
-    // Moves updates to the end, and leaves their list empty. If there were none before, and no room for
-    // them, then the list itself moves. If memory was refused, both are as they were.
+    // Moves updates to the end, and leaves their list empty. If memory was refused, both are as they
+    // were.
     pub(crate) fn take_in(&mut self, updates: &mut Vec<Update<T>>) -> Result<(), Refusal>
         ensures ok { OnOk result (self.new
             ≡ record self.old { updates = self.old.updates ++ updates.old.items }) }
@@ -70,12 +70,8 @@ impl<T: Lattice> Waiting<T> {
     {
         let alloc = *self.updates.allocator();
         let front = front_with(alloc, self.front.as_slice(), updates.as_slice())?;
-        if self.updates.is_empty() && self.updates.capacity() < updates.len() {
-            mem::swap(&mut self.updates, updates);
-        } else {
-            self.updates.append(updates)?;
-        }
-        self.front = front;
+        move_behind(&mut self.updates, updates)?;
+        renew(&mut self.front, front);
         Ok(())
     }
 
@@ -132,6 +128,26 @@ impl<T: Minimum> Waiting<T> {
         self.front = front;
         Ok(batch)
     }
+}
+
+// Moves updates to the end of a list. If it has none, and no room for them, then the lists are
+// exchanged. If memory was refused, both are as they were.
+fn move_behind<T: Lattice>(
+    list: &mut Vec<Update<T>>,
+    more: &mut Vec<Update<T>>,
+) -> Result<(), Refusal>
+    ensures ok { OnOk result (list.new.items ≡ list.old.items ++ more.old.items) }
+    ensures moved { OnOk result (more.new.items ≡ []) }
+    ensures same { OnErr result (list.new.items ≡ list.old.items) }
+    ensures left { OnErr result (more.new.items ≡ more.old.items) }
+    ensures only { IfErr result (λ refused. refused ≡ Refusal.OutOfMemory) }
+{
+    if list.is_empty() && list.capacity() < more.len() {
+        mem::swap(list, more);
+        return Ok(());
+    }
+    list.append(more)?;
+    Ok(())
 }
 
 // Copies of the updates that the frontier has passed.

@@ -6,6 +6,7 @@ use Rattle.desk_laws.specs.Own.{DeskView}
 use Rattle.desk_laws.specs.declared.hand.Hand.{Hand}
 use Rattle.desk_laws.specs.declared.hand.Hand.TheVariants.{Turned}
 use Rattle.desk.specs.Desks.{IsRight, IsTooLarge}
+use Rattle.desk.proofs.PassingLemmas.{passed_leads, passed_rows, passed_too_large}
 use Rattle.desk.proofs.ResultLemmas.{if_err_at, memory_or}
 use Rattle.desk.proofs.desk.Desk.begin.Goals as goal
 
@@ -42,3 +43,11 @@ returns-in_ok-turned-in-Turned-clause-leads g c p q e es legal k x =
     let right : DeskView g.row.T.Denot → Hand g.row.T.Denot → Type 0 = λ d h. IsRight g.T.PartialOrder.below g.T.Lattice.joined g.T.Minimum.least p w k d h in
     subst (λ h. right c.turn.new.self h) (sym c.take_in_hand-in-Turned.ensures)
     (c.in_ok-turned-in-Turned.ensures.leads p q e es legal k (subst (λ ts. right c.args.self.now (Turned c.in-Turned.node ts)) (sym c.as_slice.ensures) (subst (λ h. right c.args.self.now h) c.in-Turned.is x)))
+
+pub pass_on-requires : goal.pass_on-requires
+pass_on-requires g c =
+    passed_rows g.T.PartialOrder.below g.T.Lattice.joined g.T.Minimum.least g.met.T.PartialOrder.order c.args.plan.now c.args.self.now c.args.hand.now (c.passes_on.ensures c.if-passes_on.true) c.requires.someones
+
+pub returns-then-passes_on-clause-leads : goal.returns-then-passes_on-clause-leads
+returns-then-passes_on-clause-leads g c =
+    passed_leads g.T.PartialOrder.below g.T.Lattice.joined g.T.Minimum.least g.met.T.PartialOrder.order c.args.plan.now c.args.self.now c.args.hand.now (c.passes_on.ensures c.if-passes_on.true) c.pass_on.new.hand c.in_ok-pass_on.ensures.made
