@@ -27,7 +27,7 @@ pub fn others_change_nothing_of_a_worker<T: Minimum>()
         (left_by T.below T.least t.dataflow (others ++ seen)) }
 {}
 
-/// A worker knows the width of the rows of each bundle that it takes, whoever sent it: that of the
+/// A worker knows the width of the rows of each bundle that it takes from any worker: that of the
 /// node that the bundle's place reads.
 pub fn bundles_taken_have_their_width<T: Minimum>()
     ensures { (old new : Known (Doing T)) (number : ℕ) (bundle : Bundle T)
