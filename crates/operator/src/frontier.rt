@@ -4,6 +4,7 @@
 //! or after another one of it, and the same times are beyond it as are at or after one of those
 //! that were put in.
 ghost use Rattle.std.specs.Prelude.{◌≡◌, ◌||◌, IfOk, IfErr, IfSome, IsTrue, None, OnOk};
+ghost use Rattle.std.specs.List.{list_all};
 ghost use Rattle.lattice.specs.Frontiers.{is_beyond};
 ghost use Rattle.antichain.specs.Antichains.{IsFrontier};
 ghost use Rattle.antichain.specs.Insertion.{not_above};
@@ -75,8 +76,7 @@ fn put_in_updates<T: Lattice>(front: &mut Vec<T>, updates: &[Update<T>]) -> Resu
 
 // Whether the time of each update is at or after one of these times.
 fn covers<T: Lattice>(times: &[T], updates: &[Update<T>]) -> bool
-    ensures { IsTrue result → (t : T) → is_beyond T.below times.now t
-        ≡ (is_beyond T.below times.now t || is_beyond T.below (times_of updates.now) t) }
+    ensures { result ≡ list_all (λ u. is_beyond T.below times.now u.time) updates.now }
 {
     updates.iter().all(|update| is_beyond(times, &update.time))
 }

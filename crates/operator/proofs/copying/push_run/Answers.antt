@@ -1,4 +1,5 @@
-use Rattle.std.proofs.Common.{◌≤◌, ◌++◌, arith}
+use Rattle.std.proofs.Common.{◌≤◌, ◌++◌, ◌∷◌, [], FitsSigned, w64, ap, ◌∙◌, arith, rules}
+use Rattle.std.proofs.lemmas.Int.{to_z-of_z}
 use Rattle.batch.proofs.CopyLemmas.{one_copied, same_update}
 use Rattle.operator.proofs.copying.push_run.Goals as goal
 
@@ -9,7 +10,9 @@ loop-i-preserved g c =
     let time = c.time.result in
     let row = c.args.row.now in
     let diff = c.diff.result in
+    let fits : FitsSigned w64 diff = search rules in
     let begun : c.args.part.start ≤ i = omega (arith, c.loop-i.auto.i) in
     one_copied c.args.list.now c.loop-i.list c.push_row.new.self us c.args.part.start i
-    (record { time = time; row = row; diff = diff }) begun c.loop-i.invariant c.in_ok-push_row.ensures.more
+    (record { time = time; row = row; diff = diff }) begun c.loop-i.invariant
+    (c.in_ok-push_row.ensures.more ∙ ap (λ d. c.loop-i.list ++ record { time = time; row = row; diff = d } ∷ []) (to_z-of_z w64 diff fits))
     (same_update us i time row diff c.time.ensures c.diff.ensures (c.requires.alike i (record { time = time; row = row; diff = diff }) begun (omega (arith, c.loop-i-test.true))))
