@@ -15,6 +15,7 @@ pub mod PlaceLemmas
 pub mod FlatLemmas
 pub mod ReadingLemmas
 pub mod PairingLemmas
+pub mod PassingLemmas
 pub mod JoiningLemmas
 pub mod JoiningCauseLemmas
 pub mod TidyLemmas

@@ -1,7 +1,8 @@
 -- What a linear node makes of a bundle is ready at once: as if it had been gathered alone, and all of it
 -- taken out again.
-use Rattle.std.proofs.Common.{◌≡◌, ℕ, zero, suc, ◌<◌, Bool, false, List, [], ◌∷◌, ◌++◌, length, set, Some, None, IsTrue, arith, sym, refl, ap, ◌∙◌, subst}
+use Rattle.std.proofs.Common.{◌≡◌, ℕ, zero, suc, ◌<◌, Bool, false, List, [], ◌∷◌, length, set, get_or, Option, Some, None, IsTrue, arith, sym, refl, ap, ◌∙◌, subst}
 use Rattle.std.specs.List.{slice_get}
+use Rattle.std.specs.Prelude.{is_some}
 use Rattle.std.proofs.lemmas.Bool.{true≢false}
 use Rattle.std.proofs.lemmas.List.{append-nil}
 use Rattle.std.proofs.lemmas.Option.{same_Some}
@@ -11,8 +12,7 @@ use Rattle.update.specs.declared.change.Update.{Update}
 use Rattle.plan.specs.Nodes.{arranged_by, is_linear, is_reduction, node_at}
 use Rattle.plan.specs.declared.node.Node.{Node}
 use Rattle.plan.specs.declared.node.Node.TheVariants.{Reduce}
-use Rattle.linear.specs.Applied.{Overflows, linear_output}
-use Rattle.linear.specs.Widths.{takes_rows}
+use Rattle.linear.specs.Applied.{linear_output}
 use Rattle.histories.specs.declared.event.Bundle.{Bundle}
 use Rattle.histories.specs.Histories.{state_after}
 use Rattle.histories.specs.Histories.Dataflows.{Dataflow, IsDataflow, node_of}
@@ -22,8 +22,8 @@ use Rattle.desk_laws.specs.Own.{DeskView, gathered_in}
 use Rattle.desk_laws.specs.declared.hand.Hand.{Hand}
 use Rattle.desk_laws.specs.declared.hand.Hand.TheVariants.{Ready, Taken}
 use Rattle.desk_laws.proofs.GivenLemmas.{split_parts}
-use Rattle.desk.specs.Desks.{IsMadeOf, IsPassedOn, IsRight, IsSomeones, IsTooLarge, Leads}
-use Rattle.desk.proofs.BundleLemmas.{bundle_rows}
+use Rattle.desk.specs.Desks.{HasLinear, HasOverflowing, IsMadeOf, IsPassedOn, IsRight, IsSomeones, IsTooLarge, Leads}
+use Rattle.desk.proofs.BundleLemmas.{bundle_rows, bundle_within}
 use Rattle.desk.proofs.DeskLemmas.{laid_gathered}
 use Rattle.desk.proofs.FindingLemmas.{kept_ready, taken_out}
 use Rattle.desk.proofs.LayingLemmas.{laid_right, made_too_large}
@@ -42,9 +42,24 @@ module _ {T : Type 0} where
   empty_there (z ∷ xs) zero l e = ap (λ us. Some us) e
   empty_there (z ∷ xs) (suc n) l e = empty_there xs n (omega (arith, l)) e
 
+  -- and where the list that is read is empty, nothing lies gathered
+  no_update : (us : List (Update T)) → length us ≡ 0 → us ≡ []
+  no_update [] e = refl
+  no_update (u ∷ us) e = cc
+
+  pub none_lies : (xs : List (List (Update T))) (n : ℕ) (us : List (Update T)) → us ≡ get_or xs n us → length us ≡ 0 → gathered_in (slice_get xs n) ≡ []
+  none_lies [] n us e l = refl
+  none_lies (z ∷ xs) zero us e l = no_update z (ap length (sym e) ∙ l)
+  none_lies (z ∷ xs) (suc n) us e l = none_lies xs n us e l
+
   -- all of it is given
   split_all : (below : T → T → Bool) (us : List (Update T)) → IsSplit below us us []
   split_all below us = subst (λ vs. IsSplit below vs us []) (append-nil us) (split_parts below us [])
+
+-- what is not some is none
+pub none_of : {A : Type 0} (o : Option A) → is_some o ≡ false → o ≡ None
+none_of None e = refl
+none_of (Some x) e = absurd (true≢false e)
 
 -- a linear node is no reduction
 no_reduction : (node : Node) → IsTrue (is_linear node) → is_reduction node ≡ false
@@ -73,17 +88,19 @@ module _ {T : Type 0} (below : T → T → Bool) (joined : T → T → T) (minim
 module _ {T : Type 0} (below : T → T → Bool) (joined : T → T → T) (minimum : T) (o : PartialOrderLaws below) (plan : List Node) (d : DeskView T) (h : Hand T) (is : IsPassedOn plan d h) where
   -- whichever worker has the bundle in hand
   pub passed_leads : (g : Hand T) → IsMadeOf plan h g → Leads below joined minimum plan d h d g
-  passed_leads g made p q e es legal k x =
+  passed_leads g is_made p q e es legal k x =
       let n = is.bundle.place.node in
       let w = state_after below minimum p es in
-      subst (λ f. IsRight below joined minimum p w k d f) (sym (made is.bundle is.more is.taken))
+      subst (λ f. IsRight below joined minimum p w k d f) (sym (is_made is.bundle is.more is.taken))
       (subst (λ nodes. IsRight below joined minimum p w k d (Ready n (linear_output (node_at nodes n) is.bundle.updates))) e
       (passed_right below joined minimum o p q w k d is.bundle is.more (subst (λ nodes. IsTrue (is_linear (node_at nodes n))) (sym e) is.linear) (ap (λ nodes. arranged_by (node_at nodes n)) e ∙ is.plain) is.none (subst (λ f. IsRight below joined minimum p w k d f) is.taken x)))
 
   -- why the node could not take the bundle
-  pub passed_too_large : (cmp : T → T → Ordering) → ((bundle : Bundle T) × (more : Bool) × (h ≡ Taken bundle more) × Overflows (node_at plan bundle.place.node) bundle.updates) → IsTooLarge below joined minimum cmp plan d h
+  pub passed_too_large : (cmp : T → T → Ordering) → HasOverflowing plan h → IsTooLarge below joined minimum cmp plan d h
   passed_too_large cmp over = subst (λ f. IsTooLarge below joined minimum cmp plan d f) (sym over.2) (made_too_large below joined minimum o cmp plan d over.0 over.1 over.3)
 
-  -- the rows are as wide as the node takes them
-  pub passed_rows : IsSomeones below joined minimum plan d h → (bundle : Bundle T) × (more : Bool) × (h ≡ Taken bundle more) × IsTrue (is_linear (node_at plan bundle.place.node)) × IsTrue (takes_rows (node_at plan bundle.place.node) bundle.updates)
-  passed_rows x = (is.bundle, is.more, is.taken, is.linear, bundle_rows below joined minimum plan d is.bundle is.more (subst (λ f. IsSomeones below joined minimum plan d f) is.taken x))
+  -- the node is one of the plan, and takes the rows
+  pub passed_rows : IsSomeones below joined minimum plan d h → HasLinear plan h
+  passed_rows x =
+      let y = subst (λ f. IsSomeones below joined minimum plan d f) is.taken x in
+      (is.bundle, is.more, is.taken, bundle_within below joined minimum plan d is.bundle is.more y, is.linear, bundle_rows below joined minimum plan d is.bundle is.more y)

@@ -9,9 +9,9 @@ use Rattle.plan.specs.Changes.{has_passed}
 use Rattle.plan.specs.Nodes.{arranged_by, is_join, is_linear, node_at}
 use Rattle.plan.specs.Widths.{width_of}
 use Rattle.plan.specs.declared.node.Node.{Node}
-use Rattle.linear.specs.Applied.{linear_output}
+use Rattle.linear.specs.Applied.{Overflows, linear_output}
 use Rattle.linear.specs.Ports.{is_port}
-use Rattle.linear.specs.Widths.{are_wide}
+use Rattle.linear.specs.Widths.{are_wide, takes_rows}
 use Rattle.batch.specs.Descriptions.{BatchState}
 use Rattle.trace.specs.BatchLists.{insertion_of}
 use Rattle.trace.specs.Readings.{Insertion}
@@ -42,6 +42,35 @@ module _ {T : Type 0} where
   IsComputed (Taken bundle more) = ⊥
   IsComputed (Turned node upper) = ⊥
   IsComputed other = ⊤
+
+module _ {T : Type 0} (plan : List Node) where
+  -- a bundle of a linear node of the plan is in hand, and the node takes its rows
+  abbrev pub HasLinear : Hand T → Type 0
+  HasLinear h = (bundle : Bundle T) × (more : Bool) × (h ≡ Taken bundle more) × (bundle.place.node < length plan)
+      × IsTrue (is_linear (node_at plan bundle.place.node)) × IsTrue (takes_rows (node_at plan bundle.place.node) bundle.updates)
+
+  -- what the node makes of it has a diff that is no 64-bit number
+  abbrev pub HasOverflowing : Hand T → Type 0
+  HasOverflowing h = (bundle : Bundle T) × (more : Bool) × (h ≡ Taken bundle more) × Overflows (node_at plan bundle.place.node) bundle.updates
+
+  -- the hand with what the node makes of the bundle in place of its updates
+  abbrev pub IsOverwritten : Hand T → Hand T → Type 0
+  IsOverwritten h g = (bundle : Bundle T) (more : Bool) → h ≡ Taken bundle more
+      → g ≡ Taken (record bundle { updates = linear_output (node_at plan bundle.place.node) bundle.updates }) more
+
+  -- what the node makes of the bundle is ready
+  abbrev pub IsMadeOf : Hand T → Hand T → Type 0
+  IsMadeOf h g = (bundle : Bundle T) (more : Bool) → h ≡ Taken bundle more
+      → g ≡ Ready bundle.place.node (linear_output (node_at plan bundle.place.node) bundle.updates)
+
+  -- a bundle of a linear node is in hand, and nothing lies gathered for the node
+  pub record IsPassedOn (d : DeskView T) (h : Hand T) : Type 0 where
+    pub bundle : Bundle T
+    pub more : Bool
+    pub taken : h ≡ Taken bundle more
+    pub linear : IsTrue (is_linear (node_at plan bundle.place.node))
+    pub plain : arranged_by (node_at plan bundle.place.node) ≡ None
+    pub none : gathered_in (slice_get d.gathered bundle.place.node) ≡ []
 
 module _ {T : Type 0} (below : T → T → Bool) (minimum : T) where
   -- the piece in hand is of a node of the plan, a bundle of a port of it, and its rows have their
@@ -135,20 +164,6 @@ module _ {T : Type 0} (below : T → T → Bool) (joined : T → T → T) (minim
     pub split : IsSplit below (gathered_in (slice_get d.gathered n)) out []
     pub left : gathered_in (slice_get c.gathered n) ≡ []
     pub wide : (width : ℕ) → IsTrue (are_wide width (gathered_in (slice_get d.gathered n))) → IsTrue (are_wide width out)
-
-  -- a bundle of a linear node is in hand, and nothing lies gathered for the node
-  pub record IsPassedOn (plan : List Node) (d : DeskView T) (h : Hand T) : Type 0 where
-    pub bundle : Bundle T
-    pub more : Bool
-    pub taken : h ≡ Taken bundle more
-    pub linear : IsTrue (is_linear (node_at plan bundle.place.node))
-    pub plain : arranged_by (node_at plan bundle.place.node) ≡ None
-    pub none : gathered_in (slice_get d.gathered bundle.place.node) ≡ []
-
-  -- what the node makes of the bundle is ready
-  abbrev pub IsMadeOf : List Node → Hand T → Hand T → Type 0
-  IsMadeOf plan h g = (bundle : Bundle T) (more : Bool) → h ≡ Taken bundle more
-      → g ≡ Ready bundle.place.node (linear_output (node_at plan bundle.place.node) bundle.updates)
 
   -- a batch was put into the spine of its node, unless it is empty, and nothing else has changed
   pub record IsPutAway (p : Dataflow) (n : ℕ) (batch : BatchState T) (d c : DeskView T) : Type 0 where

@@ -6,12 +6,12 @@
 //! comes to a node with two sources: there the same updates may come from both.
 ghost use Rattle.std.specs.Prelude.{◌≡◌, [], Bool, IfErr, IsTrue, OnErr, OnOk};
 ghost use Rattle.update.specs.Refusals.{IsMemoryOrOverflow};
-ghost use Rattle.plan.specs.Nodes.{is_linear, node_at};
+ghost use Rattle.plan.specs.Nodes.{is_linear};
 ghost use Rattle.linear.specs.Applied.{Overflows, linear_output};
 ghost use Rattle.linear.specs.Widths.{takes_rows};
 ghost use Rattle.histories.specs.declared.event.Bundle.{Bundle};
 ghost use Rattle.desk_laws.specs.declared.hand.Hand.TheVariants.{Ready, Taken};
-ghost use Rattle.desk.specs.Desks.{IsMadeOf, IsPassedOn, IsSomeones};
+ghost use Rattle.desk.specs.Desks.{HasLinear, HasOverflowing, IsMadeOf, IsOverwritten, IsPassedOn, IsSomeones};
 
 use crate::desk::Desk;
 use columns::UpdateList;
@@ -74,17 +74,10 @@ fn overwrite_in_hand<T: Minimum>(
     plan: &Plan,
     hand: &mut Hand<T>,
 ) -> Result<(), Refusal>
-    requires { (bundle : Bundle T) × (more : Bool) × (hand.old ≡ Taken bundle more)
-        × IsTrue (is_linear (node_at plan.now bundle.place.node))
-        × IsTrue (takes_rows (node_at plan.now bundle.place.node) bundle.updates) }
-    ensures applied { OnOk result ((bundle : Bundle T) (more : Bool)
-        → hand.old ≡ Taken bundle more → hand.new ≡ Taken (record bundle {
-          updates = linear_output (node_at plan.now bundle.place.node) bundle.updates;
-        }) more) }
+    requires { HasLinear plan.now hand.old }
+    ensures overwritten { OnOk result (IsOverwritten plan.now hand.old hand.new) }
     ensures same { OnErr result (hand.new ≡ hand.old) }
-    ensures refused { IfErr result (IsMemoryOrOverflow ((bundle : Bundle T) × (more : Bool)
-        × (hand.old ≡ Taken bundle more)
-        × Overflows (node_at plan.now bundle.place.node) bundle.updates)) }
+    ensures refused { IfErr result (IsMemoryOrOverflow (HasOverflowing plan.now hand.old)) }
 {
     match hand {
         Hand::Taken { bundle, .. } => {
@@ -116,14 +109,10 @@ pub(crate) fn pass_on<T: Minimum>(
     plan: &Plan,
     hand: &mut Hand<T>,
 ) -> Result<(), Refusal>
-    requires { (bundle : Bundle T) × (more : Bool) × (hand.old ≡ Taken bundle more)
-        × IsTrue (is_linear (node_at plan.now bundle.place.node))
-        × IsTrue (takes_rows (node_at plan.now bundle.place.node) bundle.updates) }
+    requires { HasLinear plan.now hand.old }
     ensures made { OnOk result (IsMadeOf plan.now hand.old hand.new) }
     ensures same { OnErr result (hand.new ≡ hand.old) }
-    ensures refused { IfErr result (IsMemoryOrOverflow ((bundle : Bundle T) × (more : Bool)
-        × (hand.old ≡ Taken bundle more)
-        × Overflows (node_at plan.now bundle.place.node) bundle.updates)) }
+    ensures refused { IfErr result (IsMemoryOrOverflow (HasOverflowing plan.now hand.old)) }
 {
     overwrite_in_hand(alloc, plan, hand)?;
     make_ready(hand);

@@ -1,11 +1,11 @@
-use Rattle.std.proofs.Common.{sym, subst}
+use Rattle.std.proofs.Common.{sym, subst, ap, ◌∙◌}
 use Rattle.std.proofs.lemmas.Result.{err_from_is_err_and}
 use Rattle.update.specs.Refusals.{IsMemoryOrOverflow}
 use Rattle.histories.specs.Histories.{state_after}
-use Rattle.desk_laws.specs.Own.{DeskView}
+use Rattle.desk_laws.specs.Own.{DeskView, hand_node}
 use Rattle.desk_laws.specs.declared.hand.Hand.{Hand}
 use Rattle.desk_laws.specs.declared.hand.Hand.TheVariants.{Turned}
-use Rattle.desk.specs.Desks.{IsRight, IsTooLarge}
+use Rattle.desk.specs.Desks.{IsComputed, IsRight, IsTooLarge}
 use Rattle.desk.proofs.PassingLemmas.{passed_leads, passed_rows, passed_too_large}
 use Rattle.desk.proofs.ResultLemmas.{if_err_at, memory_or}
 use Rattle.desk.proofs.desk.Desk.begin.Goals as goal
@@ -13,8 +13,8 @@ use Rattle.desk.proofs.desk.Desk.begin.Goals as goal
 pub returns-in_err-laid-in-Taken-clause-refused : goal.returns-in_err-laid-in-Taken-clause-refused
 returns-in_err-laid-in-Taken-clause-refused g c =
     let large : Hand g.row.T.Denot → Type 0 = λ h. IsTooLarge g.T.PartialOrder.below g.T.Lattice.joined g.T.Minimum.least g.T.Ord.cmp c.args.plan.now c.args.self.now h in
-    let p = err_from_is_err_and c.from_residual.result c.from_residual.ensures.1 in
-    if_err_at c.from_residual.result (IsMemoryOrOverflow (large c.args.hand.now)) c.in_err-laid-in-Taken.field-0.0 p.0 p.1 (cc p.2) (memory_or (λ cause. subst large (sym c.in-Taken.is) cause) c.in_err-laid-in-Taken.ensures.refused)
+    let p = err_from_is_err_and c.from_residual-in_err-laid-in-Taken.result c.from_residual-in_err-laid-in-Taken.ensures.1 in
+    if_err_at c.from_residual-in_err-laid-in-Taken.result (IsMemoryOrOverflow (large c.args.hand.now)) c.in_err-laid-in-Taken.field-0.0 p.0 p.1 (cc p.2) (memory_or (λ cause. subst large (sym c.in-Taken.is) cause) c.in_err-laid-in-Taken.ensures.refused)
 
 pub returns-in_err-turned-in-Turned-clause-leads : goal.returns-in_err-turned-in-Turned-clause-leads
 returns-in_err-turned-in-Turned-clause-leads g c p q e es legal k x =
@@ -51,3 +51,20 @@ pass_on-requires g c =
 pub returns-then-passes_on-clause-leads : goal.returns-then-passes_on-clause-leads
 returns-then-passes_on-clause-leads g c =
     passed_leads g.T.PartialOrder.below g.T.Lattice.joined g.T.Minimum.least g.met.T.PartialOrder.order c.args.plan.now c.args.self.now c.args.hand.now (c.passes_on.ensures c.if-passes_on.true) c.pass_on.new.hand c.in_ok-pass_on.ensures.made
+
+pub returns-then-passes_on-clause-computed : goal.returns-then-passes_on-clause-computed
+returns-then-passes_on-clause-computed g c =
+    let is = c.passes_on.ensures c.if-passes_on.true in
+    subst IsComputed (sym (c.in_ok-pass_on.ensures.made is.bundle is.more is.taken)) tt
+
+pub returns-then-passes_on-clause-node : goal.returns-then-passes_on-clause-node
+returns-then-passes_on-clause-node g c =
+    let is = c.passes_on.ensures c.if-passes_on.true in
+    ap hand_node (c.in_ok-pass_on.ensures.made is.bundle is.more is.taken) ∙ sym (ap hand_node is.taken)
+
+pub returns-in_err-pass_on-clause-refused : goal.returns-in_err-pass_on-clause-refused
+returns-in_err-pass_on-clause-refused g c =
+    let large = IsTooLarge g.T.PartialOrder.below g.T.Lattice.joined g.T.Minimum.least g.T.Ord.cmp c.args.plan.now c.args.self.now c.args.hand.now in
+    let p = err_from_is_err_and c.from_residual.result c.from_residual.ensures.1 in
+    if_err_at c.from_residual.result (IsMemoryOrOverflow large) c.in_err-pass_on.field-0.0 p.0 p.1 (cc p.2)
+    (memory_or (passed_too_large g.T.PartialOrder.below g.T.Lattice.joined g.T.Minimum.least g.met.T.PartialOrder.order c.args.plan.now c.args.self.now c.args.hand.now (c.passes_on.ensures c.if-passes_on.true) g.T.Ord.cmp) c.in_err-pass_on.ensures.refused)
