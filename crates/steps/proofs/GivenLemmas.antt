@@ -30,7 +30,7 @@ use Rattle.desk_laws.proofs.BeyondLemmas.{batch_beyond, ready_beyond}
 use Rattle.desk_laws.proofs.GivenLemmas.{due_waits, held_back_lem, ready_lem, split_parts}
 use Rattle.desk_laws.proofs.SealedLemmas.{empty_given, sealed_given}
 use Rattle.desk.specs.Desks.{IsComputed, IsOf, IsOnPlan, IsRight}
-use Rattle.steps.specs.Steps.{HasLeftLater, HasSent, IsPutDown, emission_of, output_of}
+use Rattle.steps.specs.Steps.{HasLeftLater, HasSent, IsPutDown, emission_of, gave_or_busy, output_of}
 use Rattle.steps.specs.declared.step.Step.{Step}
 use Rattle.steps.specs.declared.step.Step.TheVariants.{Gave, Busy}
 use Rattle.steps.specs.Workers.{IsRightOf}
@@ -227,6 +227,15 @@ was_sent below old new g held step is (inl busy) = absurd (no_other (sym is ∙ 
     no_other : Gave ≡ Busy → ⊥
     no_other e = cc
 was_sent below old new g held step is (inr sent) = (sent.1, sent.2)
+
+-- where another actor had the board nothing has changed
+pub busy_right : {T : Type 0} (below : T → T → Bool) (joined : T → T → T) (minimum : T) (old new : Known (Doing T)) (d : DeskView T) (h : Hand T) (gave : Bool) → gave ≡ false → (g : Emission T) (held : List T) → HasSent below old new g held (gave_or_busy gave)
+    → IsRightOf below joined minimum old d h → IsRightOf below joined minimum new d h
+busy_right below joined minimum old new d h gave is g held (inl busy) x = subst (λ k. IsRightOf below joined minimum k d h) (sym busy.1) x
+busy_right below joined minimum old new d h gave is g held (inr sent) x = absurd (no_other (sym (ap gave_or_busy is) ∙ sent.0))
+  where
+    no_other : Busy ≡ Gave → ⊥
+    no_other e = cc
 
 -- a worker that gave what it had in hand, and put it down, is right
 pub sent_right : {T : Type 0} (below : T → T → Bool) (joined : T → T → T) (minimum : T) (o : PartialOrderLaws below) (old : Known (Doing T)) → IsActor below minimum old → (n : ℕ) (d : DeskView T) (h : Hand T) → IsComputed h → hand_node h ≡ Some n → (held : List T)

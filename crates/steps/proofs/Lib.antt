@@ -2,5 +2,6 @@
 pub mod TenureLemmas
 pub mod TakenLemmas
 pub mod SentLemmas
+pub mod OutputLemmas
 pub mod GivenLemmas
 pub mod WorkerLemmas

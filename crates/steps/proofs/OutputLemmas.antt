@@ -18,12 +18,12 @@ module _ {T : Type 0} where
   ready_back (Sealed m batch) n us out e f = cc
 
   pub other_back : (h g : Hand T) → ((n : ℕ) (us : List (Update T)) → g ≡ Ready n us → ⊥) → g ≡ without_output h → g ≡ h
-  other_back Free g no e = e
-  other_back (Taken bundle more) g no e = e
-  other_back (Kept m more) g no e = e
-  other_back (Turned m upper) g no e = e
-  other_back (Ready m vs) g no e = absurd (no m [] e)
-  other_back (Sealed m batch) g no e = e
+  other_back Free g f e = e
+  other_back (Taken bundle more) g f e = e
+  other_back (Kept m more) g f e = e
+  other_back (Turned m upper) g f e = e
+  other_back (Ready m vs) g f e = absurd (f m [] e)
+  other_back (Sealed m batch) g f e = e
 
 module _ {T : Type 0} (below : T → T → Bool) (joined : T → T → T) (minimum : T) (p : Dataflow) (d : DeskView T) where
   pub on_without : (h : Hand T) → IsHandOn below joined minimum p d h → IsHandOn below joined minimum p d (without_output h)

@@ -31,6 +31,11 @@ use Rattle.steps.specs.Workers.{WorkerView, HasSeenTooLarge}
 
 -- ---- one attempt to enter the board
 
+-- the step in which something was given, or another actor had the board
+abbrev pub gave_or_busy : Bool → Step
+gave_or_busy true = Gave
+gave_or_busy false = Busy
+
 module _ {T : Type 0} where
   -- the hand with what was found on the board, and what the step is then
   abbrev pub hand_with : Piece T → Hand T
@@ -57,11 +62,6 @@ module _ {T : Type 0} where
   -- what a worker gives at a node
   abbrev pub emission_of : ℕ → ℕ → List (Update T) → Emission T
   emission_of n k us = record { node = n; worker = k; updates = us }
-
-  -- the step in which something was given, or another actor had the board
-  abbrev pub gave_or_busy : Bool → Step
-  gave_or_busy true = Gave
-  gave_or_busy false = Busy
 
   -- the actor has seen nothing new, or it has looked
   abbrev pub LooksAtMost : Known (Doing T) → Known (Doing T) → Type 0
