@@ -63,9 +63,13 @@ fn a_lone_step_is_not_quiet(rt: HostRuntime) -> Result<(), Fail> {
 }
 
 // The example of a view of one input, to which all times before (0, 1) are closed.
-fn closed(alloc: Global, changes: &[Change]) -> Result<Worked<Bitime>, Refusal> {
+fn closed(
+    alloc: Global,
+    changes: &[&[Change]],
+    want: &[Change],
+) -> Result<Worked<Bitime>, Refusal> {
     let nodes = [input(1), view(0)];
-    worked(alloc, &nodes, &[changes], &[at((0, 1))], changes)
+    worked(alloc, &nodes, changes, &[at((0, 1))], want)
 }
 
 // Row 7 is fed, and its time is closed. Until the workers have carried it on, the view's frontier is
@@ -73,7 +77,8 @@ fn closed(alloc: Global, changes: &[Change]) -> Result<Worked<Bitime>, Refusal> 
 // without the row.
 #[test]
 fn work_in_flight_holds_the_frontier(rt: HostRuntime) -> Result<(), Fail> {
-    let worked = closed(rt.alloc(), &[((0, 0), &[7], 1)])?;
+    let changes: [Change; 1] = [((0, 0), &[7], 1)];
+    let worked = closed(rt.alloc(), &[&changes], &changes)?;
     let mut crew: Crew = Vec::new(rt.alloc());
     let mut draws = Draws::new(0);
     let mut client = worked.fed(&rt, rt.alloc(), 2, &mut crew, &mut draws, 1)?;
@@ -89,7 +94,8 @@ fn work_in_flight_holds_the_frontier(rt: HostRuntime) -> Result<(), Fail> {
 // With nothing in flight the view's frontier follows at once, before any step.
 #[test]
 fn nothing_in_flight_holds_no_frontier(rt: HostRuntime) -> Result<(), Fail> {
-    let worked = closed(rt.alloc(), &[])?;
+    let changes: [Change; 0] = [];
+    let worked = closed(rt.alloc(), &[&changes], &changes)?;
     let mut crew: Crew = Vec::new(rt.alloc());
     let mut client = worked.fed(&rt, rt.alloc(), 2, &mut crew, &mut Draws::new(0), 1)?;
     assert!(rt; client.frontier(&rt, worked.view())?.elements() == [at((0, 1))].as_slice());
