@@ -4,7 +4,9 @@ use Rattle.std.specs.List.{list_all, slice_get}
 use Rattle.std.proofs.lemmas.Bool.{and_from, eqb-true, eqb-false}
 use Rattle.std.proofs.lemmas.List.Folds.{list_all-append}
 use Rattle.std.proofs.lemmas.Option.{none-some, same_Some}
+use Rattle.lattice.specs.Order.{PartialOrderLaws}
 use Rattle.lattice.specs.Frontiers.{all_beyond}
+use Rattle.lattice.proofs.FrontierLemmas.{all_beyond_later}
 use Rattle.update.specs.declared.change.Update.{Update}
 use Rattle.plan.specs.Changes.{has_passed}
 use Rattle.plan.specs.Nodes.{arranged_by}
@@ -12,11 +14,12 @@ use Rattle.plan.specs.declared.node.Node.{Node}
 use Rattle.plan.specs.declared.node.Node.TheVariants.{Arrange}
 use Rattle.linear.specs.Widths.{are_wide}
 use Rattle.histories.specs.Histories.Dataflows.{Dataflow, node_of}
+use Rattle.trace.specs.Holds.{HoldState}
 use Rattle.operator.specs.Arrangements.{ArrangementState}
 use Rattle.operator.specs.Joins.{JoiningView}
 use Rattle.histories.specs.Histories.States.{times}
 use Rattle.operator.specs.Reductions.{IsPendingAfter, IsReduced, ReducingView, pending_of}
-use Rattle.desk_laws.specs.Own.{AreSharing, DeskView, HasHold, IsSpineAt, IsSameAt, ReadsAt, boundary_at, gathered_in, hold_at, waiting_in, waits_on}
+use Rattle.desk_laws.specs.Own.{AreHolding, AreSharing, DeskView, HasHold, IsSpineAt, IsSameAt, KeepsApart, ReadsAt, Reduces, StayHolding, StayHoldingWith, boundary_at, gathered_in, hold_at, other_port, waiting_in, waits_on}
 use Rattle.desk.specs.Desks.{IsLaidIn, IsReducedWith}
 use Rattle.desk.proofs.PlaceLemmas.{get_own, get_set, length_set, one_entry, read_at}
 
@@ -36,26 +39,89 @@ module _ {T : Type 0} where
   wide_both width us vs a b = list_all-append (λ u. eqb (length u.row) width) us vs ∙ and_from (are_wide width us) (are_wide width vs) a b
 
 -- the joins are as they were, and so are all holds at each arrangement
-module _ {T : Type 0} (below : T → T → Bool) (minimum : T) (p : Dataflow) (d e : DeskView T) (joins : (m : ℕ) → slice_get e.joins m ≡ slice_get d.joins m)
+module _ {T : Type 0} (below : T → T → Bool) (p : Dataflow) (d e : DeskView T) (joins : (m : ℕ) → slice_get e.joins m ≡ slice_get d.joins m)
     (kept : (s : ℕ) (a : ArrangementState T) → slice_get d.arrangements s ≡ Some (Some a) → (b : ArrangementState T) × (slice_get e.arrangements s ≡ Some (Some b)) × (b.holds ≡ a.holds)) where
   back : (n port source : ℕ) (j : JoiningView T) → ReadsAt p e n port source j → ReadsAt p d n port source j
   back n port source j r = record { within = r.within; join = r.join; reads = r.reads; there = sym (joins n) ∙ r.there }
 
-  pub sharing_kept : AreSharing below minimum p d → AreSharing below minimum p e
-  sharing_kept x = record {
+  apart_kept : (source number : ℕ) (ts : List T) → KeepsApart below d source number ts → KeepsApart below e source number ts
+  apart_kept source number ts h =
+      let b = kept source h.arrangement h.there in
+      record { arrangement = b.0; there = b.1; hold = h.hold; held = ap (λ hs. slice_get hs number) b.2 ∙ h.held; apart = h.apart }
+
+  joins_kept : (ports : ℕ → ℕ → List T) → AreSharing below p d ports → AreSharing below p e ports
+  joins_kept ports x = record {
     held = λ n port source j r.
         let h = x.held n port source j (back n port source j r) in
         let b = kept source h.arrangement h.there in
-        record { arrangement = b.0; there = b.1; other = h.other; physical = h.physical; hold = ap (λ hs. slice_get hs (hold_at port j)) b.2 ∙ h.hold; behind = h.behind };
+        record { arrangement = b.0; there = b.1; other = h.other; hold = h.hold; held = ap (λ hs. slice_get hs (hold_at port j)) b.2 ∙ h.held; apart = h.apart; behind = h.behind };
     apart = λ n port m other source i j r t. x.apart n port m other source i j (back n port source i r) (back m other source j t);
   }
 
-module _ {T : Type 0} (below : T → T → Bool) (minimum : T) (p : Dataflow) (d : DeskView T) where
-  pub sharing_gathered : (gathered : List (List (Update T))) → AreSharing below minimum p d → AreSharing below minimum p (record d { gathered = gathered })
-  sharing_gathered gathered = sharing_kept below minimum p d (record d { gathered = gathered }) (λ m. refl) (λ s a there. (a, there, refl))
+  -- so readers have their holds, if each reduction had one of a frontier that its pending times are
+  -- beyond
+  pub holding_from : (ports : ℕ → ℕ → List T) → AreHolding below p d ports
+      → ((n source : ℕ) (r : ReducingView T) → Reduces p e n source r → (s : ReducingView T) × Reduces p d n source s × ((F : List T) → IsTrue (all_beyond below F (pending_of s)) → IsTrue (all_beyond below F (ports n 0)) → IsTrue (all_beyond below F (pending_of r))))
+      → AreHolding below p e ports
+  holding_from ports x before = record {
+    joins = joins_kept ports x.joins;
+    pending = λ n source r is.
+        let s = before n source r is in
+        let both = same_hold (x.pending n source s.0 s.1) (x.come n source s.0 s.1) in
+        let h = x.pending n source s.0 s.1 in
+        apart_kept source 0 (pending_of r) (record { arrangement = h.arrangement; there = h.there; hold = h.hold; held = h.held; apart = s.2 h.hold.logical h.apart both });
+    come = λ n source r is. let s = before n source r is in apart_kept source 0 (ports n 0) (x.come n source s.0 s.1);
+  }
+    where
+      -- there is but one hold of a number
+      same_hold : {source : ℕ} {ts us : List T} (h : KeepsApart below d source 0 ts) (g : KeepsApart below d source 0 us) → IsTrue (all_beyond below h.hold.logical us)
+      same_hold {source} {ts} {us} h g =
+          let mine = same_Some g.arrangement h.arrangement (same_Some (Some g.arrangement) (Some h.arrangement) (sym g.there ∙ h.there)) in
+          let is = same_Some g.hold h.hold (sym g.held ∙ (ap (λ (z : ArrangementState T). slice_get z.holds 0) mine ∙ h.held)) in
+          subst (λ (z : HoldState T). IsTrue (all_beyond below z.logical us)) is g.apart
 
-  pub sharing_reductions : (reductions : List (Option (ReducingView T))) → AreSharing below minimum p d → AreSharing below minimum p (record d { reductions = reductions })
-  sharing_reductions reductions = sharing_kept below minimum p d (record d { reductions = reductions }) (λ m. refl) (λ s a there. (a, there, refl))
+  -- the reductions are as they were, too
+  pub holding_kept : ((m : ℕ) → slice_get e.reductions m ≡ slice_get d.reductions m) → StayHolding below p d e
+  holding_kept reductions ports x = holding_from ports x (λ n source r is. (
+    r,
+    record { within = is.within; kind = is.kind; node = is.node; there = sym (reductions n) ∙ is.there },
+    λ F pending come. pending,
+  ))
+
+module _ {T : Type 0} (below : T → T → Bool) (p : Dataflow) (d : DeskView T) where
+  pub holding_gathered : (gathered : List (List (Update T))) → StayHolding below p d (record d { gathered = gathered })
+  holding_gathered gathered = holding_kept below p d (record d { gathered = gathered }) (λ m. refl) (λ s a there. (a, there, refl)) (λ m. refl)
+
+  -- another reduction lies there for a node
+  module _ (n : ℕ) (r s : ReducingView T) (there : slice_get d.reductions n ≡ Some (Some r)) where
+    abbrev reduced_desk : DeskView T
+    reduced_desk = record d { reductions = set d.reductions n (Some s) }
+
+    before : (ts : List T) → (ports : ℕ → ℕ → List T) → ((F : List T) → IsTrue (all_beyond below F (pending_of r)) → IsTrue (all_beyond below F (ports n 0)) → IsTrue (all_beyond below F (pending_of s)))
+        → (m source : ℕ) (u : ReducingView T) → Reduces p reduced_desk m source u → (v : ReducingView T) × Reduces p d m source v × ((F : List T) → IsTrue (all_beyond below F (pending_of v)) → IsTrue (all_beyond below F (ports m 0)) → IsTrue (all_beyond below F (pending_of u)))
+    before ts ports on m source u is = by (eqb m n) refl
+      where
+        by : (b : Bool) → eqb m n ≡ b → (v : ReducingView T) × Reduces p d m source v × ((F : List T) → IsTrue (all_beyond below F (pending_of v)) → IsTrue (all_beyond below F (ports m 0)) → IsTrue (all_beyond below F (pending_of u)))
+        by true e =
+            let at = eqb-true m n e in
+            let same : s ≡ u = same_Some s u (same_Some (Some s) (Some u) (sym (get_own d.reductions n (Some s) (Some r) there) ∙ (ap (slice_get (set d.reductions n (Some s))) (sym at) ∙ is.there))) in (
+              r,
+              record { within = is.within; kind = is.kind; node = is.node; there = ap (slice_get d.reductions) at ∙ there },
+              λ F pending come. subst (λ (z : ReducingView T). IsTrue (all_beyond below F (pending_of z))) same (on F pending (subst (λ k. IsTrue (all_beyond below F (ports k 0))) at come)),
+            )
+        by false e = (
+          u,
+          record { within = is.within; kind = is.kind; node = is.node; there = sym (get_set d.reductions n m (Some s) (eqb-false m n e)) ∙ is.there },
+          λ F pending come. pending,
+        )
+
+    -- nothing is pending before what was
+    pub holding_found : ((F : List T) → IsTrue (all_beyond below F (pending_of r)) → IsTrue (all_beyond below F (pending_of s))) → StayHolding below p d reduced_desk
+    holding_found on ports x = holding_from below p d reduced_desk (λ m. refl) (λ k a own. (a, own, refl)) ports x (before [] ports (λ F pending come. on F pending))
+
+    -- these times became pending
+    pub holding_taken : PartialOrderLaws below → (ts : List T) → ((F : List T) → IsTrue (all_beyond below F (pending_of r)) → IsTrue (all_beyond below F ts) → IsTrue (all_beyond below F (pending_of s))) → StayHoldingWith below p d reduced_desk n 0 ts
+    holding_taken o ts on ports later x = holding_from below p d reduced_desk (λ m. refl) (λ k a own. (a, own, refl)) ports x (before ts ports (λ F pending come. on F pending (all_beyond_later o F (ports n 0) ts come later)))
 
 -- ---- one arrangement has changed
 
@@ -68,37 +134,72 @@ module _ {T : Type 0} where
   pub other_nodes : (d : DeskView T) (n : ℕ) (a : ArrangementState T) (m : ℕ) → m ≢ n → IsSameAt m d (with_arrangement n a d)
   other_nodes d n a m e = record { gathered = refl; arrangements = get_set d.arrangements n m (Some a) e; joins = refl; reductions = refl }
 
-  -- joins still have their holds if the readers' holds have stayed
-  pub sharing_with : (below : T → T → Bool) (minimum : T) (p : Dataflow) (d : DeskView T) (n : ℕ) (a b : ArrangementState T) → slice_get d.arrangements n ≡ Some (Some a)
-      → ((number : ℕ) → 0 < number → slice_get b.holds number ≡ slice_get a.holds number) → AreSharing below minimum p d → AreSharing below minimum p (with_arrangement n b d)
-  sharing_with below minimum p d n a b there same x = record {
-    held = λ m port source j r. step source (hold_at port j) (boundary_at port j) (x.held m port source j (back m port source j r)) (eqb source n) refl;
-    apart = λ m port k other source i j r t. x.apart m port k other source i j (back m port source i r) (back k other source j t);
+module _ {T : Type 0} (below : T → T → Bool) (p : Dataflow) (d : DeskView T) (n : ℕ) (a b : ArrangementState T) (there : slice_get d.arrangements n ≡ Some (Some a)) where
+  reads_with : (m port source : ℕ) (j : JoiningView T) → ReadsAt p (with_arrangement n b d) m port source j → ReadsAt p d m port source j
+  reads_with m port source j r = record { within = r.within; join = r.join; reads = r.reads; there = r.there }
+
+  -- the arrangement of a node, and where it lies now
+  here_now : (source : ℕ) (z : ArrangementState T) → slice_get d.arrangements source ≡ Some (Some z) → eqb source n ≡ true → (a ≡ z) × (slice_get (with_arrangement n b d).arrangements source ≡ Some (Some b))
+  here_now source z own e =
+      let at = eqb-true source n e in (
+        one_entry d.arrangements n a z there (sym (ap (slice_get d.arrangements) at) ∙ own),
+        ap (slice_get (set d.arrangements n (Some b))) at ∙ get_own d.arrangements n (Some b) (Some a) there,
+      )
+
+  -- readers still have their holds if those have stayed, and the arrangement's own one is for the same
+  -- times
+  pub holding_with : ((number : ℕ) → 0 < number → slice_get b.holds number ≡ slice_get a.holds number)
+      → ((hold : HoldState T) → slice_get a.holds 0 ≡ Some hold → (moved : HoldState T) × (slice_get b.holds 0 ≡ Some moved) × (moved.logical ≡ hold.logical)) → StayHolding below p d (with_arrangement n b d)
+  holding_with same own ports x = record {
+    joins = record {
+      held = λ m port source j r. step source (hold_at port j) (boundary_at port j) (ports m (other_port port)) (x.joins.held m port source j (reads_with m port source j r)) (eqb source n) refl;
+      apart = λ m port k other source i j r t. x.joins.apart m port k other source i j (reads_with m port source i r) (reads_with k other source j t);
+    };
+    pending = λ m source r is. serves source (pending_of r) (x.pending m source r (reduces m source r is)) (eqb source n) refl;
+    come = λ m source r is. serves source (ports m 0) (x.come m source r (reduces m source r is)) (eqb source n) refl;
   }
     where
-      back : (m port source : ℕ) (j : JoiningView T) → ReadsAt p (with_arrangement n b d) m port source j → ReadsAt p d m port source j
-      back m port source j r = record { within = r.within; join = r.join; reads = r.reads; there = r.there }
+      reduces : (m source : ℕ) (r : ReducingView T) → Reduces p (with_arrangement n b d) m source r → Reduces p d m source r
+      reduces m source r is = record { within = is.within; kind = is.kind; node = is.node; there = is.there }
 
-      step : (source number : ℕ) (u : List T) → HasHold below minimum d source number u → (c : Bool) → eqb source n ≡ c → HasHold below minimum (with_arrangement n b d) source number u
-      step source number u h true e =
-          let at = eqb-true source n e in
-          let mine = one_entry d.arrangements n a h.arrangement there (sym (ap (slice_get d.arrangements) at) ∙ h.there) in
+      step : (source number : ℕ) (u ts : List T) → HasHold below d source number u ts → (c : Bool) → eqb source n ≡ c → HasHold below (with_arrangement n b d) source number u ts
+      step source number u ts h true e =
+          let now = here_now source h.arrangement h.there e in
           record {
             arrangement = b;
-            there = ap (slice_get (set d.arrangements n (Some b))) at ∙ get_own d.arrangements n (Some b) (Some a) there;
+            there = now.1;
             other = h.other;
-            physical = h.physical;
-            hold = same number h.other ∙ (ap (λ (z : ArrangementState T). slice_get z.holds number) mine ∙ h.hold);
+            hold = h.hold;
+            held = same number h.other ∙ (ap (λ (z : ArrangementState T). slice_get z.holds number) now.0 ∙ h.held);
+            apart = h.apart;
             behind = h.behind;
           }
-      step source number u h false e = record {
+      step source number u ts h false e = record {
         arrangement = h.arrangement;
         there = get_set d.arrangements n source (Some b) (eqb-false source n e) ∙ h.there;
         other = h.other;
-        physical = h.physical;
         hold = h.hold;
+        held = h.held;
+        apart = h.apart;
         behind = h.behind;
       }
+
+      serves : (source : ℕ) (ts : List T) → KeepsApart below d source 0 ts → (c : Bool) → eqb source n ≡ c → KeepsApart below (with_arrangement n b d) source 0 ts
+      serves source ts h true e =
+          let now = here_now source h.arrangement h.there e in
+          let m = own h.hold (ap (λ (z : ArrangementState T). slice_get z.holds 0) now.0 ∙ h.held) in
+          record { arrangement = b; there = now.1; hold = m.0; held = m.1; apart = subst (λ F. IsTrue (all_beyond below F ts)) (sym m.2) h.apart }
+      serves source ts h false e = record {
+        arrangement = h.arrangement;
+        there = get_set d.arrangements n source (Some b) (eqb-false source n e) ∙ h.there;
+        hold = h.hold;
+        held = h.held;
+        apart = h.apart;
+      }
+
+  -- in particular if all of them have
+  pub holding_same : b.holds ≡ a.holds → StayHolding below p d (with_arrangement n b d)
+  holding_same e = holding_with (λ number l. ap (λ hs. slice_get hs number) e) (λ hold at. (hold, ap (λ hs. slice_get hs 0) e ∙ at, refl))
 
 -- ---- what a bundle makes is put to what waits
 
@@ -109,7 +210,7 @@ module _ {T : Type 0} (below : T → T → Bool) (joined : T → T → T) (minim
       record {
         others = same_but_gathered d n (us ++ made);
         gathered = length_set d.gathered n (us ++ made);
-        sharing = sharing_gathered below minimum p d (set d.gathered n (us ++ made));
+        holding = holding_gathered below p d (set d.gathered n (us ++ made));
         arranged = λ start inserted x. record { arrangement = x.arrangement; there = x.there; spine = x.spine; begins = x.begins };
         waits =
             waits_plain (record d { gathered = set d.gathered n (us ++ made) }) n (node_of p n) plain
@@ -126,7 +227,7 @@ module _ {T : Type 0} (below : T → T → Bool) (joined : T → T → T) (minim
       record {
         others = other_nodes d n b;
         gathered = refl;
-        sharing = sharing_with below minimum p d n a b there (λ number l. refl);
+        holding = holding_same below p d n a b there refl;
         arranged = λ start inserted x.
             let mine = same_Some x.arrangement a (same_Some (Some x.arrangement) (Some a) (sym x.there ∙ there)) in
             let s = subst (IsSpineAt below joined minimum p n inserted) mine x.spine in
@@ -154,16 +255,15 @@ module _ {T : Type 0} (below : T → T → Bool) (joined : T → T → T) (minim
 -- ---- what a reduction takes
 
 module _ {T : Type 0} (below : T → T → Bool) (joined : T → T → T) (minimum : T) (n : ℕ) (d : DeskView T) (r s : ReducingView T) (us : List (Update T)) where
-  pub reduced_after : (i : ℕ) → i ≡ n → slice_get d.reductions n ≡ Some (Some r)
+  pub reduced_after : PartialOrderLaws below → (i : ℕ) → i ≡ n → slice_get d.reductions n ≡ Some (Some r)
       → s ≡ record r { state = record r.state { histories = s.state.histories; waiting = s.state.waiting } }
       → ((received emitted : List (Update T)) (upper : List T) → IsReduced below joined minimum r received emitted → IsTrue (all_beyond below upper (times us)) → IsTrue (list_all (λ u. has_passed below upper u.time) emitted) → IsReduced below joined minimum s (us ++ received) emitted)
       → ((received emitted : List (Update T)) → IsReduced below joined minimum r received emitted → IsPendingAfter below (pending_of r) us (pending_of s))
       → IsReducedWith below joined minimum n us d (record d { reductions = set d.reductions i (Some s) })
-  reduced_after i same there kept reduced pending =
+  reduced_after o i same there kept reduced pending =
       subst (λ j. IsReducedWith below joined minimum n us d (record d { reductions = set d.reductions j (Some s) })) (sym same) (record {
         others = same_but_reduction d n (Some s);
         gathered = refl;
-        sharing = λ p. sharing_reductions below minimum p d (set d.reductions n (Some s));
         before = r;
         after = s;
         was = there;
@@ -176,4 +276,5 @@ module _ {T : Type 0} (below : T → T → Bool) (joined : T → T → T) (minim
         };
         reduced = reduced;
         pending = pending;
+        holding = λ p received emitted is. holding_taken below p d n r s there o (times us) (pending received emitted is).beyond;
       })

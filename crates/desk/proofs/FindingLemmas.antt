@@ -48,7 +48,7 @@ use Rattle.desk_laws.proofs.FoundLemmas.{found_reduce, is_arrange}
 use Rattle.desk_laws.proofs.LaidLemmas.{ready_from_kept, ready_from_turned}
 use Rattle.desk.specs.Desks.{IsOnPlan, IsRight, IsSomeones, IsTakenOut, IsTooLarge, Leads}
 use Rattle.desk.proofs.CauseLemmas.{large_owed, large_waits}
-use Rattle.desk.proofs.DeskLemmas.{same_but_gathered, same_but_reduction, sharing_gathered, sharing_reductions, waits_plain}
+use Rattle.desk.proofs.DeskLemmas.{same_but_gathered, same_but_reduction, holding_gathered, holding_found, waits_plain}
 use Rattle.desk.proofs.PlaceLemmas.{get_own, length_set, read_at}
 
 -- ---- what lay gathered
@@ -61,7 +61,7 @@ module _ {T : Type 0} (below : T → T → Bool) (joined : T → T → T) (minim
     others = same_but_gathered d n [];
     gathered = length_set d.gathered n [];
     joins = refl;
-    sharing = λ p. sharing_gathered below minimum p d (set d.gathered n []);
+    holding = λ p. holding_gathered below p d (set d.gathered n []);
     split = subst (λ vs. IsSplit below (gathered_in vs) out []) (sym there) split;
     left = ap gathered_in (get_own d.gathered n [] us there);
     wide = λ width h. wide width (subst (λ vs. IsTrue (are_wide width (gathered_in vs))) there h);
@@ -104,13 +104,13 @@ module _ {T : Type 0} (below : T → T → Bool) (joined : T → T → T) (minim
     module _ (o : PartialOrderLaws below) (q : IsDataflow p) (w : State T) (k : ℕ) (within : n < length p.nodes) (other : is_reduction (node_of p n) ≡ false) where
       pub kept_ready : (more : Bool) → IsRight below joined minimum p w k d (Kept n more) → IsRight below joined minimum p w k c (Ready n out)
       kept_ready more x = record {
-        own = ready_from_kept below joined minimum o p q w k d c (taken.sharing p x.own.sharing) n within taken.others out all_out more plain other (ap (λ js. slice_get js n) taken.joins) none_left x.own;
+        own = ready_from_kept below joined minimum o p q w k d c (taken.holding p) n within taken.others out all_out more plain other (ap (λ js. slice_get js n) taken.joins) none_left x.own;
         on_plan = ready_on_plan (Kept n more) within x.on_plan;
       }
 
       pub turned_ready : (upper : List T) → IsRight below joined minimum p w k d (Turned n upper) → IsRight below joined minimum p w k c (Ready n out)
       turned_ready upper x = record {
-        own = ready_from_turned below joined minimum o p q w k d c (taken.sharing p x.own.sharing) n within taken.others out all_out upper plain other (ap (λ js. slice_get js n) taken.joins) none_left x.own;
+        own = ready_from_turned below joined minimum o p q w k d c (taken.holding p) n within taken.others out all_out upper plain other (ap (λ js. slice_get js n) taken.joins) none_left x.own;
         on_plan = ready_on_plan (Turned n upper) within x.on_plan;
       }
 
@@ -160,6 +160,16 @@ module _ {T : Type 0} (below : T → T → Bool) (joined : T → T → T) (minim
         lies.there,
       )
 
+  -- the arrangement's own hold keeps the pending times apart, so they may be read
+  pub pending_readable : PartialOrderLaws below → (r : ReducingView T) → slice_get d.reductions n ≡ Some (Some r) → (a : ArrangementState T) → slice_get d.arrangements source ≡ Some (Some a) → IsArrangement below minimum a
+      → IsTrue (all_beyond below a.spine.since (pending_of r))
+  pending_readable o r own a read known =
+      let h = x.right.own.holding.pending n source r (record { within = x.right.on_plan.hand; kind = kind; node = there; there = own }) in
+      let is : h.arrangement ≡ a = one_entry d.arrangements source h.arrangement a h.there read in
+      all_more (is_beyond below h.hold.logical) (is_beyond below a.spine.since)
+      (λ t e. readable_from below o minimum a 0 h.hold known (ap (λ (z : ArrangementState T). slice_get z.holds 0) (sym is) ∙ h.held) t e)
+      (pending_of r) h.apart
+
 module _ {T : Type 0} (below : T → T → Bool) (joined met : T → T → T) (minimum : T) (o : PartialOrderLaws below) (laws : LatticeLaws below joined met) (d : DeskView T) (n : ℕ) (kind : Kind) (source : ℕ) (upper : List T) (r s : ReducingView T) (own : slice_get d.reductions n ≡ Some (Some r))
     (kept : s ≡ record r { state = record r.state { histories = s.state.histories; waiting = s.state.waiting; looked = s.state.looked } }) (a : ArrangementState T) (read : slice_get d.arrangements source ≡ Some (Some a)) (trace : SpineState T) (same_trace : trace ≡ a.spine) (out : List (Update T))
     (stands : (inserted : List (Insertion T)) (received emitted : List (Update T)) → Stands below trace inserted → SumsToReceived below upper (all_updates inserted) received → IsReduced below joined minimum r received emitted → IsReduced below joined minimum s received (out ++ emitted))
@@ -183,7 +193,7 @@ module _ {T : Type 0} (below : T → T → Bool) (joined met : T → T → T) (m
   module _ (p : Dataflow) (q : IsDataflow p) (es : List (Event T)) (legal : IsLegal below minimum p es) (k : ℕ) (e : node_of p n ≡ Reduce kind source) (x : IsRight below joined minimum p (state_after below minimum p es) k d (Turned n upper)) where
     is_own : IsOwn below joined minimum p (state_after below minimum p es) k c (Ready n out)
     is_own =
-        found_reduce below joined met minimum o laws p q es legal k d c (sharing_reductions below minimum p d (set d.reductions n (Some s)) x.own.sharing) n x.on_plan.hand kind source e (same_but_reduction d n (Some s)) r s own now shape a read upper out
+        found_reduce below joined met minimum o laws p q es legal k d c (holding_found below p d n r s own rest_beyond) n x.on_plan.hand kind source e (same_but_reduction d n (Some s)) r s own now shape a read upper out
         (λ inserted received emitted z. stands inserted received emitted (subst (λ t. Stands below t inserted) (sym same_trace) z)) settled later out_beyond rest_beyond x.own
 
     -- the answers have the width of the node's rows

@@ -30,7 +30,7 @@ use Rattle.desk.specs.Tidying.{HasMoved, IsFollowed, IsFollowedAt, IsTooLargeOn,
 use Rattle.desk.proofs.DeskLemmas.{with_arrangement}
 use Rattle.desk.proofs.PlaceLemmas.{one_entry}
 use Rattle.desk.proofs.FromLemmas.{large_before, leads_same, leads_then, someones_then}
-use Rattle.desk.proofs.TidyLemmas.{leads_with, now_followed, reads_in, sharing_moved, stays_followed}
+use Rattle.desk.proofs.TidyLemmas.{leads_with, now_followed, reads_in, holding_moved, stays_followed}
 
 -- a node that is a join
 pub is_a_join : (node : Node) → is_join node ≡ true → (l : ℕ) × (r : ℕ) × (node ≡ Join l r)
@@ -69,7 +69,7 @@ module _ {T : Type 0} (below : T → T → Bool) (joined : T → T → T) (minim
       → (a : ArrangementState T) × (slice_get d.arrangements s ≡ Some (Some a)) × MayMove below minimum a (hold_at port j) (boundary_at port j)
   may_move l rr e all taken later before queued ends =
       let y = arranged l rr e in
-      let h_at = x.own.sharing.held n port s j r in
+      let h_at = x.own.holding.joins.held n port s j r in
       let same : h_at.arrangement ≡ y.arrangement = one_entry d.arrangements s h_at.arrangement y.arrangement h_at.there y.there in
       let first = taken_first h n port all taken (works.inserted s) later before queued in (
         y.arrangement,
@@ -86,8 +86,8 @@ module _ {T : Type 0} (below : T → T → Bool) (joined : T → T → T) (minim
             all = first.1;
             ends = ends;
             number = hold_at port j;
-            hold = record { logical = minimum ∷ []; physical = h_at.physical };
-            held = ap (λ (z : ArrangementState T). slice_get z.holds (hold_at port j)) (sym same) ∙ h_at.hold;
+            hold = h_at.hold;
+            held = ap (λ (z : ArrangementState T). slice_get z.holds (hold_at port j)) (sym same) ∙ h_at.held;
             behind = h_at.behind;
           };
           is = refl;
@@ -144,25 +144,25 @@ module _ {T : Type 0} (below : T → T → Bool) (joined : T → T → T) (minim
             let at = at_port below joined minimum x.dataflow x.is (state_after below minimum x.dataflow x.events) x.worker d h x.right n s reads.0 port join.0 join.1 join.2 r in
             (reads.0, r.there, at.0, at.1, at.2)
 
-    module _ (o : PartialOrderLaws below) (a b : ArrangementState T) (own : slice_get d.arrangements s ≡ Some (Some a)) (moved : HasMoved below minimum (hold_at port reads.0) (boundary_at port reads.0) a b) where
+    module _ (o : PartialOrderLaws below) (a b : ArrangementState T) (own : slice_get d.arrangements s ≡ Some (Some a)) (moved : HasMoved below (hold_at port reads.0) (boundary_at port reads.0) a b) where
       leads_moved : LeadsOn below joined minimum plan d (with_arrangement s b d)
-      leads_moved = leads_with below joined minimum d s a b own moved.alike plan (λ p nodes sharing. sharing_moved below minimum o p d n port s reads.0 (reads_in p plan d n port s reads.0 nodes reads.1) sharing a b own moved)
+      leads_moved = leads_with below joined minimum d s a b own moved.alike plan (λ p nodes ports holding. holding_moved below o p d n port s reads.0 (reads_in p plan d n port s reads.0 nodes reads.1) ports holding a b own moved)
 
-      here_moved : IsFollowedAt minimum plan (with_arrangement s b d) n port
+      here_moved : IsFollowedAt plan (with_arrangement s b d) n port
       here_moved = by may
         where
-          by : MayTidy below joined minimum plan d → IsFollowedAt minimum plan (with_arrangement s b d) n port
-          by (h, e, x) = now_followed below minimum o x.dataflow d n port s reads.0 (reads_in x.dataflow plan d n port s reads.0 x.nodes reads.1) x.right.own.sharing a b own moved plan x.nodes
+          by : MayTidy below joined minimum plan d → IsFollowedAt plan (with_arrangement s b d) n port
+          by (h, e, x) = now_followed below o x.dataflow d n port s reads.0 (reads_in x.dataflow plan d n port s reads.0 x.nodes reads.1) x.right.own.keeps.ports x.right.own.holding a b own moved plan x.nodes
 
-      stays_moved : (m at : ℕ) → IsFollowedAt minimum plan d m at → IsFollowedAt minimum plan (with_arrangement s b d) m at
+      stays_moved : (m at : ℕ) → IsFollowedAt plan d m at → IsFollowedAt plan (with_arrangement s b d) m at
       stays_moved m at = by may
         where
-          by : MayTidy below joined minimum plan d → IsFollowedAt minimum plan d m at → IsFollowedAt minimum plan (with_arrangement s b d) m at
-          by (h, e, x) = stays_followed below minimum o x.dataflow d n port s reads.0 (reads_in x.dataflow plan d n port s reads.0 x.nodes reads.1) x.right.own.sharing a b own moved plan x.nodes m at
+          by : MayTidy below joined minimum plan d → IsFollowedAt plan d m at → IsFollowedAt plan (with_arrangement s b d) m at
+          by (h, e, x) = stays_followed below o x.dataflow d n port s reads.0 (reads_in x.dataflow plan d n port s reads.0 x.nodes reads.1) x.right.own.keeps.ports x.right.own.holding a b own moved plan x.nodes m at
 
     -- a hold of this arrangement has moved, on another desk
     abbrev pub Moves : DeskView T → ArrangementState T → Type 0
-    Moves c a = (b : ArrangementState T) × (c ≡ with_arrangement s b d) × HasMoved below minimum (hold_at port reads.0) (boundary_at port reads.0) a b
+    Moves c a = (b : ArrangementState T) × (c ≡ with_arrangement s b d) × HasMoved below (hold_at port reads.0) (boundary_at port reads.0) a b
 
     module _ (o : PartialOrderLaws below) (c : DeskView T) {A E : Type 0} where
       pub leads_followed : (res : Result A E) → ((a : ArrangementState T) → slice_get d.arrangements s ≡ Some (Some a) → OnOk res (Moves c a)) → OnErr res (c ≡ d) → LeadsOn below joined minimum plan d c
@@ -172,19 +172,19 @@ module _ {T : Type 0} (below : T → T → Bool) (joined : T → T → T) (minim
           subst (LeadsOn below joined minimum plan d) (sym m.1) (leads_moved o there.2 m.0 there.3 m.2)
       leads_followed (Err e) moved same = subst (LeadsOn below joined minimum plan d) (sym same) (leads_on_same d)
 
-      pub here_followed : (res : Result A E) → ((a : ArrangementState T) → slice_get d.arrangements s ≡ Some (Some a) → OnOk res (Moves c a)) → OnOk res (IsFollowedAt minimum plan c n port)
+      pub here_followed : (res : Result A E) → ((a : ArrangementState T) → slice_get d.arrangements s ≡ Some (Some a) → OnOk res (Moves c a)) → OnOk res (IsFollowedAt plan c n port)
       here_followed (Ok y) moved =
           let there = there_to_follow in
           let m = moved there.2 there.3 in
-          subst (λ (z : DeskView T). IsFollowedAt minimum plan z n port) (sym m.1) (here_moved o there.2 m.0 there.3 m.2)
+          subst (λ (z : DeskView T). IsFollowedAt plan z n port) (sym m.1) (here_moved o there.2 m.0 there.3 m.2)
       here_followed (Err e) moved = tt
 
-      pub still_followed : (res : Result A E) → ((a : ArrangementState T) → slice_get d.arrangements s ≡ Some (Some a) → OnOk res (Moves c a)) → OnErr res (c ≡ d) → (m at : ℕ) → IsFollowedAt minimum plan d m at → IsFollowedAt minimum plan c m at
+      pub still_followed : (res : Result A E) → ((a : ArrangementState T) → slice_get d.arrangements s ≡ Some (Some a) → OnOk res (Moves c a)) → OnErr res (c ≡ d) → (m at : ℕ) → IsFollowedAt plan d m at → IsFollowedAt plan c m at
       still_followed (Ok y) moved same m at x =
           let there = there_to_follow in
           let z = moved there.2 there.3 in
-          subst (λ (c : DeskView T). IsFollowedAt minimum plan c m at) (sym z.1) (stays_moved o there.2 z.0 there.3 z.2 m at x)
-      still_followed (Err e) moved same m at x = subst (λ (c : DeskView T). IsFollowedAt minimum plan c m at) (sym same) x
+          subst (λ (c : DeskView T). IsFollowedAt plan c m at) (sym z.1) (stays_moved o there.2 z.0 there.3 z.2 m at x)
+      still_followed (Err e) moved same m at x = subst (λ (c : DeskView T). IsFollowedAt plan c m at) (sym same) x
 
   -- ---- both ports of a join
 
@@ -203,7 +203,7 @@ module _ {T : Type 0} (below : T → T → Bool) (joined : T → T → T) (minim
       reads_right = (join_there.0, record { within = within; join = ap is_join e; reads = ap (λ node. slice_get (sources node) 1) e; there = join_there.1 })
 
   -- a join has no more than two ports
-  pub both_followed : (d : DeskView T) (n l r : ℕ) → node_at plan n ≡ Join l r → IsFollowedAt minimum plan d n 0 → IsFollowedAt minimum plan d n 1 → IsFollowed minimum plan d n
+  pub both_followed : (d : DeskView T) (n l r : ℕ) → node_at plan n ≡ Join l r → IsFollowedAt plan d n 0 → IsFollowedAt plan d n 1 → IsFollowed plan d n
   both_followed d n l r e first second zero = first
   both_followed d n l r e first second (suc zero) = second
   both_followed d n l r e first second (suc (suc port)) = λ source j reads a there. absurd (none source (sym (ap (λ node. slice_get (sources node) (suc (suc port))) e) ∙ reads.reads))
@@ -212,13 +212,13 @@ module _ {T : Type 0} (below : T → T → Bool) (joined : T → T → T) (minim
       none source z = cc
 
   -- at a node that is no join nothing is to be followed
-  pub none_followed : (d : DeskView T) (n : ℕ) → is_join (node_at plan n) ≡ false → IsFollowed minimum plan d n
+  pub none_followed : (d : DeskView T) (n : ℕ) → is_join (node_at plan n) ≡ false → IsFollowed plan d n
   none_followed d n e port = λ source j reads a there. absurd (true≢false (sym reads.join ∙ e))
 
   -- one node more
-  pub followed_more : (d c : DeskView T) (n node : ℕ) → node ≡ n → ((m : ℕ) → m < n → IsFollowed minimum plan d m) → ((m i : ℕ) → IsFollowedAt minimum plan d m i → IsFollowedAt minimum plan c m i) → IsFollowed minimum plan c node → (m : ℕ) → m < n + 1 → IsFollowed minimum plan c m
+  pub followed_more : (d c : DeskView T) (n node : ℕ) → node ≡ n → ((m : ℕ) → m < n → IsFollowed plan d m) → ((m i : ℕ) → IsFollowedAt plan d m i → IsFollowedAt plan c m i) → IsFollowed plan c node → (m : ℕ) → m < n + 1 → IsFollowed plan c m
   followed_more d c n node same before stays here m l = by (eqb m n) refl
     where
-      by : (b : Bool) → eqb m n ≡ b → IsFollowed minimum plan c m
-      by true e = subst (IsFollowed minimum plan c) (same ∙ sym (eqb-true m n e)) here
+      by : (b : Bool) → eqb m n ≡ b → IsFollowed plan c m
+      by true e = subst (IsFollowed plan c) (same ∙ sym (eqb-true m n e)) here
       by false e = λ port. stays m port (before m (let far = eqb-false m n e in omega (arith, l, far)) port)

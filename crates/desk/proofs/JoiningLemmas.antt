@@ -71,19 +71,20 @@ all_out {T} below out = record {
 
 -- ---- the holds stay, and the boundaries move on
 
-module _ {T : Type 0} (below : T → T → Bool) (minimum : T) (o : PartialOrderLaws below) (p : Dataflow) (d : DeskView T) (n : ℕ) (j i : JoiningView T) (there : slice_get d.joins n ≡ Some (Some j)) (holds : (port : ℕ) → hold_at port i ≡ hold_at port j)
-    (further : (port : ℕ) → IsTrue (all_beyond below (boundary_at port j) (boundary_at port i))) (gathered : List (List (Update T))) (sharing : AreSharing below minimum p d) where
+module _ {T : Type 0} (below : T → T → Bool) (o : PartialOrderLaws below) (p : Dataflow) (d : DeskView T) (n : ℕ) (j i : JoiningView T) (there : slice_get d.joins n ≡ Some (Some j)) (holds : (port : ℕ) → hold_at port i ≡ hold_at port j)
+    (further : (port : ℕ) → IsTrue (all_beyond below (boundary_at port j) (boundary_at port i))) (gathered : List (List (Update T))) where
   abbrev moved_desk : DeskView T
   moved_desk = record d { gathered = gathered; joins = set d.joins n (Some i) }
 
-  hold_on : (source number : ℕ) (boundary upper : List T) → IsTrue (all_beyond below boundary upper) → HasHold below minimum d source number boundary → HasHold below minimum moved_desk source number upper
-  hold_on source number boundary upper on h = record {
+  hold_on : (source number : ℕ) (boundary upper ts : List T) → IsTrue (all_beyond below boundary upper) → HasHold below d source number boundary ts → HasHold below moved_desk source number upper ts
+  hold_on source number boundary upper ts on h = record {
     arrangement = h.arrangement;
     there = h.there;
     other = h.other;
-    physical = h.physical;
     hold = h.hold;
-    behind = all_beyond_later o h.physical boundary upper h.behind on;
+    held = h.held;
+    apart = h.apart;
+    behind = all_beyond_later o h.hold.physical boundary upper h.behind on;
   }
 
   -- what read an arrangement before
@@ -107,17 +108,27 @@ module _ {T : Type 0} (below : T → T → Bool) (minimum : T) (o : PartialOrder
         beyond_itself o (boundary_at port b),
       )
 
-  pub sharing_on : AreSharing below minimum p moved_desk
-  sharing_on = record {
-    held = λ m port source b reads.
-        let y = back m port source b reads in
-        subst (λ number. HasHold below minimum moved_desk source number (boundary_at port b)) (sym y.2)
-        (hold_on source (hold_at port y.0) (boundary_at port y.0) (boundary_at port b) y.3 (sharing.held m port source y.0 y.1));
-    apart = λ m port other_node other source a b first second same.
-        let y = back m port source a first in
-        let z = back other_node other source b second in
-        sharing.apart m port other_node other source y.0 z.0 y.1 z.1 (sym y.2 ∙ (same ∙ z.2));
+  pub holding_on : StayHolding below p d moved_desk
+  holding_on ports x = record {
+    joins = record {
+      held = λ m port source b reads.
+          let y = back m port source b reads in
+          subst (λ number. HasHold below moved_desk source number (boundary_at port b) (ports m (other_port port))) (sym y.2)
+          (hold_on source (hold_at port y.0) (boundary_at port y.0) (boundary_at port b) (ports m (other_port port)) y.3 (x.joins.held m port source y.0 y.1));
+      apart = λ m port other_node other source a b first second same.
+          let y = back m port source a first in
+          let z = back other_node other source b second in
+          x.joins.apart m port other_node other source y.0 z.0 y.1 z.1 (sym y.2 ∙ (same ∙ z.2));
+    };
+    pending = λ m source r is. serves source (pending_of r) (x.pending m source r (reduces m source r is));
+    come = λ m source r is. serves source (ports m 0) (x.come m source r (reduces m source r is));
   }
+    where
+      reduces : (m source : ℕ) (r : ReducingView T) → Reduces p moved_desk m source r → Reduces p d m source r
+      reduces m source r is = record { within = is.within; kind = is.kind; node = is.node; there = is.there }
+
+      serves : (source : ℕ) (ts : List T) → KeepsApart below d source 0 ts → KeepsApart below moved_desk source 0 ts
+      serves source ts h = record { arrangement = h.arrangement; there = h.there; hold = h.hold; held = h.held; apart = h.apart }
 
 module _ {T : Type 0} (below : T → T → Bool) (o : PartialOrderLaws below) (upper : List T) (looked : ℕ) (j : JoiningView T) where
   pub holds_still : (at port : ℕ) → hold_at port (taken_up_to at upper looked j) ≡ hold_at port j
@@ -208,7 +219,7 @@ module _ {T : Type 0} (below : T → T → Bool) (joined : T → T → T) (minim
     reading_there : (port source : ℕ) → source_of p n port ≡ Some source → (start : List T) (inserted later taken : List (Insertion T)) (y : IsArrangedOn below joined minimum p d source start inserted)
         → inserted ≡ on_top later taken → boundary_at port j ≡ reached (minimum ∷ []) taken → IsReading below minimum y.arrangement inserted later taken (boundary_at port j)
     reading_there port source reads start inserted later taken y all ends =
-        let h = x.own.sharing.held n port source j (record { within = within; join = ap is_join e; reads = reads; there = there }) in
+        let h = x.own.holding.joins.held n port source j (record { within = within; join = ap is_join e; reads = reads; there = there }) in
         let same : h.arrangement ≡ y.arrangement = some_same h.arrangement y.arrangement (sym h.there ∙ y.there) in
         record {
           stands = y.spine.stands;
@@ -218,10 +229,20 @@ module _ {T : Type 0} (below : T → T → Bool) (joined : T → T → T) (minim
           all = all;
           ends = ends;
           number = hold_at port j;
-          hold = record { logical = minimum ∷ []; physical = h.physical };
-          held = ap (λ (z : ArrangementState T). slice_get z.holds (hold_at port j)) (sym same) ∙ h.hold;
+          hold = h.hold;
+          held = ap (λ (z : ArrangementState T). slice_get z.holds (hold_at port j)) (sym same) ∙ h.held;
           behind = h.behind;
         }
+
+    -- the join has a hold at the arrangement of a source, and what comes at the other port is kept apart
+    the_hold : (port source : ℕ) → source_of p n port ≡ Some source → HasHold below d source (hold_at port j) (boundary_at port j) (x.own.keeps.ports n (other_port port))
+    the_hold port source reads = x.own.holding.joins.held n port source j (record { within = within; join = ap is_join e; reads = reads; there = there })
+
+    kept_apart : PartialOrderLaws below → (port source : ℕ) (reads : source_of p n port ≡ Some source) → bundle.place.port ≡ other_port port → IsTrue (all_beyond below (the_hold port source reads).hold.logical (times bundle.updates))
+    kept_apart o port source reads at =
+        let h = the_hold port source reads in
+        all_beyond_later o h.hold.logical (x.own.keeps.ports n (other_port port)) (times bundle.updates) h.apart
+        (subst (λ z. IsTrue (all_beyond below (x.own.keeps.ports n z) (times bundle.updates))) at x.own.come)
 
     -- ---- what the join takes next
 
@@ -235,8 +256,8 @@ module _ {T : Type 0} (below : T → T → Bool) (joined : T → T → T) (minim
         let still = before.at_left.same (not_in_hand 1 0 port refl) in
         reading_there 0 l reads_left (works.start l) (works.inserted l) here.1.later before.left (arranged 0 l reads_left) (here.1.all ∙ ap (on_top here.1.later) still) left_before
 
-    pub next_left : bundle.place.port ≡ 0 → IsNextAt below minimum 0 d.arrangements l r j bundle.updates
-    next_left port =
+    pub next_left : PartialOrderLaws below → bundle.place.port ≡ 0 → IsNextAt below minimum 0 d.arrangements l r j bundle.updates
+    next_left o port =
         let newest = before.at_left.newest bundle more refl (in_hand 0 port) in
         let y = arranged 0 l reads_left in
         let z = arranged 1 r reads_right in
@@ -260,10 +281,11 @@ module _ {T : Type 0} (below : T → T → Bool) (joined : T → T → T) (minim
           later = here.2.later;
           taken = before.right;
           reading = opposite_right port;
+          apart = kept_apart o 1 r reads_right port;
         }
 
-    pub next_right : bundle.place.port ≡ 1 → IsNextAt below minimum 1 d.arrangements r l j bundle.updates
-    next_right port =
+    pub next_right : PartialOrderLaws below → bundle.place.port ≡ 1 → IsNextAt below minimum 1 d.arrangements r l j bundle.updates
+    next_right o port =
         let newest = before.at_right.newest bundle more refl (in_hand 1 port) in
         let y = arranged 1 r reads_right in
         let z = arranged 0 l reads_left in
@@ -287,6 +309,7 @@ module _ {T : Type 0} (below : T → T → Bool) (joined : T → T → T) (minim
           later = here.1.later;
           taken = before.left;
           reading = opposite_left port;
+          apart = kept_apart o 0 l reads_left port;
         }
 
     -- ---- what is too large
@@ -363,17 +386,17 @@ module _ {T : Type 0} (below : T → T → Bool) (joined : T → T → T) (minim
 
         ready_now : IsOwn below joined minimum p w k mid (Kept n more) → IsRight below joined minimum p w k desk_now (Ready n out)
         ready_now own = record {
-          own = ready_from_kept below joined minimum o p q w k mid desk_now (sharing_on below minimum o p d n j i there holds further d.gathered x.own.sharing) n within to_now out out_of_mid more (ap arranged_by e) (ap is_reduction e) refl waits_now own;
+          own = ready_from_kept below joined minimum o p q w k mid desk_now (holding_gathered below p mid d.gathered) n within to_now out out_of_mid more (ap arranged_by e) (ap is_reduction e) refl waits_now own;
           on_plan = on_plan_now (pairs_wide paired.fitting out paired.wide);
         }
 
-        sharing_mid : AreSharing below minimum p mid
-        sharing_mid = sharing_on below minimum o p d n j i there holds further (set d.gathered n out) x.own.sharing
+        holding_mid : StayHolding below p d mid
+        holding_mid = holding_on below o p d n j i there holds further (set d.gathered n out)
 
       pub right_after_left : bundle.place.port ≡ 0 → IsPaired below minimum joined cmp 0 d.arrangements l r j bundle.updates out i → IsRight below joined minimum p w k desk_now (Ready n out)
       right_after_left port paired =
           ready_now 0 l r paired
-          (kept_left below joined minimum o p q w k d mid (sharing_mid 0 l r paired) bundle more within l r e to_mid j i there (get_own d.joins n (Some i) (Some j) there) x.own port paired.upper paired.looked paired.moved
+          (kept_left below joined minimum o p q w k d mid (holding_mid 0 l r paired) bundle more within l r e to_mid j i there (get_own d.joins n (Some i) (Some j) there) x.own port paired.upper paired.looked paired.moved
           (next_boundary 0 l reads_left paired.upper paired.ends)
           (λ start inserted later taken y all ends.
           lies_mid (pairs joined j.state.key bundle.updates (all_updates taken)) bundle.updates (all_updates taken)
@@ -382,7 +405,7 @@ module _ {T : Type 0} (below : T → T → Bool) (joined : T → T → T) (minim
       pub right_after_right : bundle.place.port ≡ 1 → IsPaired below minimum joined cmp 1 d.arrangements r l j bundle.updates out i → IsRight below joined minimum p w k desk_now (Ready n out)
       right_after_right port paired =
           ready_now 1 r l paired
-          (kept_right below joined minimum o p q w k d mid (sharing_mid 1 r l paired) bundle more within l r e to_mid j i there (get_own d.joins n (Some i) (Some j) there) x.own port paired.upper paired.looked paired.moved
+          (kept_right below joined minimum o p q w k d mid (holding_mid 1 r l paired) bundle more within l r e to_mid j i there (get_own d.joins n (Some i) (Some j) there) x.own port paired.upper paired.looked paired.moved
           (next_boundary 1 r reads_right paired.upper paired.ends)
           (λ start inserted later taken y all ends.
           lies_mid (pairs joined j.state.key (all_updates taken) bundle.updates) bundle.updates (all_updates taken)

@@ -58,6 +58,13 @@ no_join_else other f = refl
 pub reduce_no_join : (kind : Kind) (source : ℕ) (node : Node) → node ≡ Reduce kind source → is_join node ≡ false
 reduce_no_join kind source node e = ap is_join e
 
+-- a reduction has one port
+only_port : (kind : Kind) (source port : ℕ) → IsTrue (is_port (Reduce kind source) port) → port ≡ 0
+only_port kind source port h = ⊎_elim (λ e. eqb-true port 0 e) (λ l. below_one port l) (or_cases (eqb port 0) (nat_lt port 1) h)
+  where
+    below_one : (port : ℕ) → nat_lt port 1 ≡ true → port ≡ 0
+    below_one port l = grind (arith, nat_tests)
+
 module _ {T : Type 0} (below : T → T → Bool) where
   swap : (a b : ℤ) → a +ℤ b ≡ b +ℤ a
   swap a b = omega (arith, ints)
@@ -118,19 +125,24 @@ module _ {T : Type 0} (below : T → T → Bool) (joined : T → T → T) (minim
         let waits = waits_on d n (node_of p n) in
         record {
           own =
-              kept_lem below joined minimum o p q w k d c (laid.sharing x.own.sharing) bundle more x.on_plan.hand.0 linear laid.others laid.arranged
+              kept_lem below joined minimum o p q w k d c laid.holding bundle more x.on_plan.hand.0 linear laid.others laid.arranged
               (subst (IsSplit below (made ++ waits) []) (sym laid.waits) (split_turned below made waits)) x.own;
           on_plan = laid_on_plan linear laid x.on_plan;
         }
 
     pub reduced_right : (met : T → T → T) (laws : LatticeLaws below joined met) (kind : Kind) (source : ℕ) → node_of p n ≡ Reduce kind source → IsReducedWith below joined minimum n bundle.updates d c
         → IsRight below joined minimum p w k d (Taken bundle more) → IsRight below joined minimum p w k c (Kept n more)
-    reduced_right met laws kind source e with_it x = record {
-      own =
-          kept_reduce below joined met minimum o laws p q w k d c (with_it.sharing p x.own.sharing) bundle more x.on_plan.hand.0 kind source e with_it.others with_it.before with_it.after
-          with_it.was with_it.there with_it.shape with_it.reduced with_it.pending x.own;
-      on_plan = reduced_on_plan kind source e with_it x.on_plan;
-    }
+    reduced_right met laws kind source e with_it x =
+        let lies = x.own.laid.reducing n source kind x.on_plan.hand.0 e in
+        let is : lies.reduction ≡ with_it.before = one_entry d.reductions n lies.reduction with_it.before lies.there with_it.was in
+        let stay = with_it.holding p lies.taken (x.own.keeps.given n) (subst (λ z. IsReduced below joined minimum z lies.taken (x.own.keeps.given n)) is lies.reduced) in
+        let first : bundle.place.port ≡ 0 = only_port kind source bundle.place.port (subst (λ node. IsTrue (is_port node bundle.place.port)) e x.on_plan.hand.1) in
+        record {
+          own =
+              kept_reduce below joined met minimum o laws p q w k d c bundle more (subst (λ i. StayHoldingWith below p d c n i (times bundle.updates)) (sym first) stay) x.on_plan.hand.0 kind source e with_it.others with_it.before with_it.after
+              with_it.was with_it.there with_it.shape with_it.reduced with_it.pending x.own;
+          on_plan = reduced_on_plan kind source e with_it x.on_plan;
+        }
 
 module _ {T : Type 0} (below : T → T → Bool) (joined : T → T → T) (minimum : T) (o : PartialOrderLaws below) (plan : List Node) (d c : DeskView T) (bundle : Bundle T) (more : Bool) where
   -- whichever worker has the bundle in hand

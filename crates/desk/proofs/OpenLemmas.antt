@@ -4,8 +4,9 @@ use Rattle.std.proofs.Common.{◌≡◌, ◌≢◌, ℕ, zero, suc, ◌+◌, ◌
 use Rattle.std.specs.List.{Contains, slice_get}
 use Rattle.std.proofs.lemmas.Bool.{and_parts, eqb-true, eqb-false, false≢true}
 use Rattle.std.proofs.lemmas.Bool.Decides.{nat_tests}
-use Rattle.std.proofs.lemmas.Option.{same_Some}
+use Rattle.std.proofs.lemmas.Option.{same_Some, slice_get-get_or}
 use Rattle.lattice.specs.Order.{PartialOrderLaws}
+use Rattle.lattice.specs.Frontiers.{all_beyond}
 use Rattle.lattice.proofs.FrontierLemmas.{beyond_itself}
 use Rattle.update.specs.declared.change.Update.{Update}
 use Rattle.plan.specs.Rules.{IsPlan}
@@ -22,6 +23,7 @@ use Rattle.linear.specs.Widths.{are_wide}
 use Rattle.trace.specs.Readings.{Insertion, reached}
 use Rattle.trace.specs.BatchLists.{BatchListState, end_of}
 use Rattle.trace.proofs.BatchListLemmas.{reached_boundary}
+use Rattle.trace.specs.Holds.{HoldState}
 use Rattle.spine.specs.Spines.{SpineState, Stands, boundaries}
 use Rattle.histories.specs.Histories.Dataflows.{Dataflow, IsDataflow, node_of}
 use Rattle.histories.specs.Histories.{initial_state}
@@ -29,14 +31,18 @@ use Rattle.operator_laws.specs.Joining.{on_top}
 use Rattle.operator_laws.specs.Working.{first_works}
 use Rattle.operator.specs.Arrangements.{AreInTurn, ArrangementState, IsNew, IsOpen, IsWithReader, upper_of}
 use Rattle.operator.specs.Joins.{JoiningView, IsFitting}
-use Rattle.operator.specs.Reductions.{ReducingView, HasRoom, state_key}
-use Rattle.desk_laws.specs.Own.{AreSharing, DeskView, HasHold, IsArrangedOn, IsJoinedOn, IsLaid, IsReducedOn, IsTakenBefore, ReadsAt, boundary_at, first_keeps, gathered_in, hold_at, waiting_in, waits_on}
+use Rattle.operator.specs.Reductions.{ReducingView, HasRoom, pending_of, state_key}
+use Rattle.desk_laws.specs.Own.{AreHolding, DeskView, HasHold, IsArrangedOn, IsJoinedOn, IsLaid, IsReducedOn, IsTakenBefore, KeepsApart, ReadsAt, Reduces, boundary_at, first_keeps, gathered_in, hold_at, waiting_in, waits_on}
 use Rattle.desk_laws.specs.declared.hand.Hand.TheVariants.{Free}
 use Rattle.desk_laws.proofs.FirstLemmas.{first_lem}
 use Rattle.desk.specs.Desks.{IsRight}
 use Rattle.desk.specs.Openings.{on_plan, HasOneMore, HasOwnHolds, IsFirstArrangement, IsFirstAt, IsFirstJoin, IsFirstReduction, IsLaidOut}
 use Rattle.desk.proofs.DeskLemmas.{with_arrangement}
 use Rattle.desk.proofs.PlaceLemmas.{get_either, get_inside, get_kept, get_last, get_own, get_set, length_more, length_set}
+
+-- a hold for all times from the least one on
+abbrev HasFirst : {T : Type 0} → (T → T → Bool) → T → DeskView T → ℕ → ℕ → List T → Type 0
+HasFirst below minimum d s number u = HasHold below d s number u (minimum ∷ [])
 
 join_sources : (node : Node) → is_join node ≡ true → (l : ℕ) × (r : ℕ) × (node ≡ Join l r)
 join_sources (Input width) e = cc
@@ -193,8 +199,8 @@ module _ {T : Type 0} (below : T → T → Bool) (joined : T → T → T) (minim
     kept m (Negate s) x = tt
     kept m (Output s) x = tt
 
-    hold_kept : (s number : ℕ) (u : List T) → HasHold below minimum d s number u → HasHold below minimum more s number u
-    hold_kept s number u h = record { arrangement = h.arrangement; there = get_kept d.arrangements (a ∷ []) s (Some h.arrangement) h.there; other = h.other; physical = h.physical; hold = h.hold; behind = h.behind }
+    hold_kept : (s number : ℕ) (u : List T) → HasFirst below minimum d s number u → HasFirst below minimum more s number u
+    hold_kept s number u h = record { arrangement = h.arrangement; there = get_kept d.arrangements (a ∷ []) s (Some h.arrangement) h.there; other = h.other; hold = h.hold; held = h.held; apart = h.apart; behind = h.behind }
 
     -- the new join reads this source at this port
     record IsNewReader (m port s : ℕ) (i : JoiningView T) : Type 0 where
@@ -233,13 +239,13 @@ module _ {T : Type 0} (below : T → T → Bool) (joined : T → T → T) (minim
               port_is = which_port y.0 y.1 port s (sym (ap (λ node. slice_get (sources node) port) y.2) ∙ (sym (ap (λ k. slice_get (sources (node_at p k)) port) at) ∙ x.reads));
             }
 
-    own_hold : (port s : ℕ) (i : JoiningView T) (l k : ℕ) → IsFirstJoin below joined minimum p n l k i → HasOwnHolds below joined minimum p d l k i → ((port ≡ 0) × (s ≡ l)) ⊎ ((port ≡ 1) × (s ≡ k)) → HasHold below minimum more s (hold_at port i) (boundary_at port i)
+    own_hold : (port s : ℕ) (i : JoiningView T) (l k : ℕ) → IsFirstJoin below joined minimum p n l k i → HasOwnHolds below joined minimum p d l k i → ((port ≡ 0) × (s ≡ l)) ⊎ ((port ≡ 1) × (s ≡ k)) → HasFirst below minimum more s (hold_at port i) (boundary_at port i)
     own_hold port s i l k first holds (inl (e, f)) =
-        subst (λ y. HasHold below minimum more s (hold_at y i) (boundary_at y i)) (sym e)
-        (subst (λ u. HasHold below minimum more s i.left_hold u) (sym first.left) (subst (λ y. HasHold below minimum more y i.left_hold (minimum ∷ [])) (sym f) (hold_kept l i.left_hold (minimum ∷ []) holds.left)))
+        subst (λ y. HasFirst below minimum more s (hold_at y i) (boundary_at y i)) (sym e)
+        (subst (λ u. HasFirst below minimum more s i.left_hold u) (sym first.left) (subst (λ y. HasFirst below minimum more y i.left_hold (minimum ∷ [])) (sym f) (hold_kept l i.left_hold (minimum ∷ []) holds.left)))
     own_hold port s i l k first holds (inr (e, f)) =
-        subst (λ y. HasHold below minimum more s (hold_at y i) (boundary_at y i)) (sym e)
-        (subst (λ u. HasHold below minimum more s i.right_hold u) (sym first.right) (subst (λ y. HasHold below minimum more y i.right_hold (minimum ∷ [])) (sym f) (hold_kept k i.right_hold (minimum ∷ []) holds.right)))
+        subst (λ y. HasFirst below minimum more s (hold_at y i) (boundary_at y i)) (sym e)
+        (subst (λ u. HasFirst below minimum more s i.right_hold u) (sym first.right) (subst (λ y. HasFirst below minimum more y i.right_hold (minimum ∷ [])) (sym f) (hold_kept k i.right_hold (minimum ∷ []) holds.right)))
 
     -- an old reader has another hold than the new one
     no_other : (m port s : ℕ) (i : JoiningView T) → ReadsAt q d m port s i → (k other : ℕ) (x : JoiningView T) → IsNewReader k other s x → hold_at port i ≡ hold_at other x → ⊥
@@ -291,21 +297,25 @@ module _ {T : Type 0} (below : T → T → Bool) (joined : T → T → T) (minim
 
   -- ---- one more hold at an arrangement
 
-  module _ (d : DeskView T) (n : ℕ) (laid : IsLaidOut below joined minimum p d n) (s : ℕ) (a b : ArrangementState T) (there : slice_get d.arrangements s ≡ Some (Some a)) (one : HasOneMore below minimum a b) where
-    with : IsWithReader below minimum a b
+  module _ (d : DeskView T) (n : ℕ) (laid : IsLaidOut below joined minimum p d n) (s : ℕ) (a b : ArrangementState T) (there : slice_get d.arrangements s ≡ Some (Some a)) (one : HasOneMore below a b) where
+    with : IsWithReader below a b
     with = one.with
 
     abbrev grown : DeskView T
     grown = with_arrangement s b d
 
+    -- the new hold
+    abbrev one_hold : HoldState T
+    one_hold = record { logical = a.spine.since; physical = upper_of a.spine }
+
     at_own : slice_get grown.arrangements s ≡ Some (Some b)
     at_own = get_own d.arrangements s (Some b) (Some a) there
 
     -- the hold of an arrangement is still there
-    pub hold_stays : (m number : ℕ) (u : List T) → HasHold below minimum d m number u → HasHold below minimum grown m number u
+    pub hold_stays : (m number : ℕ) (u : List T) → HasFirst below minimum d m number u → HasFirst below minimum grown m number u
     hold_stays m number u h = step (eqb m s) refl
       where
-        step : (x : Bool) → eqb m s ≡ x → HasHold below minimum grown m number u
+        step : (x : Bool) → eqb m s ≡ x → HasFirst below minimum grown m number u
         step true e =
             let at = eqb-true m s e in
             let same : a ≡ h.arrangement = same_Some a h.arrangement (same_Some (Some a) (Some h.arrangement) (sym there ∙ (sym (ap (slice_get d.arrangements) at) ∙ h.there))) in
@@ -313,11 +323,12 @@ module _ {T : Type 0} (below : T → T → Bool) (joined : T → T → T) (minim
               arrangement = b;
               there = ap (slice_get grown.arrangements) at ∙ at_own;
               other = h.other;
-              physical = h.physical;
-              hold = ap (λ hs. slice_get hs number) with.holds ∙ get_kept a.holds (record { logical = minimum ∷ []; physical = upper_of a.spine } ∷ []) number (record { logical = minimum ∷ []; physical = h.physical }) (ap (λ (z : ArrangementState T). slice_get z.holds number) same ∙ h.hold);
+              hold = h.hold;
+              held = ap (λ hs. slice_get hs number) with.holds ∙ get_kept a.holds (one_hold ∷ []) number h.hold (ap (λ (z : ArrangementState T). slice_get z.holds number) same ∙ h.held);
+              apart = h.apart;
               behind = h.behind;
             }
-        step false e = record { arrangement = h.arrangement; there = get_set d.arrangements s m (Some b) (eqb-false m s e) ∙ h.there; other = h.other; physical = h.physical; hold = h.hold; behind = h.behind }
+        step false e = record { arrangement = h.arrangement; there = get_set d.arrangements s m (Some b) (eqb-false m s e) ∙ h.there; other = h.other; hold = h.hold; held = h.held; apart = h.apart; behind = h.behind }
 
     -- the desk is laid out as before
     pub laid_with : IsFirstArrangement below joined minimum p s a → IsLaidOut below joined minimum p grown n
@@ -338,7 +349,7 @@ module _ {T : Type 0} (below : T → T → Bool) (joined : T → T → T) (minim
         back m port source i r = record { within = r.within; join = r.join; reads = r.reads; there = r.there }
 
         first_then : IsFirstArrangement below joined minimum p s b
-        first_then = record { width = with.width ∙ first.width; start = with.start ∙ first.start; stands = with.stands [] first.stands; «open» = one.whole first.stands first.«open»; nothing_waits = with.waiting ∙ first.nothing_waits }
+        first_then = record { width = with.width ∙ first.width; start = with.start ∙ first.start; stands = with.stands [] first.stands; «open» = one.whole first.stands first.«open»; nothing_waits = with.waiting ∙ first.nothing_waits; since = with.since ∙ first.since; own = first.own; first = ap (λ hs. slice_get hs 0) with.holds ∙ get_kept a.holds (one_hold ∷ []) 0 first.own first.first; begins = first.begins }
 
         arranged : (m : ℕ) (x : ArrangementState T) → slice_get d.arrangements m ≡ Some (Some x) → IsFirstArrangement below joined minimum p m x → (y : Bool) → eqb m s ≡ y
             → (z : ArrangementState T) × (slice_get grown.arrangements m ≡ Some (Some z)) × IsFirstArrangement below joined minimum p m z
@@ -357,17 +368,15 @@ module _ {T : Type 0} (below : T → T → Bool) (joined : T → T → T) (minim
         kept m (Output source) x = tt
 
     -- the new hold begins at the least time
-    pub new_hold : PartialOrderLaws below → IsFirstArrangement below joined minimum p s a → 0 < length a.holds → HasHold below minimum grown s (length a.holds) (minimum ∷ [])
+    pub new_hold : PartialOrderLaws below → IsFirstArrangement below joined minimum p s a → 0 < length a.holds → HasFirst below minimum grown s (length a.holds) (minimum ∷ [])
     new_hold o first some = record {
       arrangement = b;
       there = at_own;
       other = some;
-      physical = minimum ∷ [];
-      hold =
-          ap (λ hs. slice_get hs (length a.holds)) with.holds
-          ∙ (get_last a.holds (record { logical = minimum ∷ []; physical = upper_of a.spine })
-          ∙ ap (λ u. Some (record { logical = minimum ∷ []; physical = u })) (first.stands.upper ∙ first.start));
-      behind = beyond_itself o (minimum ∷ []);
+      hold = one_hold;
+      held = ap (λ hs. slice_get hs (length a.holds)) with.holds ∙ get_last a.holds one_hold;
+      apart = subst (λ F. IsTrue (all_beyond below F (minimum ∷ []))) (sym first.since) (beyond_itself o (minimum ∷ []));
+      behind = subst (λ F. IsTrue (all_beyond below F (minimum ∷ []))) (sym (first.stands.upper ∙ first.start)) (beyond_itself o (minimum ∷ []));
     }
 
     -- no join has it yet
@@ -375,11 +384,11 @@ module _ {T : Type 0} (below : T → T → Bool) (joined : T → T → T) (minim
     none_has_it m port i r e =
         let h = laid.sharing.held m port s i r in
         let same : h.arrangement ≡ a = same_Some h.arrangement a (same_Some (Some h.arrangement) (Some a) (sym h.there ∙ there)) in
-        let inside = get_inside a.holds (hold_at port i) (record { logical = minimum ∷ []; physical = h.physical }) (sym (ap (λ (z : ArrangementState T). slice_get z.holds (hold_at port i)) same) ∙ h.hold) in
+        let inside = get_inside a.holds (hold_at port i) h.hold (sym (ap (λ (z : ArrangementState T). slice_get z.holds (hold_at port i)) same) ∙ h.held) in
         absurd (omega (arith, inside, e))
 
     pub one_more_hold : length b.holds ≡ suc (length a.holds)
-    one_more_hold = ap length with.holds ∙ length_more a.holds (record { logical = minimum ∷ []; physical = upper_of a.spine })
+    one_more_hold = ap length with.holds ∙ length_more a.holds one_hold
 
 -- the arrangement of an arranged node on a desk that is laid out
 module _ {T : Type 0} (below : T → T → Bool) (joined : T → T → T) (minimum : T) (p : List Node) (d : DeskView T) (n : ℕ) (laid : IsLaidOut below joined minimum p d n) (s key : ℕ) (before : s < n) (arranged : arranged_by (node_at p s) ≡ Some key) where
@@ -415,18 +424,26 @@ module _ {T : Type 0} (below : T → T → Bool) (joined : T → T → T) (minim
     stands = new.stands;
     «open» = first_open a.spine (ap (λ (l : BatchListState T). l.batches) new.batches);
     nothing_waits = new.nothing_waits;
+    since = new.since;
+    own = record { logical = minimum ∷ []; physical = minimum ∷ [] };
+    first =
+        let l : 0 < length a.holds = (let one = new.readers in omega (arith, one)) in
+        let own : HoldState T = record { logical = minimum ∷ []; physical = minimum ∷ [] } in
+        slice_get-get_or a.holds 0 own l ∙ ap (λ (h : HoldState T). Some h) (new.begin 0 own l);
+    begins = refl;
   }
 
 -- one more hold at an arrangement
-pub one_more : {T : Type 0} (below : T → T → Bool) (minimum : T) (a b : ArrangementState T) → b ≡ record a { spine = record a.spine { holds = b.spine.holds }; holds = a.holds ++ record { logical = minimum ∷ []; physical = upper_of a.spine } ∷ [] }
+pub one_more : {T : Type 0} (below : T → T → Bool) (a b : ArrangementState T) → b ≡ record a { spine = record a.spine { holds = b.spine.holds }; holds = a.holds ++ record { logical = a.spine.since; physical = upper_of a.spine } ∷ [] }
     → ((h : List (Insertion T)) → Stands below a.spine h → Stands below b.spine h)
-    → ((h : List (Insertion T)) → Stands below a.spine h → AreInTurn below a.spine.list.start h → IsOpen below a.spine h → IsOpen below b.spine h) → HasOneMore below minimum a b
-one_more below minimum a b e stands whole = record {
+    → ((h : List (Insertion T)) → Stands below a.spine h → AreInTurn below a.spine.list.start h → IsOpen below a.spine h → IsOpen below b.spine h) → HasOneMore below a b
+one_more below a b e stands whole = record {
   with = record {
     width = ap (λ (z : ArrangementState _). z.width) e;
     start = ap (λ (z : ArrangementState _). z.spine.list.start) e;
     waiting = ap (λ (z : ArrangementState _). z.waiting) e;
     holds = ap (λ (z : ArrangementState _). z.holds) e;
+    since = ap (λ (z : ArrangementState _). z.spine.since) e;
     stands = stands;
   };
   whole = λ s w. whole [] s tt w;
@@ -488,11 +505,31 @@ module _ {T : Type 0} (below : T → T → Bool) (joined : T → T → T) (minim
     reducing = λ n source kind l e. reduced_first n source kind l e (subst (IsFirstAt below joined minimum p.nodes d n) e (laid.at n l));
   }
 
+  -- a reduction reads an arrangement whose own hold begins at the least time
+  serves : (n source : ℕ) (kind : Kind) → n < length p.nodes → node_of p n ≡ Reduce kind source → (ts : List T) → ((F : List T) → F ≡ minimum ∷ [] → IsTrue (all_beyond below F ts)) → KeepsApart below d source 0 ts
+  serves n source kind within e ts later =
+      let reads = ap (λ node. slice_get (sources node) 0) e in
+      let arranged = source_arranged p.nodes q.plan n 0 source within (ap is_linear e) reads in
+      let x = first_there below joined minimum p.nodes d (length p.nodes) laid source (key_width p.nodes (node_of p n)) (reduced_within p.nodes q.plan n within kind source e) arranged in
+      record { arrangement = x.0; there = x.1; hold = x.2.own; held = x.2.first; apart = later x.2.own.logical x.2.begins }
+
+  none_pending : (n source : ℕ) (r : ReducingView T) → Reduces p d n source r → pending_of r ≡ []
+  none_pending n source r is =
+      let x = subst (IsFirstAt below joined minimum p.nodes d n) is.node (laid.at n is.within) in
+      by x
+    where
+      by : IsFirstAt below joined minimum p.nodes d n (Reduce is.kind source) → pending_of r ≡ []
+      by (s, there, f) = ap pending_of (same_Some r s (same_Some (Some r) (Some s) (sym is.there ∙ there))) ∙ f.nothing_pending
+
   -- how many workers there are makes no difference
-  sharing_first : AreSharing below minimum p d
-  sharing_first = record {
-    held = λ n port source j r. laid.sharing.held n port source j (back n port source j r);
-    apart = λ n port m other source i j r t e. laid.sharing.apart n port m other source i j (back n port source i r) (back m other source j t) e;
+  holding_first : AreHolding below p d (λ n port. minimum ∷ [])
+  holding_first = record {
+    joins = record {
+      held = λ n port source j r. laid.sharing.held n port source j (back n port source j r);
+      apart = λ n port m other source i j r t e. laid.sharing.apart n port m other source i j (back n port source i r) (back m other source j t) e;
+    };
+    pending = λ n source r is. serves n source is.kind is.within is.node (pending_of r) (λ F e. subst (λ ts. IsTrue (all_beyond below F ts)) (sym (none_pending n source r is)) refl);
+    come = λ n source r is. serves n source is.kind is.within is.node (minimum ∷ []) (λ F e. subst (λ G. IsTrue (all_beyond below G (minimum ∷ []))) (sym e) (beyond_itself o (minimum ∷ [])));
   }
     where
       back : (n port source : ℕ) (j : JoiningView T) → ReadsAt p d n port source j → ReadsAt (on_plan p.nodes) d n port source j
@@ -500,7 +537,7 @@ module _ {T : Type 0} (below : T → T → Bool) (joined : T → T → T) (minim
 
   pub right_first : (k : ℕ) → k < p.workers → IsRight below joined minimum p (initial_state below minimum p) k d Free
   right_first k worker = record {
-    own = first_lem below joined minimum o p k worker d sharing_first laid_first;
+    own = first_lem below joined minimum o p k worker d holding_first laid_first;
     on_plan = record {
       places = laid.gathered;
       wide = λ n l. subst (λ us. IsTrue (are_wide (width_of p.nodes n) us)) (sym (laid.nothing n)) refl;
@@ -517,7 +554,7 @@ module _ {T : Type 0} (below : T → T → Bool) (joined : T → T → T) (minim
 
   -- what a call that adds a hold at a node says
   abbrev IsAdded : ℕ → List (Option (ArrangementState T)) → List (Option (ArrangementState T)) → ℕ → Type 0
-  IsAdded s xs ys number = (a : ArrangementState T) → slice_get xs s ≡ Some (Some a) → (number ≡ length a.holds) × (0 < number) × (b : ArrangementState T) × (ys ≡ set xs s (Some b)) × HasOneMore below minimum a b
+  IsAdded s xs ys number = (a : ArrangementState T) → slice_get xs s ≡ Some (Some a) → (number ≡ length a.holds) × (0 < number) × (b : ArrangementState T) × (ys ≡ set xs s (Some b)) × HasOneMore below a b
 
   pub left_there : (a : ArrangementState T) × (slice_get arrangements l ≡ Some (Some a))
   left_there =
@@ -531,7 +568,7 @@ module _ {T : Type 0} (below : T → T → Bool) (joined : T → T → T) (minim
     first_a : IsFirstArrangement below joined minimum p l a
     first_a = first_of below joined minimum p (with_these arrangements) n laid l (key p plan n within l r join) (left_before p plan n within l r join) (left_arranged p plan n within l r join) a left_there.1
 
-    with_left : (number ≡ length a.holds) × (0 < number) × (b : ArrangementState T) × (then ≡ set arrangements l (Some b)) × HasOneMore below minimum a b
+    with_left : (number ≡ length a.holds) × (0 < number) × (b : ArrangementState T) × (then ≡ set arrangements l (Some b)) × HasOneMore below a b
     with_left = added a left_there.1
 
     laid_then : IsLaidOut below joined minimum p (with_these then) n
@@ -539,10 +576,10 @@ module _ {T : Type 0} (below : T → T → Bool) (joined : T → T → T) (minim
         subst (λ xs. IsLaidOut below joined minimum p (with_these xs) n) (sym with_left.3)
         (laid_with below joined minimum p (with_these arrangements) n laid l a with_left.2 left_there.1 with_left.4 first_a)
 
-    hold_then : HasHold below minimum (with_these then) l number (minimum ∷ [])
+    hold_then : HasFirst below minimum (with_these then) l number (minimum ∷ [])
     hold_then =
-        subst (λ xs. HasHold below minimum (with_these xs) l number (minimum ∷ [])) (sym with_left.3)
-        (subst (λ k. HasHold below minimum (with_these (set arrangements l (Some with_left.2))) l k (minimum ∷ [])) (sym with_left.0)
+        subst (λ xs. HasFirst below minimum (with_these xs) l number (minimum ∷ [])) (sym with_left.3)
+        (subst (λ k. HasFirst below minimum (with_these (set arrangements l (Some with_left.2))) l k (minimum ∷ [])) (sym with_left.0)
         (new_hold below joined minimum p (with_these arrangements) n laid l a with_left.2 left_there.1 with_left.4 o first_a (subst (λ k. 0 < k) with_left.0 with_left.1)))
 
     pub right_there : (b : ArrangementState T) × (slice_get then r ≡ Some (Some b))
@@ -557,7 +594,7 @@ module _ {T : Type 0} (below : T → T → Bool) (joined : T → T → T) (minim
       first_b : IsFirstArrangement below joined minimum p r b
       first_b = first_of below joined minimum p (with_these then) n laid_then r (key p plan n within l r join) (right_before p plan n within l r join) (right_arranged p plan n within l r join) b right_there.1
 
-      with_right : (other ≡ length b.holds) × (0 < other) × (c : ArrangementState T) × (last ≡ set then r (Some c)) × HasOneMore below minimum b c
+      with_right : (other ≡ length b.holds) × (0 < other) × (c : ArrangementState T) × (last ≡ set then r (Some c)) × HasOneMore below b c
       with_right = added_too b right_there.1
 
       pub laid_last : IsLaidOut below joined minimum p (with_these last) n
@@ -565,15 +602,15 @@ module _ {T : Type 0} (below : T → T → Bool) (joined : T → T → T) (minim
           subst (λ xs. IsLaidOut below joined minimum p (with_these xs) n) (sym with_right.3)
           (laid_with below joined minimum p (with_these then) n laid_then r b with_right.2 right_there.1 with_right.4 first_b)
 
-      left_last : HasHold below minimum (with_these last) l number (minimum ∷ [])
+      left_last : HasFirst below minimum (with_these last) l number (minimum ∷ [])
       left_last =
-          subst (λ xs. HasHold below minimum (with_these xs) l number (minimum ∷ [])) (sym with_right.3)
+          subst (λ xs. HasFirst below minimum (with_these xs) l number (minimum ∷ [])) (sym with_right.3)
           (hold_stays below joined minimum p (with_these then) n laid_then r b with_right.2 right_there.1 with_right.4 l number (minimum ∷ []) hold_then)
 
-      right_last : HasHold below minimum (with_these last) r other (minimum ∷ [])
+      right_last : HasFirst below minimum (with_these last) r other (minimum ∷ [])
       right_last =
-          subst (λ xs. HasHold below minimum (with_these xs) r other (minimum ∷ [])) (sym with_right.3)
-          (subst (λ k. HasHold below minimum (with_these (set then r (Some with_right.2))) r k (minimum ∷ [])) (sym with_right.0)
+          subst (λ xs. HasFirst below minimum (with_these xs) r other (minimum ∷ [])) (sym with_right.3)
+          (subst (λ k. HasFirst below minimum (with_these (set then r (Some with_right.2))) r k (minimum ∷ [])) (sym with_right.0)
           (new_hold below joined minimum p (with_these then) n laid_then r b with_right.2 right_there.1 with_right.4 o first_b (subst (λ k. 0 < k) with_right.0 with_right.1)))
 
       back : (xs : List (Option (ArrangementState T))) (m port s : ℕ) (i : JoiningView T) → ReadsAt (on_plan p) (with_these last) m port s i → ReadsAt (on_plan p) (with_these xs) m port s i
@@ -592,8 +629,8 @@ module _ {T : Type 0} (below : T → T → Bool) (joined : T → T → T) (minim
 
       pub own_holds : (j : JoiningView T) → j.left_hold ≡ number → j.right_hold ≡ other → HasOwnHolds below joined minimum p (with_these last) l r j
       own_holds j e f = record {
-        left = subst (λ k. HasHold below minimum (with_these last) l k (minimum ∷ [])) (sym e) left_last;
-        right = subst (λ k. HasHold below minimum (with_these last) r k (minimum ∷ [])) (sym f) right_last;
+        left = subst (λ k. HasFirst below minimum (with_these last) l k (minimum ∷ [])) (sym e) left_last;
+        right = subst (λ k. HasFirst below minimum (with_these last) r k (minimum ∷ [])) (sym f) right_last;
         new_left = λ m port i x h. none_has_it below joined minimum p (with_these arrangements) n laid l a with_left.2 left_there.1 with_left.4 m port i (back arrangements m port l i x) (h ∙ (e ∙ with_left.0));
         new_right = λ m port i x h. none_has_it below joined minimum p (with_these then) n laid_then r b with_right.2 right_there.1 with_right.4 m port i (back then m port r i x) (h ∙ (f ∙ with_right.0));
         two = λ same h. apart same (sym e ∙ (h ∙ f));

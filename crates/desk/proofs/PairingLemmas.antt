@@ -4,16 +4,18 @@ use Rattle.std.specs.Prelude.{Option}
 use Rattle.std.specs.List.{Contains, slice_get}
 use Rattle.lattice.specs.Order.{PartialOrderLaws}
 use Rattle.lattice.specs.Frontiers.{is_beyond}
+use Rattle.lattice.proofs.FrontierLemmas.{all_more}
+use Rattle.std.proofs.lemmas.List.Folds.{list_all-map}
 use Rattle.update.specs.declared.change.Update.{Update}
-use Rattle.batch.specs.Intervals.{is_interval_of}
+use Rattle.batch.specs.Intervals.{all_times_beyond, is_interval_of}
 use Rattle.trace.specs.Readings.{Insertion}
 use Rattle.spine.specs.Spines.{SpineState, boundaries, stored}
 use Rattle.join.specs.Sides.{all_rows_have}
 use Rattle.operator.specs.Arrangements.{ArrangementState, IsArrangement, rows_have}
 use Rattle.operator.specs.Joins.{JoiningView, IsSide}
-use Rattle.operator.proofs.JoinSideLemmas.{read_from_least}
-use Rattle.desk_laws.specs.Own.{boundary_at}
-use Rattle.desk.specs.Joinings.{IsEndAfter, IsNextAt, IsNextOf, IsReading, other_port, width_on}
+use Rattle.operator.proofs.ArrangementLemmas.{readable_from}
+use Rattle.desk_laws.specs.Own.{boundary_at, other_port}
+use Rattle.desk.specs.Joinings.{IsEndAfter, IsNextAt, IsNextOf, IsReading, width_on}
 use Rattle.desk.proofs.PlaceLemmas.{some_same}
 use Rattle.desk.proofs.ReadingLemmas.{next_between, reading_readable, reading_side}
 
@@ -52,8 +54,13 @@ module _ {T : Type 0} {below : T → T → Bool} {minimum : T} {port : ℕ} {arr
         subst (λ (s : SpineState T). IsTrue (all_rows_have (width_on (other_port port) j) (stored s))) (sym value)
         (subst (λ m. IsTrue (rows_have m (stored b.spine))) (ap (λ (z : ArrangementState T). z.width) (sym opposite_is) ∙ y.opposite_width) known.rows)
 
-    pub other_since : (t : T) → is_beyond below spine.since t ≡ below minimum t
-    other_since t = ap (λ (s : SpineState T). is_beyond below s.since t) value ∙ read_from_least below minimum b.spine.since known.since t
+    -- it may be read at the times of the bundle
+    pub other_later : PartialOrderLaws below → IsTrue (all_times_beyond below spine.since us)
+    other_later o =
+        subst (λ (s : SpineState T). IsTrue (all_times_beyond below s.since us)) (sym value)
+        (all_more (λ (u : Update T). is_beyond below y.reading.hold.logical u.time) (λ u. is_beyond below b.spine.since u.time)
+        (λ u h. readable_from below o minimum b y.reading.number y.reading.hold known (ap (λ (z : ArrangementState T). slice_get z.holds y.reading.number) (sym opposite_is) ∙ y.reading.held) u.time h)
+        us (sym (list_all-map (is_beyond below y.reading.hold.logical) (λ (u : Update T). u.time) us) ∙ y.apart))
 
     -- what a reader has taken there is a side of the join
     pub side_from : (a : ArrangementState T) → slice_get arrangements other ≡ Some (Some a) → (inserted later taken : List (Insertion T)) → IsReading below minimum a inserted later taken (boundary_at (other_port port) j) → IsSide below minimum spine inserted taken (boundary_at (other_port port) j)

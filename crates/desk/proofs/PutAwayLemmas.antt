@@ -12,7 +12,7 @@ use Rattle.desk_laws.specs.Own.{DeskView, IsArrangedOn, IsNextBatch, IsSpineAt, 
 use Rattle.desk_laws.proofs.KeptLemmas.{same_desk}
 use Rattle.desk.specs.Desks.{IsPutAway}
 use Rattle.desk.specs.Sealings.{IsInserted, MayInsert}
-use Rattle.desk.proofs.DeskLemmas.{other_nodes, sharing_with, with_arrangement}
+use Rattle.desk.proofs.DeskLemmas.{other_nodes, holding_same, with_arrangement}
 use Rattle.desk.proofs.PlaceLemmas.{get_own, one_entry}
 
 pub empty : {A : Type 0} (xs : List A) → length xs ≡ 0 → xs ≡ []
@@ -26,7 +26,7 @@ module _ {T : Type 0} (below : T → T → Bool) (joined : T → T → T) (minim
     others = λ m far. same_desk m d;
     none = λ _. refl;
     gathered = refl;
-    sharing = λ s. s;
+    holding = λ ports s. s;
     waits = refl;
     inserted = λ some start inserted y. absurd (some e);
   }
@@ -81,7 +81,7 @@ module _ {T : Type 0} (below : T → T → Bool) (joined : T → T → T) (minim
         others = other_nodes d n b;
         none = λ e. absurd (some e);
         gathered = refl;
-        sharing = sharing_with below minimum p d n a b own (λ number l. ap (λ hs. slice_get hs number) is.holds);
+        holding = holding_same below p d n a b own is.holds;
         waits = (ap (waits_on c n) next.node ∙ ap waiting_in there_now) ∙ (is.waiting ∙ sym (ap (waits_on d n) next.node ∙ ap waiting_in own));
         inserted = λ _. goes_in;
       }

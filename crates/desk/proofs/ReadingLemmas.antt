@@ -14,7 +14,6 @@ use Rattle.spine.specs.Spines.{boundaries}
 use Rattle.operator.specs.Arrangements.{ArrangementState, IsArrangement, IsInTurn, AreInTurn}
 use Rattle.operator.specs.Joins.{IsSide}
 use Rattle.operator.proofs.HoldLemmas.{some_passes}
-use Rattle.operator.proofs.JoinSideLemmas.{read_from_least}
 use Rattle.operator.proofs.TurnLemmas.{firsts}
 use Rattle.desk.specs.Joinings.{IsReading}
 
@@ -52,7 +51,6 @@ module _ {T : Type 0} {below : T → T → Bool} {minimum : T} {a : ArrangementS
     all = r.all;
     ends = r.ends;
     readable = reading_readable;
-    since = read_from_least below minimum a.spine.since known.since;
   }
 
 -- the next insertion is of the times between its reader's boundary and its end

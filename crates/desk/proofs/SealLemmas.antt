@@ -31,7 +31,7 @@ use Rattle.operator_laws.specs.Working.{IsWorkingAt, Works}
 use Rattle.operator_laws.proofs.ArrangingLemmas.{interval, open_beyond, seal_split}
 use Rattle.operator.specs.Arrangements.{ArrangementState, IsOpen, rows_have, times_from, upper_of}
 use Rattle.shared_board.specs.Large.{HasNoSmallBound}
-use Rattle.desk_laws.specs.Own.{AreSharing, DeskView, IsArrangedOn, IsMergedAt, IsNextBatch, IsOwn, IsSpineAt, waiting_in, waits_on}
+use Rattle.desk_laws.specs.Own.{DeskView, IsArrangedOn, IsMergedAt, IsNextBatch, IsOwn, IsSpineAt, waiting_in, waits_on}
 use Rattle.desk_laws.specs.declared.hand.Hand.TheVariants.{Sealed, Turned}
 use Rattle.desk_laws.proofs.BeyondLemmas.{newest_later}
 use Rattle.desk_laws.proofs.KeptLemmas.{at_each, laid_same, of_each, same_desk, same_keeps, turned_idle}
@@ -39,7 +39,7 @@ use Rattle.desk_laws.proofs.LaidLemmas.{sealed_lem}
 use Rattle.desk_laws.proofs.MergedLemmas.{merged_lem}
 use Rattle.desk.specs.Desks.{IsRight, IsSomeones, IsTooLarge, Leads}
 use Rattle.desk.specs.Sealings.{IsReserved, IsSealedTo, MaySeal}
-use Rattle.desk.proofs.DeskLemmas.{other_nodes, sharing_with, with_arrangement}
+use Rattle.desk.proofs.DeskLemmas.{other_nodes, holding_same, with_arrangement}
 use Rattle.desk.proofs.PlaceLemmas.{get_own, get_set, one_entry}
 use Rattle.desk.proofs.LargeLemmas.{large_load}
 
@@ -171,7 +171,7 @@ module _ {T : Type 0} (below : T → T → Bool) (joined : T → T → T) (minim
         on = λ s kind e t h. ap not (same t) ∙ x.own.come.on s kind e t h;
       };
       on = tt;
-      sharing = x.own.sharing;
+      holding = x.own.holding;
     }
 
     module _ (b : ArrangementState T) where
@@ -184,8 +184,8 @@ module _ {T : Type 0} (below : T → T → Bool) (joined : T → T → T) (minim
       waits_now : waits_on c n (node_of p n) ≡ b.waiting
       waits_now = ap (waits_on c n) arrange ∙ ap waiting_in there_now
 
-      sharing_now : b.holds ≡ a.holds → AreSharing below minimum p c
-      sharing_now e = sharing_with below minimum p d n a b own (λ number l. ap (λ hs. slice_get hs number) e) x.own.sharing
+      holding_now : b.holds ≡ a.holds → StayHolding below p d c
+      holding_now e = holding_same below p d n a b own e
 
       -- the arrangement stands for what it stood for
       spine_now : b.width ≡ a.width → b.spine.list.start ≡ a.spine.list.start → ((h : List (Insertion T)) → Stands below a.spine h → Stands below b.spine h)
@@ -203,7 +203,7 @@ module _ {T : Type 0} (below : T → T → Bool) (joined : T → T → T) (minim
       -- with room for a batch, the desk is as right as before
       pub reserved_right : IsReserved below a b → IsRight below joined minimum p w k c (Turned n upper)
       reserved_right r = record {
-        own = merged_lem below joined minimum p d c (λ m. merged m (eqb m n) refl) w k (sharing_now r.holds) (Turned n upper) tt x.own;
+        own = merged_lem below joined minimum p d c (λ m. merged m (eqb m n) refl) w k (holding_now r.holds) (Turned n upper) tt x.own;
         on_plan = record { places = x.on_plan.places; wide = x.on_plan.wide; joins = x.on_plan.joins; hand = x.on_plan.hand };
       }
         where
@@ -232,7 +232,7 @@ module _ {T : Type 0} (below : T → T → Bool) (joined : T → T → T) (minim
       pub sealed_right : {cmp : T → T → Ordering} → IsTotalOrder cmp → (batch : BatchState T) → IsSealedTo below minimum cmp upper a b batch → IsRight below joined minimum p w k c (Sealed n batch)
       sealed_right total batch s = record {
         own =
-            sealed_lem below joined minimum o p q w k d c (sharing_now s.holds) n within (other_nodes d n b) batch.updates split source key arrange us batch refl refl
+            sealed_lem below joined minimum o p q w k d c (holding_now s.holds) n within (other_nodes d n b) batch.updates split source key arrange us batch refl refl
             (spine_now s.width s.start s.stands s.whole) next (turned_to us s.upper_is);
         on_plan = record { places = x.on_plan.places; wide = x.on_plan.wide; joins = x.on_plan.joins; hand = (within, subst (λ m. IsTrue (rows_have m batch.updates)) spine.width s.rows) };
       }

@@ -8,6 +8,7 @@ use Rattle.std.proofs.lemmas.Bool.{eqb-true, eqb-false}
 use Rattle.std.proofs.lemmas.Option.{same_Some, slice_get_within}
 use Rattle.lattice.specs.Order.{PartialOrderLaws}
 use Rattle.lattice.specs.Frontiers.{all_beyond}
+use Rattle.lattice.proofs.FrontierLemmas.{beyond_itself}
 use Rattle.update.specs.Updates.{size}
 use Rattle.plan.specs.Nodes.{node_at}
 use Rattle.plan.specs.declared.node.Node.{Node}
@@ -23,8 +24,8 @@ use Rattle.operator_laws.specs.Working.{IsWorkingAt}
 use Rattle.shared_board.specs.Large.{HasNoSmallBound}
 use Rattle.desk_laws.specs.Own.{DeskView, ReadsAt, boundary_at, hold_at}
 use Rattle.desk.specs.Openings.{on_plan}
-use Rattle.desk.specs.Tidying.{HasMoved, HasOwnHold, IsFollowed, IsSettled, IsSettledAt, IsTooLargeOn, LeadsOn, MayMove, MayTidy}
-use Rattle.desk.proofs.DeskLemmas.{sharing_with, with_arrangement}
+use Rattle.desk.specs.Tidying.{HasMoved, HasOwnHold, IsFollowed, IsHeldFrom, IsSettled, IsSettledAt, IsTooLargeOn, LeadsOn, MayMove, MayTidy}
+use Rattle.desk.proofs.DeskLemmas.{holding_with, with_arrangement}
 use Rattle.desk.proofs.PlaceLemmas.{get_own, get_set, get_within, one_entry}
 use Rattle.desk.proofs.LargeLemmas.{large_load}
 use Rattle.desk.proofs.ReadingLemmas.{reading_readable}
@@ -45,9 +46,16 @@ module _ {T : Type 0} (below : T → T → Bool) (minimum : T) where
         subst (λ F. IsTrue (all_beyond below F (upper_of a.spine))) (sym e) (reading_behind o (minimum ∷ []) minimum a may.inserted may.later may.taken boundary refl r),
       )
 
-  module _ (a b : ArrangementState T) (number : ℕ) (u : List T) (moved : b ≡ record a { spine = record a.spine { holds = b.spine.holds }; holds = set a.holds number (record { logical = minimum ∷ []; physical = u }) }) where
-    pub has_moved : (boundary : List T) → u ≡ boundary → ((h : List (Insertion T)) → Stands below a.spine h → Stands below b.spine h) → ((h : List (Insertion T)) → IsOpen below a.spine h → IsOpen below b.spine h) → HasMoved below minimum number boundary a b
-    has_moved boundary e stands whole = record {
+  -- the same times are kept apart by a hold that moves to another boundary
+  pub same_times : (a : ArrangementState T) (number : ℕ) (logical : List T) → ((hold : HoldState T) → slice_get a.holds number ≡ Some hold → logical ≡ hold.logical) → (o : PartialOrderLaws below)
+      → (hold : HoldState T) → slice_get a.holds number ≡ Some hold → IsTrue (all_beyond below hold.logical logical)
+  same_times a number logical is o hold at = subst (λ F. IsTrue (all_beyond below hold.logical F)) (sym (is hold at)) (beyond_itself o hold.logical)
+
+  module _ (a b : ArrangementState T) (number : ℕ) (logical u : List T)
+      (moved : b ≡ record a { spine = record a.spine { since = b.spine.since; holds = b.spine.holds }; holds = set a.holds number (record { logical = logical; physical = u }) }) where
+    pub has_moved : (boundary : List T) → u ≡ boundary → (hold : HoldState T) → slice_get a.holds number ≡ Some hold → logical ≡ hold.logical
+        → ((h : List (Insertion T)) → Stands below a.spine h → Stands below b.spine h) → ((h : List (Insertion T)) → IsOpen below a.spine h → IsOpen below b.spine h) → HasMoved below number boundary a b
+    has_moved boundary e hold was same stands whole = record {
       alike = record {
         width = ap (λ (z : ArrangementState T). z.width) moved;
         start = ap (λ (z : ArrangementState T). z.spine.list.start) moved;
@@ -56,17 +64,22 @@ module _ {T : Type 0} (below : T → T → Bool) (minimum : T) where
         stands = stands;
         whole = whole;
       };
-      holds = ap (λ (z : ArrangementState T). z.holds) moved ∙ ap (λ F. set a.holds number (record { logical = minimum ∷ []; physical = F })) e;
+      hold = hold;
+      was = was;
+      holds = ap (λ (z : ArrangementState T). z.holds) moved ∙ (λ k. set a.holds number (record { logical = same k; physical = e k }));
     }
 
-  module _ (a b c : ArrangementState T) (moved : b ≡ record a { spine = record a.spine { holds = b.spine.holds }; holds = set a.holds 0 (record { logical = minimum ∷ []; physical = upper_of a.spine }) })
-      (kept : c ≡ record b { spine = record b.spine { list = record b.spine.list { batches = c.spine.list.batches; reserved = c.spine.list.reserved }; progress = c.spine.progress } }) (upper : upper_of c.spine ≡ upper_of b.spine) where
+  module _ (a b c : ArrangementState T) (logical : List T) (moved : b ≡ record a { spine = record a.spine { since = b.spine.since; holds = b.spine.holds }; holds = set a.holds 0 (record { logical = logical; physical = upper_of a.spine }) })
+      (kept : c ≡ record b { spine = record b.spine { list = record b.spine.list { batches = c.spine.list.batches; reserved = c.spine.list.reserved }; progress = c.spine.progress } }) (upper : upper_of c.spine ≡ upper_of b.spine) (some : 0 < length a.holds) where
     abbrev own_hold : HoldState T
-    own_hold = record { logical = minimum ∷ []; physical = upper_of a.spine }
+    own_hold = record { logical = logical; physical = upper_of a.spine }
 
-    pub is_settled : ((h : List (Insertion T)) → Stands below a.spine h → Stands below b.spine h) → ((h : List (Insertion T)) → IsOpen below a.spine h → IsOpen below b.spine h)
-        → ((h : List (Insertion T)) → Stands below b.spine h → Stands below c.spine h) → ((h : List (Insertion T)) → IsOpen below b.spine h → IsOpen below c.spine h) → IsSettled below minimum a c
-    is_settled stands whole stands_then whole_then = record {
+    now_held : slice_get c.holds 0 ≡ Some own_hold
+    now_held = ap (λ (z : ArrangementState T). slice_get z.holds 0) kept ∙ (ap (λ (z : ArrangementState T). slice_get z.holds 0) moved ∙ get_within a.holds 0 own_hold some)
+
+    pub is_settled : ((hold : HoldState T) → slice_get a.holds 0 ≡ Some hold → logical ≡ hold.logical) → ((h : List (Insertion T)) → Stands below a.spine h → Stands below b.spine h) → ((h : List (Insertion T)) → IsOpen below a.spine h → IsOpen below b.spine h)
+        → ((h : List (Insertion T)) → Stands below b.spine h → Stands below c.spine h) → ((h : List (Insertion T)) → IsOpen below b.spine h → IsOpen below c.spine h) → IsSettled below a c
+    is_settled same stands whole stands_then whole_then = record {
       alike = record {
         width = ap (λ (z : ArrangementState T). z.width) kept ∙ ap (λ (z : ArrangementState T). z.width) moved;
         start = ap (λ (z : ArrangementState T). z.spine.list.start) kept ∙ ap (λ (z : ArrangementState T). z.spine.list.start) moved;
@@ -76,14 +89,11 @@ module _ {T : Type 0} (below : T → T → Bool) (minimum : T) where
         whole = λ h x. whole_then h (whole h x);
       };
       readers = λ number l. ap (λ (z : ArrangementState T). slice_get z.holds number) kept ∙ (ap (λ (z : ArrangementState T). slice_get z.holds number) moved ∙ get_set a.holds 0 number own_hold (λ e. let z = e in omega (arith, l, z)));
+      own = λ hold at. (own_hold, now_held, same hold at);
     }
 
-    pub own_settled : 0 < length a.holds → HasOwnHold below minimum c
-    own_settled l =
-        ap (λ (z : ArrangementState T). slice_get z.holds 0) kept
-        ∙ (ap (λ (z : ArrangementState T). slice_get z.holds 0) moved
-        ∙ (get_within a.holds 0 own_hold l
-        ∙ ap (λ F. Some (record { logical = minimum ∷ []; physical = F })) (sym (upper ∙ ap (λ (z : ArrangementState T). upper_of z.spine) moved))))
+    pub own_settled : HasOwnHold c
+    own_settled = record { hold = own_hold; held = now_held; begins = sym (upper ∙ ap (λ (z : ArrangementState T). upper_of z.spine) moved) }
 
 -- ---- a desk
 
@@ -110,59 +120,64 @@ module _ {T : Type 0} (below : T → T → Bool) (joined : T → T → T) (minim
         subst (λ ns. HasNoSmallBound below cmp ns (changes_in (state_after below minimum p es))) nodes
         (large_load below minimum o cmp p q es legal n k inside x.own.worker arranging.gathering.kind (omega (arith, much, load, given)))
 
-  module _ (c : DeskView T) (a b : ArrangementState T) (own : slice_get d.arrangements n ≡ Some (Some a)) (is : c ≡ with_arrangement n b d) (settled : IsSettled below minimum a b) where
+  module _ (c : DeskView T) (a b : ArrangementState T) (own : slice_get d.arrangements n ≡ Some (Some a)) (is : c ≡ with_arrangement n b d) (settled : IsSettled below a b) where
     b_there : slice_get (with_arrangement n b d).arrangements n ≡ Some (Some b)
     b_there = get_own d.arrangements n (Some b) (Some a) own
 
     pub leads_settled : LeadsOn below joined minimum plan d c
     leads_settled =
         subst (LeadsOn below joined minimum plan d) (sym is)
-        (leads_with below joined minimum d n a b own settled.alike plan (λ p nodes sharing. sharing_with below minimum p d n a b own settled.readers sharing))
+        (leads_with below joined minimum d n a b own settled.alike plan (λ p nodes. holding_with below p d n a b own settled.readers settled.own))
 
-    pub here_settled : HasOwnHold below minimum b → IsDone below b.spine → IsSettledAt minimum plan c below n
+    pub here_settled : HasOwnHold b → IsDone below b.spine → IsSettledAt plan c below n
     here_settled hold done source key within e x there =
         let same : x ≡ b = one_entry c.arrangements n x b there (ap (λ (z : DeskView T). slice_get z.arrangements n) is ∙ b_there) in (
-          subst (HasOwnHold below minimum) (sym same) hold,
+          subst (HasOwnHold) (sym same) hold,
           subst (λ (z : ArrangementState T). IsDone below z.spine) (sym same) done,
         )
 
-    pub others_settled : (m : ℕ) → m ≢ n → IsSettledAt minimum plan d below m → IsSettledAt minimum plan c below m
+    pub others_settled : (m : ℕ) → m ≢ n → IsSettledAt plan d below m → IsSettledAt plan c below m
     others_settled m far x source key within e y there =
         x source key within e y (sym (ap (λ (z : DeskView T). slice_get z.arrangements m) is ∙ get_set d.arrangements n m (Some b) far) ∙ there)
 
     -- readers have their holds as before
-    pub followed_settled : MayTidy below joined minimum plan d → ((m : ℕ) → IsFollowed minimum plan d m) → (m : ℕ) → IsFollowed minimum plan c m
-    followed_settled (h, f, x) followed = subst (λ (z : DeskView T). (m : ℕ) → IsFollowed minimum plan z m) (sym is) on
+    pub followed_settled : MayTidy below joined minimum plan d → ((m : ℕ) → IsFollowed plan d m) → (m : ℕ) → IsFollowed plan c m
+    followed_settled (h, f, x) followed = subst (λ (z : DeskView T). (m : ℕ) → IsFollowed plan z m) (sym is) on
       where
-        on : (m : ℕ) → IsFollowed minimum plan (with_arrangement n b d) m
+        on : (m : ℕ) → IsFollowed plan (with_arrangement n b d) m
         on m port source j r y there = by (eqb source n) refl
           where
             r_d : ReadsAt (on_plan plan) d m port source j
             r_d = reads_back (on_plan plan) d n b m port source j r
 
             other : 0 < hold_at port j
-            other = (x.right.own.sharing.held m port source j (reads_in x.dataflow plan d m port source j x.nodes r_d)).other
+            other = (x.right.own.holding.joins.held m port source j (reads_in x.dataflow plan d m port source j x.nodes r_d)).other
 
-            by : (g : Bool) → eqb source n ≡ g → slice_get y.holds (hold_at port j) ≡ Some (record { logical = minimum ∷ []; physical = boundary_at port j })
+            by : (g : Bool) → eqb source n ≡ g → IsHeldFrom y (hold_at port j) (boundary_at port j)
             by true g =
                 let here = eqb-true source n g in
                 let same : y ≡ b = one_entry (with_arrangement n b d).arrangements n y b (ap (slice_get (with_arrangement n b d).arrangements) (sym here) ∙ there) b_there in
-                ap (λ (z : ArrangementState T). slice_get z.holds (hold_at port j)) same ∙ (settled.readers (hold_at port j) other ∙ followed m port source j r_d a (ap (slice_get d.arrangements) here ∙ own))
+                let before = followed m port source j r_d a (ap (slice_get d.arrangements) here ∙ own) in
+                record {
+                  hold = before.hold;
+                  held = ap (λ (z : ArrangementState T). slice_get z.holds (hold_at port j)) same ∙ (settled.readers (hold_at port j) other ∙ before.held);
+                  begins = before.begins;
+                }
             by false g = followed m port source j r_d y (sym (get_set d.arrangements n source (Some b) (eqb-false source n g)) ∙ there)
 
-    pub settled_by : {E : Type 0} (res : Result Bool E) → OnOk res (HasOwnHold below minimum b) → IfOk res (λ done. done ≡ true → IsDone below b.spine) → IfOk res (λ done. done ≡ true → IsSettledAt minimum plan c below n)
+    pub settled_by : {E : Type 0} (res : Result Bool E) → OnOk res (HasOwnHold b) → IfOk res (λ done. done ≡ true → IsDone below b.spine) → IfOk res (λ done. done ≡ true → IsSettledAt plan c below n)
     settled_by (Ok done) hold merged = λ e. here_settled hold (merged e)
     settled_by (Err e) hold merged = tt
 
 module _ {T : Type 0} (below : T → T → Bool) (minimum : T) (plan : List Node) (d c : DeskView T) (n node : ℕ) (same : node ≡ n) where
   -- one arrangement more
-  pub settled_more : ((m : ℕ) → m < n → IsSettledAt minimum plan d below m) → ((m : ℕ) → m ≢ node → IsSettledAt minimum plan d below m → IsSettledAt minimum plan c below m) → IsSettledAt minimum plan c below node → (m : ℕ) → m < n + 1 → IsSettledAt minimum plan c below m
+  pub settled_more : ((m : ℕ) → m < n → IsSettledAt plan d below m) → ((m : ℕ) → m ≢ node → IsSettledAt plan d below m → IsSettledAt plan c below m) → IsSettledAt plan c below node → (m : ℕ) → m < n + 1 → IsSettledAt plan c below m
   settled_more before others here m l = by (eqb m n) refl
     where
-      by : (b : Bool) → eqb m n ≡ b → IsSettledAt minimum plan c below m
-      by true e = subst (IsSettledAt minimum plan c below) (same ∙ sym (eqb-true m n e)) here
+      by : (b : Bool) → eqb m n ≡ b → IsSettledAt plan c below m
+      by true e = subst (IsSettledAt plan c below) (same ∙ sym (eqb-true m n e)) here
       by false e = others m (λ f. eqb-false m n e (f ∙ same)) (before m (let far = eqb-false m n e in omega (arith, l, far)))
 
 -- all arrangements are those of the plan
-pub settled_all : {T : Type 0} (below : T → T → Bool) (minimum : T) (plan : List Node) (c : DeskView T) (n : ℕ) → length plan ≤ n → ((m : ℕ) → m < n → IsSettledAt minimum plan c below m) → (m : ℕ) → IsSettledAt minimum plan c below m
+pub settled_all : {T : Type 0} (below : T → T → Bool) (minimum : T) (plan : List Node) (c : DeskView T) (n : ℕ) → length plan ≤ n → ((m : ℕ) → m < n → IsSettledAt plan c below m) → (m : ℕ) → IsSettledAt plan c below m
 settled_all below minimum plan c n end all m source key within e a there = all m (omega (arith, end, within)) source key within e a there

@@ -1,7 +1,8 @@
 -- What moved holds and merged batches leave of a worker's desk.
-use Rattle.std.proofs.Common.{◌≡◌, ◌≢◌, ℕ, Bool, true, false, eqb, List, [], ◌∷◌, Some, IsTrue, sym, refl, ap, ◌∙◌, subst, true≢false}
+use Rattle.std.proofs.Common.{◌≡◌, ◌≢◌, ℕ, Bool, true, false, eqb, List, [], ◌∷◌, Some, IsTrue, sym, refl, ap, ◌∙◌, subst, true≢false, arith}
 use Rattle.std.specs.List.{slice_get}
 use Rattle.std.proofs.lemmas.Bool.{eqb-true, eqb-false}
+use Rattle.std.proofs.lemmas.Option.{same_Some}
 use Rattle.lattice.specs.Order.{PartialOrderLaws}
 use Rattle.lattice.specs.Frontiers.{all_beyond}
 use Rattle.lattice.proofs.FrontierLemmas.{all_beyond_later, beyond_itself}
@@ -13,16 +14,17 @@ use Rattle.histories.specs.Histories.Dataflows.{Dataflow, node_of}
 use Rattle.histories.specs.Histories.States.{State}
 use Rattle.operator.specs.Arrangements.{AreInTurn, ArrangementState, upper_of}
 use Rattle.operator.specs.Joins.{JoiningView}
+use Rattle.operator.specs.Reductions.{ReducingView, pending_of}
 use Rattle.operator.proofs.TurnLemmas.{firsts}
 use Rattle.operator_laws.specs.Joining.{on_top}
-use Rattle.desk_laws.specs.Own.{AreSharing, DeskView, HasHold, IsHandOn, IsMergedAt, IsSpineAt, ReadsAt, boundary_at, hold_at, waiting_in}
+use Rattle.desk_laws.specs.Own.{AreHolding, AreSharing, DeskView, HasHold, IsHandOn, IsMergedAt, IsSpineAt, KeepsApart, ReadsAt, Reduces, StayHolding, boundary_at, hold_at, other_port, waiting_in}
 use Rattle.desk_laws.specs.declared.hand.Hand.{Hand}
 use Rattle.desk_laws.specs.declared.hand.Hand.TheVariants.{Ready, Sealed}
 use Rattle.desk_laws.proofs.MergedLemmas.{merged_lem, still_waits}
 use Rattle.desk.specs.Desks.{IsRight}
 use Rattle.desk.specs.Joinings.{IsReading}
 use Rattle.desk.specs.Openings.{on_plan}
-use Rattle.desk.specs.Tidying.{HasMoved, IsAlike, IsFollowedAt, LeadsOn, is_sealed}
+use Rattle.desk.specs.Tidying.{HasMoved, IsAlike, IsFollowedAt, IsHeldFrom, LeadsOn, is_sealed}
 use Rattle.desk.proofs.DeskLemmas.{with_arrangement}
 use Rattle.desk.proofs.PlaceLemmas.{get_own, get_set, one_entry}
 
@@ -96,15 +98,15 @@ module _ {T : Type 0} (below : T → T → Bool) (joined : T → T → T) (minim
     hand_on (Ready node updates) e on = λ plain. still_waits below joined minimum p d c merged_at node (node_of p node) ∙ on plain
     hand_on other e on = tt
 
-    pub right_on : AreSharing below minimum p c → (w : State T) (k : ℕ) (h : Hand T) → is_sealed h ≡ false → IsRight below joined minimum p w k d h → IsRight below joined minimum p w k c h
-    right_on sharing w k h e x = record {
-      own = merged_lem below joined minimum p d c merged_at w k sharing h (hand_on h e x.own.on) x.own;
+    pub right_on : StayHolding below p d c → (w : State T) (k : ℕ) (h : Hand T) → is_sealed h ≡ false → IsRight below joined minimum p w k d h → IsRight below joined minimum p w k c h
+    right_on stay w k h e x = record {
+      own = merged_lem below joined minimum p d c merged_at w k stay h (hand_on h e x.own.on) x.own;
       on_plan = record { places = x.on_plan.places; wide = x.on_plan.wide; joins = x.on_plan.joins; hand = x.on_plan.hand };
     }
 
-  -- the other desk is right for each worker that had the one, if the joins still share it
-  pub leads_with : (plan : List Node) → ((p : Dataflow) → p.nodes ≡ plan → AreSharing below minimum p d → AreSharing below minimum p c) → LeadsOn below joined minimum plan d c
-  leads_with plan sharing h e p q nodes es legal k x = right_on p (sharing p nodes x.own.sharing) (state_after below minimum p es) k h e x
+  -- the other desk is right for each worker that had the one, if the readers still have their holds
+  pub leads_with : (plan : List Node) → ((p : Dataflow) → p.nodes ≡ plan → StayHolding below p d c) → LeadsOn below joined minimum plan d c
+  leads_with plan stay h e p q nodes es legal k x = right_on p (stay p nodes) (state_after below minimum p es) k h e x
 
 -- ---- a hold that moves
 
@@ -122,26 +124,23 @@ pub reads_out : {T : Type 0} (p : Dataflow) (plan : List Node) (d : DeskView T) 
 reads_out p plan d n port source j e r =
     subst (λ nodes. ReadsAt (on_plan nodes) d n port source j) e (record { within = r.within; join = r.join; reads = r.reads; there = r.there })
 
-module _ {T : Type 0} (below : T → T → Bool) (minimum : T) (o : PartialOrderLaws below) (p : Dataflow) (d : DeskView T) (n port s : ℕ) (j : JoiningView T) (reads : ReadsAt p d n port s j) (sharing : AreSharing below minimum p d) (a b : ArrangementState T) (own : slice_get d.arrangements s ≡ Some (Some a))
-    (moved : HasMoved below minimum (hold_at port j) (boundary_at port j) a b) where
+module _ {T : Type 0} (below : T → T → Bool) (o : PartialOrderLaws below) (p : Dataflow) (d : DeskView T) (n port s : ℕ) (j : JoiningView T) (reads : ReadsAt p d n port s j) (ports : ℕ → ℕ → List T) (holding : AreHolding below p d ports) (a b : ArrangementState T) (own : slice_get d.arrangements s ≡ Some (Some a))
+    (moved : HasMoved below (hold_at port j) (boundary_at port j) a b) where
   abbrev to : DeskView T
   to = with_arrangement s b d
 
+  abbrev sharing : AreSharing below p d ports
+  sharing = holding.joins
+
   abbrev new_hold : HoldState T
-  new_hold = record { logical = minimum ∷ []; physical = boundary_at port j }
-
-  mine : HasHold below minimum d s (hold_at port j) (boundary_at port j)
-  mine = sharing.held n port s j reads
-
-  mine_is : mine.arrangement ≡ a
-  mine_is = one_entry d.arrangements s mine.arrangement a mine.there own
+  new_hold = record moved.hold { physical = boundary_at port j }
 
   b_there : slice_get to.arrangements s ≡ Some (Some b)
   b_there = get_own d.arrangements s (Some b) (Some a) own
 
   -- the hold that moved
   pub moved_hold : slice_get b.holds (hold_at port j) ≡ Some new_hold
-  moved_hold = ap (λ hs. slice_get hs (hold_at port j)) moved.holds ∙ get_own a.holds (hold_at port j) new_hold (record { logical = minimum ∷ []; physical = mine.physical }) (ap (λ (z : ArrangementState T). slice_get z.holds (hold_at port j)) (sym mine_is) ∙ mine.hold)
+  moved_hold = ap (λ hs. slice_get hs (hold_at port j)) moved.holds ∙ get_own a.holds (hold_at port j) new_hold moved.hold moved.was
 
   -- the others
   pub other_hold : (number : ℕ) → number ≢ hold_at port j → slice_get b.holds number ≡ slice_get a.holds number
@@ -154,82 +153,120 @@ module _ {T : Type 0} (below : T → T → Bool) (minimum : T) (o : PartialOrder
       let is : i ≡ j = one_entry d.joins n i j (ap (slice_get d.joins) (sym same.0) ∙ r.there) reads.there in
       λ k. boundary_at (same.1 k) (is k)
 
-  step : (m at source : ℕ) (i : JoiningView T) → ReadsAt p d m at source i → HasHold below minimum d source (hold_at at i) (boundary_at at i) → (e : Bool) → eqb source s ≡ e → HasHold below minimum to source (hold_at at i) (boundary_at at i)
-  step m at source i r h true e =
+  step : (m at source : ℕ) (i : JoiningView T) (ts : List T) → ReadsAt p d m at source i → HasHold below d source (hold_at at i) (boundary_at at i) ts → (e : Bool) → eqb source s ≡ e → HasHold below to source (hold_at at i) (boundary_at at i) ts
+  step m at source i ts r h true e =
       let here = eqb-true source s e in
       let r_here = subst (λ z. ReadsAt p d m at z i) here r in
       let is : h.arrangement ≡ a = one_entry d.arrangements s h.arrangement a (ap (slice_get d.arrangements) (sym here) ∙ h.there) own in
       let there : slice_get to.arrangements source ≡ Some (Some b) = ap (slice_get to.arrangements) here ∙ b_there in
       by there is r_here (eqb (hold_at at i) (hold_at port j)) refl
     where
-      by : slice_get to.arrangements source ≡ Some (Some b) → h.arrangement ≡ a → ReadsAt p d m at s i → (f : Bool) → eqb (hold_at at i) (hold_at port j) ≡ f → HasHold below minimum to source (hold_at at i) (boundary_at at i)
+      by : slice_get to.arrangements source ≡ Some (Some b) → h.arrangement ≡ a → ReadsAt p d m at s i → (f : Bool) → eqb (hold_at at i) (hold_at port j) ≡ f → HasHold below to source (hold_at at i) (boundary_at at i) ts
       by there is r_here true f =
           let same = eqb-true (hold_at at i) (hold_at port j) f in
+          let was : h.hold ≡ moved.hold = same_Some h.hold moved.hold (sym h.held ∙ (ap (λ (z : ArrangementState T). slice_get z.holds (hold_at at i)) is ∙ (ap (slice_get a.holds) same ∙ moved.was))) in
           record {
             arrangement = b;
             there = there;
             other = h.other;
-            physical = boundary_at port j;
-            hold = ap (slice_get b.holds) same ∙ moved_hold;
+            hold = new_hold;
+            held = ap (slice_get b.holds) same ∙ moved_hold;
+            apart = subst (λ (z : HoldState T). IsTrue (all_beyond below z.logical ts)) was h.apart;
             behind = subst (λ F. IsTrue (all_beyond below (boundary_at port j) F)) (sym (alone m at i r_here same)) (beyond_itself o (boundary_at port j));
           }
       by there is r_here false f = record {
         arrangement = b;
         there = there;
         other = h.other;
-        physical = h.physical;
-        hold = other_hold (hold_at at i) (eqb-false (hold_at at i) (hold_at port j) f) ∙ (ap (λ (z : ArrangementState T). slice_get z.holds (hold_at at i)) (sym is) ∙ h.hold);
+        hold = h.hold;
+        held = other_hold (hold_at at i) (eqb-false (hold_at at i) (hold_at port j) f) ∙ (ap (λ (z : ArrangementState T). slice_get z.holds (hold_at at i)) (sym is) ∙ h.held);
+        apart = h.apart;
         behind = h.behind;
       }
-  step m at source i r h false e = record {
+  step m at source i ts r h false e = record {
     arrangement = h.arrangement;
     there = get_set d.arrangements s source (Some b) (eqb-false source s e) ∙ h.there;
     other = h.other;
-    physical = h.physical;
     hold = h.hold;
+    held = h.held;
+    apart = h.apart;
     behind = h.behind;
   }
 
-  pub sharing_moved : AreSharing below minimum p to
-  sharing_moved = record {
-    held = λ m at source i r. let y = reads_back p d s b m at source i r in step m at source i y (sharing.held m at source i y) (eqb source s) refl;
-    apart = λ m at m2 at2 source i k r t. sharing.apart m at m2 at2 source i k (reads_back p d s b m at source i r) (reads_back p d s b m2 at2 source k t);
+  -- the hold that moved is not the arrangement's own one, which serves the reductions
+  serves : (source : ℕ) (ts : List T) → KeepsApart below d source 0 ts → (e : Bool) → eqb source s ≡ e → KeepsApart below to source 0 ts
+  serves source ts h true e =
+      let here = eqb-true source s e in
+      let is : h.arrangement ≡ a = one_entry d.arrangements s h.arrangement a (ap (slice_get d.arrangements) (sym here) ∙ h.there) own in
+      let some = (sharing.held n port s j reads).other in
+      record {
+        arrangement = b;
+        there = ap (slice_get to.arrangements) here ∙ b_there;
+        hold = h.hold;
+        held = other_hold 0 (λ f. omega (arith, some, f)) ∙ (ap (λ (z : ArrangementState T). slice_get z.holds 0) (sym is) ∙ h.held);
+        apart = h.apart;
+      }
+  serves source ts h false e = record {
+    arrangement = h.arrangement;
+    there = get_set d.arrangements s source (Some b) (eqb-false source s e) ∙ h.there;
+    hold = h.hold;
+    held = h.held;
+    apart = h.apart;
   }
 
+  pub holding_moved : AreHolding below p to ports
+  holding_moved = record {
+    joins = record {
+      held = λ m at source i r. let y = reads_back p d s b m at source i r in step m at source i (ports m (other_port at)) y (sharing.held m at source i y) (eqb source s) refl;
+      apart = λ m at m2 at2 source i k r t. sharing.apart m at m2 at2 source i k (reads_back p d s b m at source i r) (reads_back p d s b m2 at2 source k t);
+    };
+    pending = λ m source r is. serves source (pending_of r) (holding.pending m source r (reduces m source r is)) (eqb source s) refl;
+    come = λ m source r is. serves source (ports m 0) (holding.come m source r (reduces m source r is)) (eqb source s) refl;
+  }
+    where
+      reduces : (m source : ℕ) (r : ReducingView T) → Reduces p to m source r → Reduces p d m source r
+      reduces m source r is = record { within = is.within; kind = is.kind; node = is.node; there = is.there }
+
   -- a port that was followed still is
-  pub stays_followed : (plan : List Node) → p.nodes ≡ plan → (m at : ℕ) → IsFollowedAt minimum plan d m at → IsFollowedAt minimum plan to m at
+  pub stays_followed : (plan : List Node) → p.nodes ≡ plan → (m at : ℕ) → IsFollowedAt plan d m at → IsFollowedAt plan to m at
   stays_followed plan nodes m at followed source i r e there = by (eqb source s) refl
     where
       r_d : ReadsAt (on_plan plan) d m at source i
       r_d = reads_back (on_plan plan) d s b m at source i r
 
-      by : (f : Bool) → eqb source s ≡ f → slice_get e.holds (hold_at at i) ≡ Some (record { logical = minimum ∷ []; physical = boundary_at at i })
+      by : (f : Bool) → eqb source s ≡ f → IsHeldFrom e (hold_at at i) (boundary_at at i)
       by true f =
           let here = eqb-true source s f in
           let is : e ≡ b = one_entry to.arrangements s e b (ap (slice_get to.arrangements) (sym here) ∙ there) b_there in
           let before = followed source i r_d a (ap (slice_get d.arrangements) here ∙ own) in
           on here is before (eqb (hold_at at i) (hold_at port j)) refl
         where
-          on : source ≡ s → e ≡ b → slice_get a.holds (hold_at at i) ≡ Some (record { logical = minimum ∷ []; physical = boundary_at at i }) → (g : Bool) → eqb (hold_at at i) (hold_at port j) ≡ g
-              → slice_get e.holds (hold_at at i) ≡ Some (record { logical = minimum ∷ []; physical = boundary_at at i })
+          on : source ≡ s → e ≡ b → IsHeldFrom a (hold_at at i) (boundary_at at i) → (g : Bool) → eqb (hold_at at i) (hold_at port j) ≡ g
+              → IsHeldFrom e (hold_at at i) (boundary_at at i)
           on here is before true g =
               let same = eqb-true (hold_at at i) (hold_at port j) g in
               let r_here : ReadsAt p d m at s i = subst (λ z. ReadsAt p d m at z i) here (reads_in p plan d m at source i nodes r_d) in
-              let u = alone m at i r_here same in
-              ap (λ (z : ArrangementState T). slice_get z.holds (hold_at at i)) is ∙ (ap (slice_get b.holds) same ∙ (moved_hold ∙ ap (λ F. Some (record { logical = minimum ∷ []; physical = F })) (sym u)))
-          on here is before false g =
-              ap (λ (z : ArrangementState T). slice_get z.holds (hold_at at i)) is ∙ (other_hold (hold_at at i) (eqb-false (hold_at at i) (hold_at port j) g) ∙ before)
+              record {
+                hold = new_hold;
+                held = ap (λ (z : ArrangementState T). slice_get z.holds (hold_at at i)) is ∙ (ap (slice_get b.holds) same ∙ moved_hold);
+                begins = sym (alone m at i r_here same);
+              }
+          on here is before false g = record {
+            hold = before.hold;
+            held = ap (λ (z : ArrangementState T). slice_get z.holds (hold_at at i)) is ∙ (other_hold (hold_at at i) (eqb-false (hold_at at i) (hold_at port j) g) ∙ before.held);
+            begins = before.begins;
+          }
       by false f = followed source i r_d e (sym (get_set d.arrangements s source (Some b) (eqb-false source s f)) ∙ there)
 
   -- and this one is from now on
-  pub now_followed : (plan : List Node) → p.nodes ≡ plan → IsFollowedAt minimum plan to n port
+  pub now_followed : (plan : List Node) → p.nodes ≡ plan → IsFollowedAt plan to n port
   now_followed plan nodes source i r e there =
       let y = reads_in p plan d n port source i nodes (reads_back (on_plan plan) d s b n port source i r) in
       let is : i ≡ j = one_entry d.joins n i j y.there reads.there in
       let here : source ≡ s = same_some source s (sym y.reads ∙ reads.reads) in
       let mine_now : e ≡ b = one_entry to.arrangements s e b (ap (slice_get to.arrangements) (sym here) ∙ there) b_there in
-      subst (λ z. slice_get e.holds (hold_at port z) ≡ Some (record { logical = minimum ∷ []; physical = boundary_at port z })) (sym is)
-      (ap (λ (z : ArrangementState T). slice_get z.holds (hold_at port j)) mine_now ∙ moved_hold)
+      subst (λ z. IsHeldFrom e (hold_at port z) (boundary_at port z)) (sym is)
+      (record { hold = new_hold; held = ap (λ (z : ArrangementState T). slice_get z.holds (hold_at port j)) mine_now ∙ moved_hold; begins = refl })
     where
       same_some : (x y : ℕ) → Some x ≡ Some y → x ≡ y
       same_some x y e = cc

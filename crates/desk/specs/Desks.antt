@@ -26,7 +26,7 @@ use Rattle.histories.specs.Histories.Promises.{changes_in}
 use Rattle.histories.specs.Histories.States.{State, times}
 use Rattle.shared_board.specs.Large.{HasNoSmallBound}
 use Rattle.shared_board.specs.Widths.{is_wide_for}
-use Rattle.desk_laws.specs.Own.{AreSharing, DeskView, IsArrangedOn, IsOfOneShape, IsOwn, IsSameAt, gathered_in, waits_on}
+use Rattle.desk_laws.specs.Own.{DeskView, IsArrangedOn, IsOfOneShape, IsOwn, IsSameAt, StayHolding, StayHoldingWith, gathered_in, waits_on}
 use Rattle.desk_laws.specs.declared.hand.Hand.{Hand}
 use Rattle.desk_laws.specs.declared.hand.Hand.TheVariants.{Free, Taken, Kept, Turned, Ready, Sealed}
 
@@ -128,7 +128,7 @@ module _ {T : Type 0} (below : T → T → Bool) (joined : T → T → T) (minim
   pub record IsLaidIn (p : Dataflow) (n : ℕ) (made : List (Update T)) (d c : DeskView T) : Type 0 where
     pub others : (m : ℕ) → m ≢ n → IsSameAt m d c
     pub gathered : length c.gathered ≡ length d.gathered
-    pub sharing : AreSharing below minimum p d → AreSharing below minimum p c
+    pub holding : StayHolding below p d c
     pub arranged : (start : List T) (inserted : List (Insertion T))
         → IsArrangedOn below joined minimum p d n start inserted
         → IsArrangedOn below joined minimum p c n start inserted
@@ -140,7 +140,6 @@ module _ {T : Type 0} (below : T → T → Bool) (joined : T → T → T) (minim
   pub record IsReducedWith (n : ℕ) (us : List (Update T)) (d c : DeskView T) : Type 0 where
     pub others : (m : ℕ) → m ≢ n → IsSameAt m d c
     pub gathered : c.gathered ≡ d.gathered
-    pub sharing : (p : Dataflow) → AreSharing below minimum p d → AreSharing below minimum p c
     pub before : ReducingView T
     pub after : ReducingView T
     pub was : slice_get d.reductions n ≡ Some (Some before)
@@ -154,13 +153,15 @@ module _ {T : Type 0} (below : T → T → Bool) (joined : T → T → T) (minim
     pub pending : (received emitted : List (Update T))
         → IsReduced below joined minimum before received emitted
         → IsPendingAfter below (pending_of before) us (pending_of after)
+    pub holding : (p : Dataflow) (received emitted : List (Update T))
+        → IsReduced below joined minimum before received emitted → StayHoldingWith below p d c n 0 (times us)
 
   -- all that lay gathered for a node was taken out, and nothing else has changed
   pub record IsTakenOut (n : ℕ) (out : List (Update T)) (d c : DeskView T) : Type 0 where
     pub others : (m : ℕ) → m ≢ n → IsSameAt m d c
     pub gathered : length c.gathered ≡ length d.gathered
     pub joins : c.joins ≡ d.joins
-    pub sharing : (p : Dataflow) → AreSharing below minimum p d → AreSharing below minimum p c
+    pub holding : (p : Dataflow) → StayHolding below p d c
     pub split : IsSplit below (gathered_in (slice_get d.gathered n)) out []
     pub left : gathered_in (slice_get c.gathered n) ≡ []
     pub wide : (width : ℕ) → IsTrue (are_wide width (gathered_in (slice_get d.gathered n))) → IsTrue (are_wide width out)
@@ -170,7 +171,7 @@ module _ {T : Type 0} (below : T → T → Bool) (joined : T → T → T) (minim
     pub others : (m : ℕ) → m ≢ n → IsSameAt m d c
     pub none : batch.updates ≡ [] → c ≡ d
     pub gathered : c.gathered ≡ d.gathered
-    pub sharing : AreSharing below minimum p d → AreSharing below minimum p c
+    pub holding : StayHolding below p d c
     pub waits : waits_on c n (node_of p n) ≡ waits_on d n (node_of p n)
     pub inserted : batch.updates ≢ [] → (start : List T) (inserted : List (Insertion T))
         → IsArrangedOn below joined minimum p d n start inserted

@@ -12,14 +12,9 @@ use Rattle.join.specs.Sides.{all_rows_have}
 use Rattle.operator.specs.Arrangements.{ArrangementState, AreInTurn, IsOpen, times_from}
 use Rattle.operator.specs.Joins.{JoiningView, IsFitting}
 use Rattle.operator_laws.specs.Joining.{IsAnswer, on_top}
-use Rattle.desk_laws.specs.Own.{DeskView, boundary_at}
+use Rattle.desk_laws.specs.Own.{DeskView, boundary_at, other_port}
 
 -- ---- by port
-
--- the port of a join that is not this one
-abbrev pub other_port : ℕ → ℕ
-other_port zero = 1
-other_port (suc port) = 0
 
 module _ {T : Type 0} where
   -- how many columns the rows have that come at a port
@@ -72,7 +67,7 @@ module _ {T : Type 0} (below : T → T → Bool) (minimum : T) where
   -- ---- a bundle at a port of a join
 
   -- a bundle that came at a port is the next that the join takes there, and the join may read what it
-  -- took at the other port
+  -- took at the other port. Its hold there keeps the bundle's times apart from later ones
   pub record IsNextAt (port : ℕ) (arrangements : List (Option (ArrangementState T))) (source other : ℕ) (j : JoiningView T) (us : List (Update T)) : Type 0 where
     pub arrangement : ArrangementState T
     pub there : slice_get arrangements source ≡ Some (Some arrangement)
@@ -86,6 +81,7 @@ module _ {T : Type 0} (below : T → T → Bool) (minimum : T) where
     pub later : List (Insertion T)
     pub taken : List (Insertion T)
     pub reading : IsReading opposite inserted later taken (boundary_at (other_port port) j)
+    pub apart : IsTrue (all_beyond below reading.hold.logical (times us))
 
   -- a bundle that came at a port, or its pairs with all that the join took at the other port, are too
   -- large for 64-bit numbers

@@ -5,6 +5,7 @@ use Rattle.plan.specs.Widths.{width_of}
 use Rattle.plan.specs.declared.node.Kind.{Kind}
 use Rattle.plan.specs.declared.node.Node.{Node}
 use Rattle.plan.specs.declared.node.Node.TheVariants.{Input, Map, Filter, Concat, Negate, Arrange, Join, Reduce, Output}
+use Rattle.trace.specs.Holds.{HoldState}
 use Rattle.spine.specs.Spines.{Stands}
 use Rattle.histories.specs.Histories.Dataflows.{Dataflow}
 use Rattle.operator.specs.Arrangements.{ArrangementState, IsOpen, IsWithReader}
@@ -18,18 +19,23 @@ on_plan p = record { nodes = p; workers = 1 }
 
 -- the arrangement has one hold more, and if nothing was inserted, then its spine still has every
 -- boundary that a reader may ask for
-pub record HasOneMore {T : Type 0} (below : T → T → Bool) (minimum : T) (a b : ArrangementState T) : Type 0 where
-  pub with : IsWithReader below minimum a b
+pub record HasOneMore {T : Type 0} (below : T → T → Bool) (a b : ArrangementState T) : Type 0 where
+  pub with : IsWithReader below a b
   pub whole : Stands below a.spine [] → IsOpen below a.spine [] → IsOpen below b.spine []
 
 module _ {T : Type 0} (below : T → T → Bool) (joined : T → T → T) (minimum : T) (p : List Node) where
-  -- an arrangement of node n into which nothing was inserted and in which nothing waits
+  -- an arrangement of node n into which nothing was inserted and in which nothing waits. Its own hold
+  -- begins at the least time
   pub record IsFirstArrangement (n : ℕ) (a : ArrangementState T) : Type 0 where
     pub width : a.width ≡ width_of p n
     pub start : a.spine.list.start ≡ minimum ∷ []
     pub stands : Stands below a.spine []
     pub «open» : IsOpen below a.spine []
     pub nothing_waits : a.waiting ≡ []
+    pub since : a.spine.since ≡ minimum ∷ []
+    pub own : HoldState T
+    pub first : slice_get a.holds 0 ≡ Some own
+    pub begins : own.logical ≡ minimum ∷ []
 
   -- a reduction of node n, which reads the source, that has received nothing
   pub record IsFirstReduction (n : ℕ) (kind : Kind) (source : ℕ) (r : ReducingView T) : Type 0 where
@@ -52,8 +58,8 @@ module _ {T : Type 0} (below : T → T → Bool) (joined : T → T → T) (minim
     -- the join has a hold at each side's arrangement, and none of these holds is that of another
     -- join that reads there
     pub record HasOwnHolds (l r : ℕ) (j : JoiningView T) : Type 0 where
-      pub left : HasHold below minimum d l j.left_hold (minimum ∷ [])
-      pub right : HasHold below minimum d r j.right_hold (minimum ∷ [])
+      pub left : HasHold below d l j.left_hold (minimum ∷ []) (minimum ∷ [])
+      pub right : HasHold below d r j.right_hold (minimum ∷ []) (minimum ∷ [])
       pub new_left : (m port : ℕ) (i : JoiningView T) → ReadsAt (on_plan p) d m port l i → hold_at port i ≢ j.left_hold
       pub new_right : (m port : ℕ) (i : JoiningView T) → ReadsAt (on_plan p) d m port r i → hold_at port i ≢ j.right_hold
       pub two : l ≡ r → j.left_hold ≢ j.right_hold
@@ -78,4 +84,4 @@ module _ {T : Type 0} (below : T → T → Bool) (joined : T → T → T) (minim
       pub joins : length d.joins ≡ n
       pub reductions : length d.reductions ≡ n
       pub at : (m : ℕ) → m < n → IsFirstAt m (node_at p m)
-      pub sharing : AreSharing below minimum (on_plan p) d
+      pub sharing : AreSharing below (on_plan p) d (λ _ _. minimum ∷ [])

@@ -33,6 +33,16 @@ module _ {T : Type 0} where
 
   -- ---- one arrangement
 
+  -- the hold of this number asks for the boundaries from this one on
+  pub record IsHeldFrom (a : ArrangementState T) (number : ℕ) (boundary : List T) : Type 0 where
+    pub hold : HoldState T
+    pub held : slice_get a.holds number ≡ Some hold
+    pub begins : hold.physical ≡ boundary
+
+  -- the arrangement has no boundary for itself but where its spine has come
+  abbrev pub HasOwnHold : ArrangementState T → Type 0
+  HasOwnHold a = IsHeldFrom a 0 (upper_of a.spine)
+
   module _ (below : T → T → Bool) where
     -- the arrangement has the same, whatever was merged and wherever its holds are
     pub record IsAlike (a b : ArrangementState T) : Type 0 where
@@ -43,6 +53,20 @@ module _ {T : Type 0} where
       pub stands : (h : List (Insertion T)) → Stands below a.spine h → Stands below b.spine h
       pub whole : (h : List (Insertion T)) → IsOpen below a.spine h → IsOpen below b.spine h
 
+    -- the hold of this number is at the boundary, and nothing else has changed
+    pub record HasMoved (number : ℕ) (boundary : List T) (a b : ArrangementState T) : Type 0 where
+      pub alike : IsAlike a b
+      pub hold : HoldState T
+      pub was : slice_get a.holds number ≡ Some hold
+      pub holds : b.holds ≡ set a.holds number (record hold { physical = boundary })
+
+    -- the readers' holds have stayed, and the arrangement's own one is for the same times
+    pub record IsSettled (a b : ArrangementState T) : Type 0 where
+      pub alike : IsAlike a b
+      pub readers : (number : ℕ) → 0 < number → slice_get b.holds number ≡ slice_get a.holds number
+      pub own : (hold : HoldState T) → slice_get a.holds 0 ≡ Some hold
+          → (moved : HoldState T) × (slice_get b.holds 0 ≡ Some moved) × (moved.logical ≡ hold.logical)
+
     module _ (minimum : T) where
       -- the hold of this number is that of a reader that has come to the boundary
       pub record MayMove (a : ArrangementState T) (number : ℕ) (boundary : List T) : Type 0 where
@@ -51,20 +75,6 @@ module _ {T : Type 0} where
         pub taken : List (Insertion T)
         pub reading : IsReading below minimum a inserted later taken boundary
         pub is : reading.number ≡ number
-
-      -- the hold of this number is at the boundary, and nothing else has changed
-      pub record HasMoved (number : ℕ) (boundary : List T) (a b : ArrangementState T) : Type 0 where
-        pub alike : IsAlike a b
-        pub holds : b.holds ≡ set a.holds number (record { logical = minimum ∷ []; physical = boundary })
-
-      -- the readers' holds have stayed
-      pub record IsSettled (a b : ArrangementState T) : Type 0 where
-        pub alike : IsAlike a b
-        pub readers : (number : ℕ) → 0 < number → slice_get b.holds number ≡ slice_get a.holds number
-
-      -- the arrangement has no boundary for itself but where its spine has come
-      abbrev pub HasOwnHold : ArrangementState T → Type 0
-      HasOwnHold a = slice_get a.holds 0 ≡ Some (record { logical = minimum ∷ []; physical = upper_of a.spine })
 
   -- ---- a desk
 
@@ -81,12 +91,12 @@ module _ {T : Type 0} where
     abbrev pub IsTooLargeOn : (T → T → Ordering) → DeskView T → Type 0
     IsTooLargeOn cmp d = (h : Hand T) → is_sealed h ≡ false → IsTooLarge below joined minimum cmp plan d h
 
-  module _ (minimum : T) (plan : List Node) (d : DeskView T) where
+  module _ (plan : List Node) (d : DeskView T) where
     -- a join asks at a port for the boundaries from where it has come
     abbrev pub IsFollowedAt : ℕ → ℕ → Type 0
     IsFollowedAt n port = (source : ℕ) (j : JoiningView T) → ReadsAt (on_plan plan) d n port source j
         → (a : ArrangementState T) → slice_get d.arrangements source ≡ Some (Some a)
-        → slice_get a.holds (hold_at port j) ≡ Some (record { logical = minimum ∷ []; physical = boundary_at port j })
+        → IsHeldFrom a (hold_at port j) (boundary_at port j)
 
     abbrev pub IsFollowed : ℕ → Type 0
     IsFollowed n = (port : ℕ) → IsFollowedAt n port
@@ -95,7 +105,7 @@ module _ {T : Type 0} where
     abbrev pub IsSettledAt : (T → T → Bool) → ℕ → Type 0
     IsSettledAt below n = (source key : ℕ) → n < length plan → node_at plan n ≡ Arrange source key
         → (a : ArrangementState T) → slice_get d.arrangements n ≡ Some (Some a)
-        → HasOwnHold below minimum a × IsDone below a.spine
+        → HasOwnHold a × IsDone below a.spine
 
     -- no reader asks for a boundary that it has left behind, and all is merged that may be
     pub record IsTidy (below : T → T → Bool) : Type 0 where

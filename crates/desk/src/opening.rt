@@ -90,7 +90,7 @@ fn add_reader_to<T: Minimum>(
 ) -> Result<usize, Refusal>
     ensures number { IfOk result
         (λ number. (number ≡ length arrangement.old.holds) × (0 < number)) }
-    ensures more { OnOk result (HasOneMore T.below T.least arrangement.old arrangement.new) }
+    ensures more { OnOk result (HasOneMore T.below arrangement.old arrangement.new) }
     ensures only { IfErr result (λ refused. refused ≡ OutOfMemory) }
 {
     let number = arrangement.add_reader(alloc)?;
@@ -107,7 +107,7 @@ fn add_reader_at<T: Minimum>(
     ensures added { (a : ArrangementState T) → slice_get arrangements.old.items node ≡ Some (Some a)
         → IfOk result (λ number. (number ≡ length a.holds) × (0 < number)
         × (b : ArrangementState T) × (arrangements.new.items
-        ≡ set arrangements.old.items node (Some b)) × HasOneMore T.below T.least a b) }
+        ≡ set arrangements.old.items node (Some b)) × HasOneMore T.below a b) }
     ensures only { IfErr result (λ refused. refused ≡ OutOfMemory) }
 {
     match &mut arrangements[node.number()] {

@@ -62,14 +62,15 @@ fn move_hold<T: Minimum>(
 ) -> Result<(), Refusal>
     requires may { MayMove T.below T.least arrangement.old number boundary.now }
     requires frontier { IsFrontier T.below T.cmp boundary.now }
-    ensures moved { OnOk result (HasMoved T.below T.least number boundary.now arrangement.old
+    ensures moved { OnOk result (HasMoved T.below number boundary.now arrangement.old
         arrangement.new) }
     ensures same { OnErr result (arrangement.new ≡ arrangement.old) }
     ensures only { IfErr result (λ refused. refused ≡ OutOfMemory) }
 {
     let _spine = arrangement.trace();
+    let logical = antichain_of(alloc, arrangement.logical(number))?;
     let boundary = antichain_of(alloc, boundary)?;
-    arrangement.advance(alloc, number, &boundary)
+    arrangement.advance(alloc, number, &logical, &boundary)
 }
 
 // Moves a hold of a node's arrangement to the boundary to which its reader has come.
@@ -88,7 +89,7 @@ fn move_hold_at<T: Minimum>(
     ensures moved { (a : ArrangementState T) → slice_get arrangements.old.items source ≡ Some (Some a)
         → OnOk result ((b : ArrangementState T) × (arrangements.new.items
         ≡ set arrangements.old.items source (Some b))
-        × HasMoved T.below T.least number boundary.now a b) }
+        × HasMoved T.below number boundary.now a b) }
     ensures same { OnErr result (arrangements.new.items ≡ arrangements.old.items) }
     ensures only { IfErr result (λ refused. refused ≡ OutOfMemory) }
 {
@@ -106,15 +107,16 @@ fn settle<T: Minimum>(
     arrangement: &mut Arrangement<T>,
     fuel: u64,
 ) -> Result<bool, Refusal>
-    ensures settled { IsSettled T.below T.least arrangement.old arrangement.new }
-    ensures own { OnOk result (HasOwnHold T.below T.least arrangement.new) }
+    ensures settled { IsSettled T.below arrangement.old arrangement.new }
+    ensures own { OnOk result (HasOwnHold arrangement.new) }
     ensures done { IfOk result (λ done. done ≡ true → IsDone T.below arrangement.new.spine) }
     ensures refused { IfErr result (IsMemoryOrOverflow ((h : List (Insertion T))
         → Stands T.below arrangement.old.spine h → 2 ^ 63 ≤ size (all_updates h))) }
 {
     let _spine = arrangement.trace();
+    let logical = antichain_of(alloc, arrangement.logical(0))?;
     let upper = arrangement.upper(alloc)?;
-    arrangement.acknowledge(alloc, 0, &upper)?;
+    arrangement.acknowledge(alloc, 0, &logical, &upper)?;
     arrangement.merge(fuel)
 }
 
@@ -131,7 +133,7 @@ fn settle_at<T: Minimum>(
     ensures settled { (a : ArrangementState T)
         → slice_get arrangements.old.items node ≡ Some (Some a)
         → (b : ArrangementState T) × (arrangements.new.items ≡ set arrangements.old.items node (Some b))
-        × IsSettled T.below T.least a b × OnOk result (HasOwnHold T.below T.least b)
+        × IsSettled T.below a b × OnOk result (HasOwnHold b)
         × IfOk result (λ done. done ≡ true → IsDone T.below b.spine) }
     ensures refused { (a : ArrangementState T)
         → slice_get arrangements.old.items node ≡ Some (Some a)
@@ -161,7 +163,7 @@ impl<T: Minimum> Desk<T> {
             → (a : ArrangementState T) → slice_get self.old.arrangements source ≡ Some (Some a)
             → OnOk result ((b : ArrangementState T) × (self.new ≡ record self.old {
               arrangements = set self.old.arrangements source (Some b);
-            }) × HasMoved T.below T.least (hold_at port j) (boundary_at port j) a b) }
+            }) × HasMoved T.below (hold_at port j) (boundary_at port j) a b) }
         ensures same { OnErr result (self.new ≡ self.old) }
         ensures only { IfErr result (λ refused. refused ≡ OutOfMemory) }
     {
@@ -191,9 +193,9 @@ impl<T: Minimum> Desk<T> {
         requires reads { (j : JoiningView T)
             × ReadsAt (on_plan plan.now) self.old node port source j }
         ensures leads { LeadsOn T.below T.joined T.least plan.now self.old self.new }
-        ensures here { OnOk result (IsFollowedAt T.least plan.now self.new node port) }
-        ensures stays { (n i : ℕ) → IsFollowedAt T.least plan.now self.old n i
-            → IsFollowedAt T.least plan.now self.new n i }
+        ensures here { OnOk result (IsFollowedAt plan.now self.new node port) }
+        ensures stays { (n i : ℕ) → IsFollowedAt plan.now self.old n i
+            → IsFollowedAt plan.now self.new n i }
         ensures only { IfErr result (λ refused. refused ≡ OutOfMemory) }
     {
         plan.known();
@@ -205,9 +207,9 @@ impl<T: Minimum> Desk<T> {
         requires may { MayTidy T.below T.joined T.least plan.now self.old }
         requires within { node < length plan.now }
         ensures leads { LeadsOn T.below T.joined T.least plan.now self.old self.new }
-        ensures here { OnOk result (IsFollowed T.least plan.now self.new node) }
-        ensures stays { (n i : ℕ) → IsFollowedAt T.least plan.now self.old n i
-            → IsFollowedAt T.least plan.now self.new n i }
+        ensures here { OnOk result (IsFollowed plan.now self.new node) }
+        ensures stays { (n i : ℕ) → IsFollowedAt plan.now self.old n i
+            → IsFollowedAt plan.now self.new n i }
         ensures only { IfErr result (λ refused. refused ≡ OutOfMemory) }
     {
         match plan.node(node) {
@@ -223,7 +225,7 @@ impl<T: Minimum> Desk<T> {
     fn follow_all(&mut self, alloc: Global, plan: &Plan) -> Result<(), Refusal>
         requires may { MayTidy T.below T.joined T.least plan.now self.old }
         ensures leads { LeadsOn T.below T.joined T.least plan.now self.old self.new }
-        ensures followed { OnOk result ((n : ℕ) → IsFollowed T.least plan.now self.new n) }
+        ensures followed { OnOk result ((n : ℕ) → IsFollowed plan.now self.new n) }
         ensures only { IfErr result (λ refused. refused ≡ OutOfMemory) }
     {
         for n in 0..plan.len() {
@@ -244,11 +246,11 @@ impl<T: Minimum> Desk<T> {
         requires within { node < length plan.now }
         ensures leads { LeadsOn T.below T.joined T.least plan.now self.old self.new }
         ensures settled { IfOk result (λ done. done ≡ true
-            → IsSettledAt T.least plan.now self.new T.below node) }
-        ensures others { (n : ℕ) → n ≢ node → IsSettledAt T.least plan.now self.old T.below n
-            → IsSettledAt T.least plan.now self.new T.below n }
-        ensures followed { ((n : ℕ) → IsFollowed T.least plan.now self.old n)
-            → (n : ℕ) → IsFollowed T.least plan.now self.new n }
+            → IsSettledAt plan.now self.new T.below node) }
+        ensures others { (n : ℕ) → n ≢ node → IsSettledAt plan.now self.old T.below n
+            → IsSettledAt plan.now self.new T.below n }
+        ensures followed { ((n : ℕ) → IsFollowed plan.now self.old n)
+            → (n : ℕ) → IsFollowed plan.now self.new n }
         ensures refused { IfErr result (IsMemoryOrOverflow
             (IsTooLargeOn T.below T.joined T.least plan.now T.cmp self.old)) }
     {
@@ -265,9 +267,9 @@ impl<T: Minimum> Desk<T> {
         requires may { MayTidy T.below T.joined T.least plan.now self.old }
         ensures leads { LeadsOn T.below T.joined T.least plan.now self.old self.new }
         ensures settled { IfOk result (λ done. done ≡ true → (n : ℕ)
-            → IsSettledAt T.least plan.now self.new T.below n) }
-        ensures followed { ((n : ℕ) → IsFollowed T.least plan.now self.old n)
-            → (n : ℕ) → IsFollowed T.least plan.now self.new n }
+            → IsSettledAt plan.now self.new T.below n) }
+        ensures followed { ((n : ℕ) → IsFollowed plan.now self.old n)
+            → (n : ℕ) → IsFollowed plan.now self.new n }
         ensures refused { IfErr result (IsMemoryOrOverflow
             (IsTooLargeOn T.below T.joined T.least plan.now T.cmp self.old)) }
     {
@@ -300,7 +302,7 @@ impl<T: Minimum> Desk<T> {
     ) -> Result<bool, Refusal>
         requires someones { IsSomeones T.below T.joined T.least plan.now self.old hand.now }
         ensures leads { Leads T.below T.joined T.least plan.now self.old hand.now self.new hand.now }
-        ensures tidy { IfOk result (λ done. done ≡ true → IsTidy T.least plan.now self.new T.below) }
+        ensures tidy { IfOk result (λ done. done ≡ true → IsTidy plan.now self.new T.below) }
         ensures refused { IfErr result (IsMemoryOrOverflow (IsTooLarge T.below T.joined T.least T.cmp
             plan.now self.old hand.now)) }
     {

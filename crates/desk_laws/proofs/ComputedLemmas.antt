@@ -21,7 +21,7 @@ use Rattle.operator_laws.specs.Joining.{IsJoining, IsQueued}
 use Rattle.operator_laws.specs.Working.{Works, IsWorking, IsWorkingAt, IsSameBut}
 use Rattle.operator_laws.proofs.GatheringLemmas.{size_both, times_both, beyond_both}
 use Rattle.operator_laws.proofs.WorkingLemmas.{all_nodes}
-use Rattle.desk_laws.specs.Own.{AreSharing, DeskView, HasCome, IsArrangedOn, IsHandOn, IsOwn, IsSameAt, IsTakenBefore, hand_node, in_hand_at, is_taken_at, waits_on}
+use Rattle.desk_laws.specs.Own.{AreHolding, DeskView, HasCome, IsArrangedOn, IsHandOn, IsOwn, IsSameAt, IsTakenBefore, hand_node, in_hand_at, is_taken_at, waits_on}
 use Rattle.desk_laws.specs.declared.hand.Hand.{Hand}
 use Rattle.desk_laws.proofs.KeptLemmas.{AreSameAt, IsIdleAt, IsLaidAt, at_each, of_each, laid_same}
 use Rattle.desk_laws.proofs.TakenLemmas.{IsKeptAt, kept_from, same_but, waiting_there, with_waiting, working_from}
@@ -57,7 +57,7 @@ module _ {T : Type 0} (below : T → T → Bool) (o : PartialOrderLaws below) (p
 
 module _ {T : Type 0} (below : T → T → Bool) (joined : T → T → T) (minimum : T) (o : PartialOrderLaws below) (p : Dataflow) (q : IsDataflow p) (w : State T) (k n : ℕ) (within : n < length p.nodes) (d c : DeskView T) (h g : Hand T) (x : IsOwn below joined minimum p w k d h)
     (hand_h : hand_node h ≡ Some n) (hand_g : hand_node g ≡ Some n) (elsewhere_h : (m : ℕ) → m ≢ n → IsIdleAt m h) (elsewhere_g : (m : ℕ) → m ≢ n → IsIdleAt m g) (desks : (m : ℕ) → m ≢ n → IsSameAt m d c)
-    (on : IsHandOn below joined minimum p c g) (sharing : AreSharing below minimum p c) where
+    (on : IsHandOn below joined minimum p c g) (sharing : AreHolding below p c x.keeps.ports) where
   abbrev works : Works T
   works = x.keeps.works
 
@@ -87,12 +87,13 @@ module _ {T : Type 0} (below : T → T → Bool) (joined : T → T → T) (minim
       working = working;
       received = λ m source kind l e. x.keeping.received m source kind l e;
       given = λ m source kind l e. x.keeping.given m source kind l e;
+      ports = x.keeping.ports;
     };
     laid = of_each below joined minimum p c g (record x.keeps { works = next }) (λ m l. laid m l (eqb m n) refl);
     hand = its_hand ∙ sym hand_g;
     come = come;
     on = on;
-    sharing = sharing;
+    holding = sharing;
   }
     where
       laid : (m : ℕ) → m < length p.nodes → (b : Bool) → eqb m n ≡ b → IsLaidAt below joined minimum p c g (record x.keeps { works = next }) m

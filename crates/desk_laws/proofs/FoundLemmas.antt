@@ -31,7 +31,7 @@ use Rattle.operator_laws.specs.Working.{Works, IsWorkingAt}
 use Rattle.operator_laws.proofs.WorkingLemmas.{has_all}
 use Rattle.operator.specs.Arrangements.{ArrangementState}
 use Rattle.operator.specs.Reductions.{HasRoom, IsReduced, ReducingView, SumsToReceived, pending_of, state_key}
-use Rattle.desk_laws.specs.Own.{AreSharing, DeskView, IsArrangedOn, IsOfOneShape, IsOwn, IsReducedOn, IsSameAt}
+use Rattle.desk_laws.specs.Own.{DeskView, IsArrangedOn, IsOfOneShape, IsOwn, IsReducedOn, IsSameAt}
 use Rattle.desk_laws.specs.declared.hand.Hand.TheVariants.{Ready, Turned}
 use Rattle.desk_laws.proofs.KeptLemmas.{at_each, ready_idle, same_keeps, turned_idle}
 use Rattle.desk_laws.proofs.ComputedLemmas.{computed_with}
@@ -41,7 +41,7 @@ pub is_arrange : (node : Node) (key : ℕ) → arranged_by node ≡ Some key →
 is_arrange (Arrange source columns) key e = (source, columns, refl)
 is_arrange other key e = absurd (none-some key e)
 
-module _ {T : Type 0} (below : T → T → Bool) (joined met : T → T → T) (minimum : T) (o : PartialOrderLaws below) (laws : LatticeLaws below joined met) (p : Dataflow) (q : IsDataflow p) (h : List (Event T)) (legal : IsLegal below minimum p h) (k : ℕ) (d c : DeskView T) (sharing : AreSharing below minimum p c) (n : ℕ)
+module _ {T : Type 0} (below : T → T → Bool) (joined met : T → T → T) (minimum : T) (o : PartialOrderLaws below) (laws : LatticeLaws below joined met) (p : Dataflow) (q : IsDataflow p) (h : List (Event T)) (legal : IsLegal below minimum p h) (k : ℕ) (d c : DeskView T) (stay : StayHolding below p d c) (n : ℕ)
     (within : n < length p.nodes) (kind : Kind) (source : ℕ) (e : node_of p n ≡ Reduce kind source) (desks : (m : ℕ) → m ≢ n → IsSameAt m d c) (r s : ReducingView T) (there : slice_get d.reductions n ≡ Some (Some r)) (then : slice_get c.reductions n ≡ Some (Some s)) (shape : IsOfOneShape r s)
     (a : ArrangementState T) (read : slice_get d.arrangements source ≡ Some (Some a)) (upper : List T) (out : List (Update T))
     (stands : (inserted : List (Insertion T)) (received emitted : List (Update T)) → Stands below a.spine inserted → SumsToReceived below upper (all_updates inserted) received → IsReduced below joined minimum r received emitted → IsReduced below joined minimum s received (out ++ emitted))
@@ -132,7 +132,7 @@ module _ {T : Type 0} (below : T → T → Bool) (joined met : T → T → T) (m
   -- the answers are ready to be given, and the rest stays pending
   pub found_reduce : IsOwn below joined minimum p w k c (Ready n out)
   found_reduce =
-      computed_with below joined minimum o p q w k n within d c (Turned n upper) (Ready n out) x refl refl (λ m ne. turned_idle m n upper) (λ m ne. ready_idle m n out ne) desks (λ z. absurd (true≢false (sym (ap is_reduction e) ∙ z))) sharing works (λ m ne. same_keeps m x.keeps) x.keeping.working
+      computed_with below joined minimum o p q w k n within d c (Turned n upper) (Ready n out) x refl refl (λ m ne. turned_idle m n upper) (λ m ne. ready_idle m n out ne) desks (λ z. absurd (true≢false (sym (ap is_reduction e) ∙ z))) (stay x.keeps.ports x.holding) works (λ m ne. same_keeps m x.keeps) x.keeping.working
       (record {
         waiting = λ z. absurd (true≢false (sym (ap is_reduction e) ∙ z));
         arranged = λ other key f. absurd (none-some key (sym (ap arranged_by e) ∙ ap arranged_by f));

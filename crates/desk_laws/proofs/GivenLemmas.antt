@@ -30,7 +30,7 @@ use Rattle.operator_laws.proofs.JoiningLemmas.{gave_joining}
 use Rattle.operator_laws.proofs.ReducingLemmas.{may_answer, gave_reducing, found_none}
 use Rattle.operator_laws.proofs.WorkingLemmas.{gives_lem, for_no_join}
 use Rattle.operator.specs.Reductions.{pending_of, IsReduced}
-use Rattle.desk_laws.specs.Own.{AreSharing, DeskView, Keeps, IsOwn, IsSameAt, IsTakenBefore, due_in, due_on, hand_node, in_hand_at, is_taken_at, ready_at, taken_at, waits_on}
+use Rattle.desk_laws.specs.Own.{AreHolding, DeskView, Keeps, IsOwn, IsSameAt, IsTakenBefore, due_in, due_on, hand_node, in_hand_at, is_taken_at, ready_at, taken_at, waits_on}
 use Rattle.desk_laws.specs.declared.hand.Hand.{Hand}
 use Rattle.desk_laws.specs.declared.hand.Hand.TheVariants.{Free, Kept, Ready}
 use Rattle.desk_laws.proofs.KeptLemmas.{AreSameAt, IsIdleAt, IsLaidAt, at_each, of_each, free_idle, kept_idle, laid_same, ready_idle, same_desk}
@@ -83,23 +83,24 @@ module _ {T : Type 0} (below : T → T → Bool) (joined : T → T → T) (minim
   emitted_elsewhere m ne = ap (λ b. cond (b && eqb k k) us [] ++ emitted_by m k w.emitted) (ne_eqb n m (λ e. ne (sym e)))
 
   -- the worker's own, from what is kept at the node
-  pub given_with : (c : DeskView T) → ((m : ℕ) → m ≢ n → IsSameAt m d c) → AreSharing below minimum p c → (next : Keeps T) → ((m : ℕ) → m ≢ n → AreSameAt m x.keeps next) → IsWorking below p v k next.works → IsLaidAt below joined minimum p c Free next n
+  pub given_with : (c : DeskView T) → ((m : ℕ) → m ≢ n → IsSameAt m d c) → IsGive below p w g held sent → (next : Keeps T) → next.ports ≡ x.keeps.ports → AreHolding below p c x.keeps.ports → ((m : ℕ) → m ≢ n → AreSameAt m x.keeps next) → IsWorking below p v k next.works → IsLaidAt below joined minimum p c Free next n
       → ((source : ℕ) (kind : Kind) → node_of p n ≡ Reduce kind source → received_at w n k 0 ≡ next.received n)
       → ((source : ℕ) (kind : Kind) → node_of p n ≡ Reduce kind source → us ++ emitted_by n k w.emitted ≡ next.given n)
       → IsOwn below joined minimum p v k c Free
-  given_with c desks sharing next same working at got gave = record {
+  given_with c desks give next ports sharing same working at got gave = record {
     worker = x.worker;
     keeps = next;
     keeping = record {
       working = working;
       received = λ m source kind l e. received m source kind l e (eqb m n) refl;
       given = λ m source kind l e. given m source kind l e (eqb m n) refl;
+      ports = λ m port. subst (λ (fs : ℕ → ℕ → List T). NeverGoesBack below (fs m port) (port_frontier below p v m port)) (sym ports) (port_stays below o p q w (Give g held sent) give m port (x.keeps.ports m port) (x.keeping.ports m port));
     };
     laid = of_each below joined minimum p c Free next (λ m l. laid m l (eqb m n) refl);
     hand = ap (λ b. cond b None (w.hand k)) (eq-eqb k k refl);
     come = tt;
     on = tt;
-    sharing = sharing;
+    holding = subst (AreHolding below p c) (sym ports) sharing;
   }
     where
       received : (m source : ℕ) (kind : Kind) → m < length p.nodes → node_of p m ≡ Reduce kind source → (b : Bool) → eqb m n ≡ b → received_at w m k 0 ≡ next.received m
@@ -168,7 +169,7 @@ module _ {T : Type 0} (below : T → T → Bool) (joined : T → T → T) (minim
           λ e. gave_gathering below o p w g (works.waiting n) rest held sent (kept.1 e) split held_back,
         ) in (
           give,
-          given_with d (λ m ne. same_desk m d) x.sharing (record x.keeps { works = next_works }) but_waiting
+          given_with d (λ m ne. same_desk m d) give (record x.keeps { works = next_works }) refl x.holding but_waiting
               (gives_lem below o p q w g held works next_works x.keeping.working (same_but n rest works) sent give (λ m. refl) no_join (working_from below p v k next_works n linear (subst (IsKeptAt below p v k next_works n) (sym (waiting_there n rest works)) at)))
               (record {
                 waiting = λ r. waiting_there n rest works;
@@ -198,7 +199,7 @@ module _ {T : Type 0} (below : T → T → Bool) (joined : T → T → T) (minim
           still_queued 1 (works.inserted r) (works.right n) (no_join n l r e).1 here.2,
         ) in (
           give,
-          given_with d (λ m ne. same_desk m d) x.sharing (record x.keeps { works = next_works }) but_waiting
+          given_with d (λ m ne. same_desk m d) give (record x.keeps { works = next_works }) refl x.holding but_waiting
               (gives_lem below o p q w g held works next_works x.keeping.working (same_but n rest works) sent give (λ m. refl) no_join (subst (λ node. IsWorkingAt below p v k next_works n node) (sym e) now))
               (record {
                 waiting = λ z. waiting_there n rest works;
@@ -240,7 +241,7 @@ module _ {T : Type 0} (below : T → T → Bool) (joined : T → T → T) (minim
       let given_is : next.given n ≡ us ++ x.keeps.given n = ap (λ b. cond b (us ++ x.keeps.given n) (x.keeps.given n)) (eq-eqb n n refl) in
       let now = subst (λ f. IsReducing below p v n k f (next_works.pending n)) (sym upper_is) (subst (IsReducing below p v n k frontier) (sym pending_is) after) in (
         give,
-        given_with d (λ m ne. same_desk m d) x.sharing next
+        given_with d (λ m ne. same_desk m d) give next refl x.holding
             (λ m ne. record {
               waiting = refl;
               start = refl;

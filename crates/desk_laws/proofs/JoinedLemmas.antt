@@ -19,7 +19,7 @@ use Rattle.operator_laws.specs.Gathering.{IsSplit}
 use Rattle.operator_laws.specs.Joining.{IsJoining, on_top}
 use Rattle.operator_laws.specs.Working.{Works, IsWorkingAt}
 use Rattle.operator.specs.Joins.{JoiningView}
-use Rattle.desk_laws.specs.Own.{AreSharing, DeskView, IsArrangedOn, IsJoinedOn, IsNextBoundary, IsOwn, IsSameAt, in_hand_at, is_taken_at, made_of, made_of_pairs, waits_on}
+use Rattle.desk_laws.specs.Own.{DeskView, IsArrangedOn, IsJoinedOn, IsNextBoundary, IsOwn, IsSameAt, in_hand_at, is_taken_at, made_of, made_of_pairs, waits_on}
 use Rattle.desk_laws.specs.declared.hand.Hand.{Hand}
 use Rattle.desk_laws.specs.declared.hand.Hand.TheVariants.{Kept, Taken}
 use Rattle.desk_laws.proofs.KeptLemmas.{IsLaidAt, at_each, kept_idle, taken_idle}
@@ -27,7 +27,7 @@ use Rattle.desk_laws.proofs.TakenLemmas.{same_but, waiting_there, with_waiting}
 use Rattle.desk_laws.proofs.ComputedLemmas.{computed_with, looked_working, replaced_gathering}
 use Rattle.desk_laws.proofs.FoundLemmas.{is_arrange}
 
-module _ {T : Type 0} (below : T → T → Bool) (joined : T → T → T) (minimum : T) (o : PartialOrderLaws below) (p : Dataflow) (q : IsDataflow p) (w : State T) (k : ℕ) (d c : DeskView T) (sharing : AreSharing below minimum p c) (bundle : Bundle T) (more : Bool) (within : bundle.place.node < length p.nodes) (l r : ℕ)
+module _ {T : Type 0} (below : T → T → Bool) (joined : T → T → T) (minimum : T) (o : PartialOrderLaws below) (p : Dataflow) (q : IsDataflow p) (w : State T) (k : ℕ) (d c : DeskView T) (stay : StayHolding below p d c) (bundle : Bundle T) (more : Bool) (within : bundle.place.node < length p.nodes) (l r : ℕ)
     (e : node_of p bundle.place.node ≡ Join l r) (desks : (m : ℕ) → m ≢ bundle.place.node → IsSameAt m d c) (j i : JoiningView T) (there : slice_get d.joins bundle.place.node ≡ Some (Some j)) (then : slice_get c.joins bundle.place.node ≡ Some (Some i)) (x : IsOwn below joined minimum p w k d (Taken bundle more)) where
   abbrev n : ℕ
   n = bundle.place.node
@@ -94,7 +94,7 @@ module _ {T : Type 0} (below : T → T → Bool) (joined : T → T → T) (minim
         at_right = a.at_right;
       } in
       let now : IsWorkingAt below p w k next n (Join l r) = (subst (IsJoining below p w n k (works.left n) (works.right n)) (sym (waiting_there n rest works)) after, here.1, here.2) in
-      computed_with below joined minimum o p q w k n within d c hand (Kept n more) x refl refl (λ m ne. taken_idle m bundle more ne) (λ m ne. kept_idle m n more) desks tt sharing next
+      computed_with below joined minimum o p q w k n within d c hand (Kept n more) x refl refl (λ m ne. taken_idle m bundle more ne) (λ m ne. kept_idle m n more) desks tt (stay x.keeps.ports x.holding) next
       (λ m ne. record {
         waiting = (same_but n rest works).waiting m ne;
         start = refl;
@@ -105,7 +105,7 @@ module _ {T : Type 0} (below : T → T → Bool) (joined : T → T → T) (minim
         received = refl;
         given = refl;
       })
-      (looked_working below joined minimum o p q w k n within d c hand (Kept n more) x refl refl (λ m ne. taken_idle m bundle more ne) (λ m ne. kept_idle m n more) desks tt sharing next (same_but n rest works) (λ m. refl) (subst (λ node. IsWorkingAt below p w k next n node) (sym e) now))
+      (looked_working below joined minimum o p q w k n within d c hand (Kept n more) x refl refl (λ m ne. taken_idle m bundle more ne) (λ m ne. kept_idle m n more) desks tt (stay x.keeps.ports x.holding) next (same_but n rest works) (λ m. refl) (subst (λ node. IsWorkingAt below p w k next n node) (sym e) now))
       (record {
         waiting = λ z. waiting_there n rest works;
         arranged = λ source columns f. absurd (none-some columns (sym (ap arranged_by e) ∙ ap arranged_by f));

@@ -16,14 +16,14 @@ use Rattle.histories.specs.declared.event.Bundle.{Bundle}
 use Rattle.histories.specs.Histories.Dataflows.{Dataflow, IsDataflow, node_of}
 use Rattle.histories.specs.Histories.States.{State}
 use Rattle.operator_laws.specs.Gathering.{IsSplit}
-use Rattle.desk_laws.specs.Own.{AreSharing, DeskView, HasTurnedTo, IsArrangedOn, IsNextBatch, IsOwn, IsSameAt, hand_node, in_hand_at, made_of, waits_on}
+use Rattle.desk_laws.specs.Own.{DeskView, HasTurnedTo, IsArrangedOn, IsNextBatch, IsOwn, IsSameAt, StayHolding, hand_node, in_hand_at, made_of, waits_on}
 use Rattle.desk_laws.specs.declared.hand.Hand.{Hand}
 use Rattle.desk_laws.specs.declared.hand.Hand.TheVariants.{Kept, Ready, Sealed, Taken, Turned}
 use Rattle.desk_laws.proofs.KeptLemmas.{IsIdleAt, kept_idle, ready_idle, sealed_idle, taken_idle, turned_idle}
 use Rattle.desk_laws.proofs.TakenLemmas.{made_linear}
 use Rattle.desk_laws.proofs.ComputedLemmas.{computed_join, computed_linear}
 
-module _ {T : Type 0} (below : T → T → Bool) (joined : T → T → T) (minimum : T) (o : PartialOrderLaws below) (p : Dataflow) (q : IsDataflow p) (w : State T) (k : ℕ) (d c : DeskView T) (sharing : AreSharing below minimum p c) where
+module _ {T : Type 0} (below : T → T → Bool) (joined : T → T → T) (minimum : T) (o : PartialOrderLaws below) (p : Dataflow) (q : IsDataflow p) (w : State T) (k : ℕ) (d c : DeskView T) (stay : StayHolding below p d c) where
   -- what the bundle made lies on the desk, at a linear node
   pub kept_lem : (bundle : Bundle T) (more : Bool) → bundle.place.node < length p.nodes → IsTrue (is_linear (node_of p bundle.place.node)) → ((m : ℕ) → m ≢ bundle.place.node → IsSameAt m d c)
       → ((start : List T) (inserted : List (Insertion T)) → IsArrangedOn below joined minimum p d bundle.place.node start inserted → IsArrangedOn below joined minimum p c bundle.place.node start inserted)
@@ -32,7 +32,7 @@ module _ {T : Type 0} (below : T → T → Bool) (joined : T → T → T) (minim
   kept_lem bundle more within linear desks arranged split x =
       let n = bundle.place.node in
       let made_is = ap (λ b. cond b (made_of joined p x.keeps.works bundle (node_of p n)) []) (eq-eqb n n refl) ∙ made_linear joined p x.keeps.works bundle (node_of p n) linear in
-      computed_linear below joined minimum o p q w k n within d c (Taken bundle more) (Kept n more) x refl refl (λ m ne. taken_idle m bundle more ne) (λ m ne. kept_idle m n more) desks tt sharing [] (λ next. refl)
+      computed_linear below joined minimum o p q w k n within d c (Taken bundle more) (Kept n more) x refl refl (λ m ne. taken_idle m bundle more ne) (λ m ne. kept_idle m n more) desks tt (stay x.keeps.ports x.holding) [] (λ next. refl)
       (subst (λ us. IsSplit below (us ++ waits_on d n (node_of p n)) [] (waits_on c n (node_of p n))) (sym made_is) split) linear (λ source key e start inserted. arranged start inserted) tt
 
   module _ (n : ℕ) (within : n < length p.nodes) (desks : (m : ℕ) → m ≢ n → IsSameAt m d c) (out : List (Update T)) (split : IsSplit below (waits_on d n (node_of p n)) out (waits_on c n (node_of p n))) where
@@ -49,10 +49,10 @@ module _ {T : Type 0} (below : T → T → Bool) (joined : T → T → T) (minim
         by : (node : Node) → node_of p n ≡ node → IsOwn below joined minimum p w k c (Ready n out)
         by (Reduce kind s) e = absurd (false≢true (sym waits ∙ ap is_reduction e))
         by (Join l r) e =
-            computed_join below joined minimum o p q w k n within d c h (Ready n out) x hand_h refl (λ m ne. idle m) (λ m ne. ready_idle m n out ne) desks (λ _. all) sharing out (λ next. here_is) parts l r e joins_same (idle n).taken (λ port. refl)
+            computed_join below joined minimum o p q w k n within d c h (Ready n out) x hand_h refl (λ m ne. idle m) (λ m ne. ready_idle m n out ne) desks (λ _. all) (stay x.keeps.ports x.holding) out (λ next. here_is) parts l r e joins_same (idle n).taken (λ port. refl)
             (λ source kind f. absurd (false≢true (sym waits ∙ ap is_reduction f)))
         by other e =
-            computed_linear below joined minimum o p q w k n within d c h (Ready n out) x hand_h refl (λ m ne. idle m) (λ m ne. ready_idle m n out ne) desks (λ _. all) sharing out (λ next. here_is) parts (ap is_linear e)
+            computed_linear below joined minimum o p q w k n within d c h (Ready n out) x hand_h refl (λ m ne. idle m) (λ m ne. ready_idle m n out ne) desks (λ _. all) (stay x.keeps.ports x.holding) out (λ next. here_is) parts (ap is_linear e)
             (λ source key f start inserted a. absurd (none-some key (sym plain ∙ ap arranged_by f)))
             (λ source kind f. absurd (false≢true (sym waits ∙ ap is_reduction f)))
 
@@ -68,6 +68,6 @@ module _ {T : Type 0} (below : T → T → Bool) (joined : T → T → T) (minim
         → IsNextBatch below joined minimum p c n batch → IsOwn below joined minimum p w k d (Turned n upper) → IsOwn below joined minimum p w k c (Sealed n batch)
     sealed_lem source key e upper batch same_out same_upper arranged next x =
         let here_is : cond (eqb n n) batch.updates [] ≡ out = ap (λ b. cond b batch.updates []) (eq-eqb n n refl) ∙ same_out in
-        computed_linear below joined minimum o p q w k n within d c (Turned n upper) (Sealed n batch) x refl refl (λ m ne. turned_idle m n upper) (λ m ne. sealed_idle m n batch ne) desks next sharing out (λ works. here_is)
+        computed_linear below joined minimum o p q w k n within d c (Turned n upper) (Sealed n batch) x refl refl (λ m ne. turned_idle m n upper) (λ m ne. sealed_idle m n batch ne) desks next (stay x.keeps.ports x.holding) out (λ works. here_is)
         split (ap is_linear e) (λ source key f start inserted. arranged start inserted)
         (subst (HasTurnedTo below joined minimum p w k x.keeps n) (sym same_upper) x.come)

@@ -4,9 +4,9 @@ use Rattle.plan.specs.declared.node.Node.{Node}
 use Rattle.plan.specs.declared.node.Node.TheVariants.{Arrange}
 use Rattle.histories.specs.Histories.Dataflows.{Dataflow, node_of}
 use Rattle.histories.specs.Histories.States.{State}
-use Rattle.desk_laws.specs.Own.{AreSharing, DeskView, HasCome, IsHandOn, IsMergedAt, IsOwn, Keeps, gathered_in, in_hand_at, waits_on}
+use Rattle.desk_laws.specs.Own.{DeskView, HasCome, IsHandOn, IsMergedAt, IsOwn, Keeps, StayHolding, gathered_in, in_hand_at, waits_on}
 use Rattle.desk_laws.specs.declared.hand.Hand.{Hand}
-use Rattle.desk_laws.specs.declared.hand.Hand.TheVariants.{Ready, Sealed, Turned}
+use Rattle.desk_laws.specs.declared.hand.Hand.TheVariants.{Ready, Sealed, Taken, Turned}
 use Rattle.desk_laws.proofs.KeptLemmas.{at_each, of_each}
 
 module _ {T : Type 0} (below : T → T → Bool) (joined : T → T → T) (minimum : T) (p : Dataflow) (d c : DeskView T) (merged : (n : ℕ) → IsMergedAt below joined minimum p n d c) where
@@ -20,10 +20,11 @@ module _ {T : Type 0} (below : T → T → Bool) (joined : T → T → T) (minim
   still_come w k keeps (Ready node updates) x = λ source kind e.
       let f = x source kind e in
       record { reduction = f.reduction; there = (merged node).reductions ∙ f.there; frontier = f.frontier; found = f.found; newest = f.newest }
+  still_come w k keeps (Taken bundle more) x = x
   still_come w k keeps other x = tt
 
-  pub merged_lem : (w : State T) (k : ℕ) → AreSharing below minimum p c → (h : Hand T) → IsHandOn below joined minimum p c h → IsOwn below joined minimum p w k d h → IsOwn below joined minimum p w k c h
-  merged_lem w k sharing h on x = record {
+  pub merged_lem : (w : State T) (k : ℕ) → StayHolding below p d c → (h : Hand T) → IsHandOn below joined minimum p c h → IsOwn below joined minimum p w k d h → IsOwn below joined minimum p w k c h
+  merged_lem w k stay h on x = record {
     worker = x.worker;
     keeps = x.keeps;
     keeping = x.keeping;
@@ -66,5 +67,5 @@ module _ {T : Type 0} (below : T → T → Bool) (joined : T → T → T) (minim
     hand = x.hand;
     come = still_come w k x.keeps h x.come;
     on = on;
-    sharing = sharing;
+    holding = stay x.keeps.ports x.holding;
   }

@@ -24,12 +24,13 @@ use Rattle.shared_board.specs.Tenures.{AreOn, Terms, events, left_by}
 use Rattle.operator_laws.specs.Reducing.{IsFound}
 use Rattle.operator_laws.specs.Working.{is_by}
 use Rattle.operator_laws.proofs.ArrangingLemmas.{stays_passed}
+use Rattle.operator_laws.proofs.PortLemmas.{port_stays}
 use Rattle.operator_laws.proofs.ReducingLemmas.{all_still_were}
 use Rattle.operator_laws.proofs.WorkingLemmas.{same_working}
 use Rattle.desk_laws.specs.Own.{DeskView, Keeps, HasCome, HasTurned, IsOwn}
 use Rattle.desk_laws.specs.Observed.{AreBeyondNewest}
 use Rattle.desk_laws.specs.declared.hand.Hand.{Hand}
-use Rattle.desk_laws.specs.declared.hand.Hand.TheVariants.{Turned, Ready, Sealed}
+use Rattle.desk_laws.specs.declared.hand.Hand.TheVariants.{Taken, Turned, Ready, Sealed}
 
 other_by : {T : Type 0} (k : ℕ) (e : Event T) → actor_of e ≢ k → is_by k e ≡ false
 other_by k (Take number bundle) ne = ne_eqb bundle.place.worker k ne
@@ -79,6 +80,7 @@ module _ {T : Type 0} (below : T → T → Bool) (joined : T → T → T) (minim
           found = found_on node (keeps.works.upper node) (keeps.works.pending node) f.frontier updates _ f.found;
           newest = newest_on node f.frontier f.newest;
         }
+    come_on d keeps (Taken bundle more) c = c
     come_on d keeps other c = tt
 
   other_leaves : (w : State T) (k : ℕ) (d : DeskView T) (h : Hand T) (e : Event T) → IsAllowed below p w e → actor_of e ≢ k → IsOwn below joined minimum p w k d h → IsOwn below joined minimum p (next_state below p w e) k d h
@@ -91,12 +93,13 @@ module _ {T : Type 0} (below : T → T → Bool) (joined : T → T → T) (minim
           working = same_working below o p q w k x.keeps.works x.keeping.working e a (other_by k e ne);
           received = λ n source kind l at. s.received n 0 ∙ x.keeping.received n source kind l at;
           given = λ n source kind l at. s.emitted n ∙ x.keeping.given n source kind l at;
+          ports = λ n port. port_stays below o p q w e a n port (x.keeps.ports n port) (x.keeping.ports n port);
         };
         laid = x.laid;
         hand = s.hand ∙ x.hand;
         come = come_on w e a k s d x.keeps h x.come;
         on = x.on;
-        sharing = x.sharing;
+        holding = x.holding;
       }
 
   pub others_leave : (t : Terms) (k : ℕ) (others seen : List (Entry (Doing T))) → NoneBy k others → AreOn t (others ++ seen) → IsLegal below minimum p (events (others ++ seen)) → (d : DeskView T) (h : Hand T)

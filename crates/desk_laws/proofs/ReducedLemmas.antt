@@ -26,7 +26,7 @@ use Rattle.operator_laws.specs.Reducing.{IsReducing}
 use Rattle.operator_laws.specs.Working.{Works, IsWorkingAt}
 use Rattle.operator.specs.Reductions.{HasRoom, IsPendingAfter, IsReduced, ReducingView, pending_of, state_key}
 use Rattle.operator.proofs.ReductionLemmas.{answer_at}
-use Rattle.desk_laws.specs.Own.{AreSharing, DeskView, IsOfOneShape, IsOwn, IsReducedOn, IsSameAt}
+use Rattle.desk_laws.specs.Own.{DeskView, IsOfOneShape, IsOwn, IsReducedOn, IsSameAt}
 use Rattle.desk_laws.specs.declared.hand.Hand.TheVariants.{Kept, Taken}
 use Rattle.desk_laws.proofs.KeptLemmas.{at_each, kept_idle, taken_idle}
 use Rattle.desk_laws.proofs.ComputedLemmas.{computed_with, looked_working}
@@ -75,7 +75,7 @@ module _ {T : Type 0} (n : ℕ) (more : List T) (works : Works T) where
   pending_there : with_pending.pending n ≡ more
   pending_there = ap (λ b. cond b more (works.pending n)) (eq-eqb n n refl)
 
-module _ {T : Type 0} (below : T → T → Bool) (joined met : T → T → T) (minimum : T) (o : PartialOrderLaws below) (laws : LatticeLaws below joined met) (p : Dataflow) (q : IsDataflow p) (w : State T) (k : ℕ) (d c : DeskView T) (sharing : AreSharing below minimum p c) (bundle : Bundle T) (more : Bool)
+module _ {T : Type 0} (below : T → T → Bool) (joined met : T → T → T) (minimum : T) (o : PartialOrderLaws below) (laws : LatticeLaws below joined met) (p : Dataflow) (q : IsDataflow p) (w : State T) (k : ℕ) (d c : DeskView T) (bundle : Bundle T) (more : Bool) (stay : StayHoldingWith below p d c bundle.place.node bundle.place.port (times bundle.updates))
     (within : bundle.place.node < length p.nodes) (kind : Kind) (source : ℕ) (e : node_of p bundle.place.node ≡ Reduce kind source) (desks : (m : ℕ) → m ≢ bundle.place.node → IsSameAt m d c) (r s : ReducingView T) (there : slice_get d.reductions bundle.place.node ≡ Some (Some r))
     (then : slice_get c.reductions bundle.place.node ≡ Some (Some s)) (shape : IsOfOneShape r s)
     (stands : (received emitted : List (Update T)) (upper : List T) → IsReduced below joined minimum r received emitted → IsTrue (all_beyond below upper (times bundle.updates)) → IsTrue (list_all (λ u. has_passed below upper u.time) emitted) → IsReduced below joined minimum s (bundle.updates ++ received) emitted)
@@ -134,7 +134,7 @@ module _ {T : Type 0} (below : T → T → Bool) (joined met : T → T → T) (m
   -- what a bundle brought is pending at a reduction
   pub kept_reduce : IsOwn below joined minimum p w k c (Kept n more)
   kept_reduce =
-      computed_with below joined minimum o p q w k n within d c (Taken bundle more) (Kept n more) x refl refl (λ m ne. taken_idle m bundle more ne) (λ m ne. kept_idle m n more) desks tt sharing next
+      computed_with below joined minimum o p q w k n within d c (Taken bundle more) (Kept n more) x refl refl (λ m ne. taken_idle m bundle more ne) (λ m ne. kept_idle m n more) desks tt (stay x.keeps.ports x.come x.holding) next
       (λ m ne. record {
         waiting = refl;
         start = refl;
@@ -145,7 +145,7 @@ module _ {T : Type 0} (below : T → T → Bool) (joined met : T → T → T) (m
         received = refl;
         given = refl;
       })
-      (looked_working below joined minimum o p q w k n within d c (Taken bundle more) (Kept n more) x refl refl (λ m ne. taken_idle m bundle more ne) (λ m ne. kept_idle m n more) desks tt sharing next (record {
+      (looked_working below joined minimum o p q w k n within d c (Taken bundle more) (Kept n more) x refl refl (λ m ne. taken_idle m bundle more ne) (λ m ne. kept_idle m n more) desks tt (stay x.keeps.ports x.come x.holding) next (record {
         waiting = λ m ne. refl;
         start = λ m ne. refl;
         left = λ m ne. refl;

@@ -21,7 +21,7 @@ use Rattle.operator_laws.specs.Working.{Works}
 use Rattle.operator_laws.proofs.ArrangingLemmas.{may_insert, gave_arranging, gave_none}
 use Rattle.operator_laws.proofs.GatheringLemmas.{cut_none, held_beyond, no_emission}
 use Rattle.operator_laws.proofs.WorkingLemmas.{inserts_lem, gives_lem}
-use Rattle.desk_laws.specs.Own.{AreSharing, DeskView, IsArrangedOn, IsOwn, IsSameAt, due_on, waits_on}
+use Rattle.desk_laws.specs.Own.{DeskView, IsArrangedOn, IsOwn, IsSameAt, due_on, waits_on}
 use Rattle.desk_laws.specs.declared.hand.Hand.TheVariants.{Free, Sealed}
 use Rattle.desk_laws.proofs.KeptLemmas.{IsLaidAt, at_each, same_desk, sealed_idle}
 use Rattle.desk_laws.proofs.TakenLemmas.{IsKeptAt, kept_from, same_but, waiting_there, with_waiting, working_from}
@@ -75,10 +75,10 @@ module _ {T : Type 0} (below : T → T → Bool) (joined : T → T → T) (minim
   pub sealed_beyond : IsTrue (all_beyond below batch.description.upper held)
   sealed_beyond = held_beyond below o batch.description.upper held (times rest) hold x.on.rest
 
-  pub sealed_given : batch.updates ≢ [] → IsCut below p given (cut below p given) → (c : DeskView T) → ((m : ℕ) → m ≢ n → IsSameAt m d c) → AreSharing below minimum p c → waits_on c n (node_of p n) ≡ rest
+  pub sealed_given : batch.updates ≢ [] → IsCut below p given (cut below p given) → (c : DeskView T) → ((m : ℕ) → m ≢ n → IsSameAt m d c) → StayHolding below p d c → waits_on c n (node_of p n) ≡ rest
       → ((start : List T) (inserted : List (Insertion T)) → IsArrangedOn below joined minimum p d n start inserted → IsArrangedOn below joined minimum p c n start (goes_in ∷ inserted))
       → IsGive below p w given held (cut below p given) × IsOwn below joined minimum p (give_state below p w given held (cut below p given)) k c Free
-  sealed_given some cuts c desks sharing waits_still into =
+  sealed_given some cuts c desks stay waits_still into =
       let sent = cut below p given in
       let start = works.start n in
       let inserted = works.inserted n in
@@ -93,7 +93,7 @@ module _ {T : Type 0} (below : T → T → Bool) (joined : T → T → T) (minim
         λ e. absurd (none-some x.on.key (sym e ∙ ap arranged_by x.on.node)),
       ) in (
         give,
-        given_with below joined minimum o p q w k n within d (Sealed n batch) x refl (λ m ne. sealed_idle m n batch ne) (λ port. refl) refl batch.updates here_is here_is held sent cuts is_held c desks sharing (record x.keeps { works = next_works })
+        given_with below joined minimum o p q w k n within d (Sealed n batch) x refl (λ m ne. sealed_idle m n batch ne) (λ port. refl) refl batch.updates here_is here_is held sent cuts is_held c desks give (record x.keeps { works = next_works }) refl (stay x.keeps.ports x.holding)
             (λ m ne. record {
               waiting = ap (λ b. cond b rest (works.waiting m)) (ne_eqb m n ne);
               start = refl;
@@ -140,7 +140,7 @@ module _ {T : Type 0} (below : T → T → Bool) (joined : T → T → T) (minim
         λ e. absurd (none-some x.on.key (sym e ∙ ap arranged_by x.on.node)),
       ) in (
         give,
-        given_with below joined minimum o p q w k n within d (Sealed n batch) x refl (λ m ne. sealed_idle m n batch ne) (λ port. refl) refl [] nothing_here nothing_here held [] none is_held d (λ m ne. same_desk m d) x.sharing (record x.keeps { works = next_works })
+        given_with below joined minimum o p q w k n within d (Sealed n batch) x refl (λ m ne. sealed_idle m n batch ne) (λ port. refl) refl [] nothing_here nothing_here held [] none is_held d (λ m ne. same_desk m d) give (record x.keeps { works = next_works }) refl x.holding
             (λ m ne. record {
               waiting = (same_but n rest works).waiting m ne;
               start = refl;

@@ -26,6 +26,8 @@ use Rattle.histories.specs.declared.event.Bundle.{Bundle}
 use Rattle.histories.specs.declared.event.Event.TheVariants.{Take}
 use Rattle.histories.specs.Histories.Dataflows.{Dataflow, IsDataflow, node_of}
 use Rattle.histories.specs.Histories.NodeLaws.{received_at}
+use Rattle.histories.specs.Histories.Outstanding.{port_frontier}
+use Rattle.histories.specs.Histories.Promises.{NeverGoesBack}
 use Rattle.histories.specs.Histories.States.{State, emitted_by, times}
 use Rattle.histories.specs.Histories.{IsTake, next_state, with_at}
 use Rattle.operator_laws.specs.Arranging.{IsArranging}
@@ -35,9 +37,10 @@ use Rattle.operator_laws.specs.Reducing.{IsPendingWith}
 use Rattle.operator_laws.specs.Working.{Works, IsWorking, IsWorkingAt, IsSameBut}
 use Rattle.operator_laws.proofs.ArrangingLemmas.{took_arranging}
 use Rattle.operator_laws.proofs.GatheringLemmas.{took_gathering, linear_piece_lem, beyond_both}
+use Rattle.operator_laws.proofs.PortLemmas.{port_stays, port_taken}
 use Rattle.operator_laws.proofs.WorkingLemmas.{takes_lem}
 use Rattle.operator.specs.Reductions.{pending_of}
-use Rattle.desk_laws.specs.Own.{DeskView, Keeps, IsOwn, in_hand_at, is_taken_at, made_of, made_of_pairs, waits_on}
+use Rattle.desk_laws.specs.Own.{AreHolding, DeskView, Keeps, IsOwn, in_hand_at, is_taken_at, made_of, made_of_pairs, waits_on}
 use Rattle.desk_laws.specs.declared.hand.Hand.{Hand}
 use Rattle.desk_laws.specs.declared.hand.Hand.TheVariants.{Free, Taken}
 use Rattle.desk_laws.proofs.TakenAtLemmas.{left_taken, right_taken, reduce_taken, with_left, with_right, with_pending}
@@ -171,23 +174,24 @@ module _ {T : Type 0} (below : T → T → Bool) (joined : T → T → T) (minim
   elsewhere_received m ne = ap (λ b. cond (b && (eqb bundle.place.port 0 && eqb k k)) bundle.updates [] ++ received_at w m k 0) (ne_eqb n m (λ e. ne (sym e)))
 
   -- the worker's own, from what is kept at the node
-  own_with : (next : Keeps T) → ((m : ℕ) → m ≢ n → AreSameAt m x.keeps next) → IsWorking below p v k next.works → IsLaidAt below joined minimum p d h next n
+  own_with : (next : Keeps T) → next.ports ≡ x.keeps.ports → ((m : ℕ) → m ≢ n → AreSameAt m x.keeps next) → IsWorking below p v k next.works → IsLaidAt below joined minimum p d h next n
       → ((source : ℕ) (kind : Kind) → node_of p n ≡ Reduce kind source → received_at v n k 0 ≡ next.received n)
       → ((source : ℕ) (kind : Kind) → node_of p n ≡ Reduce kind source → emitted_by n k w.emitted ≡ next.given n)
       → IsOwn below joined minimum p v k d h
-  own_with next same working at got gave = record {
+  own_with next ports same working at got gave = record {
     worker = x.worker;
     keeps = next;
     keeping = record {
       working = working;
       received = λ m source kind l e. received m source kind l e (eqb m n) refl;
       given = λ m source kind l e. given m source kind l e (eqb m n) refl;
+      ports = λ m port. subst (λ (fs : ℕ → ℕ → List T). NeverGoesBack below (fs m port) (port_frontier below p v m port)) (sym ports) (port_stays below o p q w (Take number bundle) take m port (x.keeps.ports m port) (x.keeping.ports m port));
     };
     laid = of_each below joined minimum p d h next (λ m l. laid m l (eqb m n) refl);
     hand = ap (λ b. cond b (Some n) (w.hand k)) (eq-eqb k k refl);
-    come = tt;
+    come = subst (λ (fs : ℕ → ℕ → List T). IsTrue (all_beyond below (fs n bundle.place.port) (times bundle.updates))) (sym ports) (port_taken below o p q w number bundle stamped take (x.keeps.ports n bundle.place.port) (x.keeping.ports n bundle.place.port));
     on = tt;
-    sharing = x.sharing;
+    holding = subst (AreHolding below p d) (sym ports) x.holding;
   }
     where
       received : (m source : ℕ) (kind : Kind) → m < length p.nodes → node_of p m ≡ Reduce kind source → (b : Bool) → eqb m n ≡ b → received_at v m k 0 ≡ next.received m
@@ -226,7 +230,7 @@ module _ {T : Type 0} (below : T → T → Bool) (joined : T → T → T) (minim
       let gathered : arranged_by (node_of p n) ≡ None → IsGathering below p v n k (made ++ old)
       = λ e. took_gathering below o p w number bundle made old stamped (kept.1 e) piece in
       let at = subst (IsKeptAt below p v k next_works n) (sym (waiting_there n (made ++ old) works)) (arranged, gathered) in
-      own_with next
+      own_with next refl
       (λ m ne. record {
         waiting = (same_but n (made ++ old) works).waiting m ne;
         start = refl;
@@ -296,7 +300,7 @@ module _ {T : Type 0} (below : T → T → Bool) (joined : T → T → T) (minim
           let out = pairs joined width bundle.updates (all_updates (own_works.right at_node)) in
           let t = left_taken below o joined join_below p q w bundle take stamped within l r e own_works x.keeping.working out f (left_pairs below o joined join_left join_right width bundle.updates (all_updates (own_works.right at_node))) in
           let next_works = with_left below o joined join_below p q w bundle take stamped within l r e own_works x.keeping.working out t.0 in
-          own_with below joined minimum o p q w 0 bundle take stamped within d more x (record x.keeps { works = next_works })
+          own_with below joined minimum o p q w 0 bundle take stamped within d more x (record x.keeps { works = next_works }) refl
           (λ m ne. record {
             waiting = ap (λ b. cond b (out ++ own_works.waiting at_node) (own_works.waiting m)) (ne_eqb m at_node ne);
             start = refl;
@@ -347,7 +351,7 @@ module _ {T : Type 0} (below : T → T → Bool) (joined : T → T → T) (minim
           let out = pairs joined width (all_updates (own_works.left at_node)) bundle.updates in
           let t = right_taken below o joined join_below p q w bundle take stamped within l r e own_works x.keeping.working out f (right_pairs below o joined join_left join_right width bundle.updates (all_updates (own_works.left at_node))) in
           let next_works = with_right below o joined join_below p q w bundle take stamped within l r e own_works x.keeping.working out t.0 in
-          own_with below joined minimum o p q w 0 bundle take stamped within d more x (record x.keeps { works = next_works })
+          own_with below joined minimum o p q w 0 bundle take stamped within d more x (record x.keeps { works = next_works }) refl
           (λ m ne. record {
             waiting = ap (λ b. cond b (out ++ own_works.waiting at_node) (own_works.waiting m)) (ne_eqb m at_node ne);
             start = refl;
@@ -404,7 +408,7 @@ module _ {T : Type 0} (below : T → T → Bool) (joined : T → T → T) (minim
       let next_works = with_pending below o joined join_below p q w bundle take stamped within kind s e own_works x.keeping.working pending in
       let next : Keeps T = record x.keeps { works = next_works; received = with_at x.keeps.received at_node (us ++ x.keeps.received at_node) } in
       let is_received : next.received at_node ≡ us ++ x.keeps.received at_node = ap (λ b. cond b (us ++ x.keeps.received at_node) (x.keeps.received at_node)) (eq-eqb at_node at_node refl) in
-      own_with below joined minimum o p q w 0 bundle take stamped within d more x next
+      own_with below joined minimum o p q w 0 bundle take stamped within d more x next refl
       (λ m ne. record {
         waiting = refl;
         start = refl;

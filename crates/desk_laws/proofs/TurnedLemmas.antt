@@ -13,6 +13,7 @@ use Rattle.histories.specs.Histories.Actors.{observed_by}
 use Rattle.histories.specs.Histories.States.{ObservedFrontier, State}
 use Rattle.histories.specs.Histories.{IsTakeHeld, next_state}
 use Rattle.operator_laws.specs.Working.{IsWorkingAt}
+use Rattle.operator_laws.proofs.PortLemmas.{port_stays}
 use Rattle.operator_laws.proofs.ReducingLemmas.{turned_was}
 use Rattle.operator_laws.proofs.WorkingLemmas.{same_working}
 use Rattle.desk_laws.specs.Observed.{newest_observed}
@@ -29,6 +30,7 @@ turned_lem {T} below joined minimum o p q w k n turn d upper same x = record {
     working = same_working below o p q w k x.keeps.works x.keeping.working (TakeHeld k n) turn refl;
     received = x.keeping.received;
     given = x.keeping.given;
+    ports = λ m port. port_stays below o p q w (TakeHeld k n) turn m port (x.keeps.ports m port) (x.keeping.ports m port);
   };
   laid = of_each below joined minimum p d (Turned n upper) x.keeps (λ m l. laid_same below joined minimum p m d d (same_desk m d) x.keeps x.keeps (same_keeps m x.keeps) Free (Turned n upper) (free_idle m) (turned_idle m n upper) (at_each below joined minimum p d Free x.keeps x.laid m l));
   hand = ap (λ b. cond b (Some n) (w.hand k)) (eq-eqb k k refl);
@@ -40,7 +42,7 @@ turned_lem {T} below joined minimum o p q w k n turn d upper same x = record {
     on = λ source kind e t h. ap not (same t) ∙ (subst (λ node. IsWorkingAt below p w k x.keeps.works n node) e (x.keeping.working n turn.within)).passed t h;
   };
   on = tt;
-  sharing = x.sharing;
+  holding = x.holding;
 }
   where
     found : ObservedFrontier T

@@ -17,13 +17,14 @@ use Rattle.batch.specs.Intervals.{all_between}
 use Rattle.batch.specs.Descriptions.{BatchState}
 use Rattle.trace.specs.Readings.{Insertion, all_updates, reached}
 use Rattle.trace.specs.BatchLists.{Continues}
+use Rattle.trace.specs.Holds.{HoldState}
 use Rattle.spine.specs.Spines.{Stands}
 use Rattle.join.specs.Pairs.{pairs}
 use Rattle.histories.specs.declared.event.Bundle.{Bundle}
 use Rattle.histories.specs.Histories.Dataflows.{Dataflow, node_of, source_of}
 use Rattle.histories.specs.Histories.NodeLaws.{received_at, was_passed}
 use Rattle.histories.specs.Histories.States.{State, emitted_by, times}
-use Rattle.histories.specs.Histories.Outstanding.{input_frontier}
+use Rattle.histories.specs.Histories.Outstanding.{input_frontier, port_frontier}
 use Rattle.histories.specs.Histories.Promises.{NeverGoesBack}
 use Rattle.operator.specs.Arrangements.{ArrangementState, AreInTurn, IsOpen, rows_have, times_from, upper_of}
 use Rattle.operator.specs.Joins.{JoiningView}
@@ -42,15 +43,17 @@ pub record DeskView (T : Type 0) : Type 0 where
   pub joins : List (Option (JoiningView T))
   pub reductions : List (Option (ReducingView T))
 
--- what a worker keeps at all nodes, and at each reduction all that it received and gave there
+-- what a worker keeps at all nodes, at each reduction all that it received and gave there, and for
+-- each port of a node a frontier that the port's input frontier has reached
 pub record Keeps (T : Type 0) : Type 0 where
   pub works : Works T
   pub received : ℕ → List (Update T)
   pub given : ℕ → List (Update T)
+  pub ports : ℕ → ℕ → List T
 
 -- what a worker keeps before the first event
 abbrev pub first_keeps : {T : Type 0} → T → Keeps T
-first_keeps minimum = record { works = first_works minimum; received = λ _. []; given = λ _. [] }
+first_keeps minimum = record { works = first_works minimum; received = λ _. []; given = λ _. []; ports = λ _ _. minimum ∷ [] }
 
 module _ {T : Type 0} where
   -- the node of the piece in hand
@@ -145,7 +148,12 @@ pub record IsOfOneShape {T : Type 0} (r s : ReducingView T) : Type 0 where
   pub key : s.key ≡ r.key
   pub width : s.width ≡ r.width
 
--- ---- the holds that joins have at the arrangements that they read
+-- ---- the holds that readers have at the arrangements that they read
+
+-- the port of a join that is not this one
+abbrev pub other_port : ℕ → ℕ
+other_port zero = 1
+other_port (suc port) = 0
 
 module _ {T : Type 0} where
   -- the number of the hold that a join has at the arrangement that it reads at a port, and how far
@@ -165,23 +173,57 @@ module _ {T : Type 0} where
     pub reads : source_of p n port ≡ Some source
     pub there : slice_get d.joins n ≡ Some (Some j)
 
-  -- the arrangement of the source has a hold of this number, other than its own, for a reader that
-  -- sums at all times and has taken all up to the boundary. The hold may lag behind it
-  pub record HasHold (below : T → T → Bool) (minimum : T) (d : DeskView T) (source number : ℕ) (boundary : List T) : Type 0 where
+  -- node n is a reduction, which reads the source, and this lies on the desk for it
+  pub record Reduces (p : Dataflow) (d : DeskView T) (n source : ℕ) (r : ReducingView T) : Type 0 where
+    pub within : n < length p.nodes
+    pub kind : Kind
+    pub node : node_of p n ≡ Reduce kind source
+    pub there : slice_get d.reductions n ≡ Some (Some r)
+
+  -- the arrangement of the source has a hold of this number. It keeps the updates of these times apart
+  -- from later ones
+  pub record KeepsApart (below : T → T → Bool) (d : DeskView T) (source number : ℕ) (ts : List T) : Type 0 where
+    pub arrangement : ArrangementState T
+    pub there : slice_get d.arrangements source ≡ Some (Some arrangement)
+    pub hold : HoldState T
+    pub held : slice_get arrangement.holds number ≡ Some hold
+    pub apart : IsTrue (all_beyond below hold.logical ts)
+
+  -- the same, for a reader that has taken all up to the boundary. The hold is none that the arrangement
+  -- has for itself, and it may lag behind
+  pub record HasHold (below : T → T → Bool) (d : DeskView T) (source number : ℕ) (boundary ts : List T) : Type 0 where
     pub arrangement : ArrangementState T
     pub there : slice_get d.arrangements source ≡ Some (Some arrangement)
     pub other : 0 < number
-    pub physical : List T
-    pub hold : slice_get arrangement.holds number ≡ Some (record { logical = minimum ∷ []; physical = physical })
-    pub behind : IsTrue (all_beyond below physical boundary)
+    pub hold : HoldState T
+    pub held : slice_get arrangement.holds number ≡ Some hold
+    pub apart : IsTrue (all_beyond below hold.logical ts)
+    pub behind : IsTrue (all_beyond below hold.physical boundary)
 
   -- each join has a hold at the arrangements of both its sources, no further than it has taken there,
-  -- and no two have one hold
-  pub record AreSharing (below : T → T → Bool) (minimum : T) (p : Dataflow) (d : DeskView T) : Type 0 where
+  -- for what may come at its other port. No two have one hold
+  pub record AreSharing (below : T → T → Bool) (p : Dataflow) (d : DeskView T) (ports : ℕ → ℕ → List T) : Type 0 where
     pub held : (n port source : ℕ) (j : JoiningView T) → ReadsAt p d n port source j
-        → HasHold below minimum d source (hold_at port j) (boundary_at port j)
+        → HasHold below d source (hold_at port j) (boundary_at port j) (ports n (other_port port))
     pub apart : (n port m other source : ℕ) (i j : JoiningView T) → ReadsAt p d n port source i → ReadsAt p d m other source j
         → hold_at port i ≡ hold_at other j → (n ≡ m) × (port ≡ other)
+
+  -- so it is, and the hold that an arrangement has for itself serves the reductions that read it, for
+  -- what is pending there and what may come
+  pub record AreHolding (below : T → T → Bool) (p : Dataflow) (d : DeskView T) (ports : ℕ → ℕ → List T) : Type 0 where
+    pub joins : AreSharing below p d ports
+    pub pending : (n source : ℕ) (r : ReducingView T) → Reduces p d n source r → KeepsApart below d source 0 (pending_of r)
+    pub come : (n source : ℕ) (r : ReducingView T) → Reduces p d n source r → KeepsApart below d source 0 (ports n 0)
+
+  -- whatever the ports' frontiers have reached: if the readers have their holds on the one desk, then
+  -- they have them on the other
+  abbrev pub StayHolding : (T → T → Bool) → Dataflow → DeskView T → DeskView T → Type 0
+  StayHolding below p d c = (ports : ℕ → ℕ → List T) → AreHolding below p d ports → AreHolding below p c ports
+
+  -- the same, if these times came at a port beyond what its frontier had reached
+  abbrev pub StayHoldingWith : (T → T → Bool) → Dataflow → DeskView T → DeskView T → ℕ → ℕ → List T → Type 0
+  StayHoldingWith below p d c n port ts = (ports : ℕ → ℕ → List T) → IsTrue (all_beyond below (ports n port) ts)
+      → AreHolding below p d ports → AreHolding below p c ports
 
 -- ---- what lies on the desk and is in hand is what the worker keeps
 
@@ -192,14 +234,15 @@ pub record IsTakenBefore {T : Type 0} (h : Hand T) (n port : ℕ) (all taken : L
       → (i : Insertion T) × (all ≡ i ∷ taken) × (i.updates ≡ bundle.updates)
 
 module _ {T : Type 0} (below : T → T → Bool) (joined : T → T → T) (minimum : T) where
-  -- what worker k keeps is right for the state: at every node, and at a reduction all that it received
-  -- and gave
+  -- what worker k keeps is right for the state: at every node, at a reduction all that it received and
+  -- gave, and how far the ports' frontiers have come
   pub record IsKeeping (p : Dataflow) (w : State T) (k : ℕ) (keeps : Keeps T) : Type 0 where
     pub working : IsWorking below p w k keeps.works
     pub received : (n source : ℕ) (kind : Kind) → n < length p.nodes → node_of p n ≡ Reduce kind source
         → received_at w n k 0 ≡ keeps.received n
     pub given : (n source : ℕ) (kind : Kind) → n < length p.nodes → node_of p n ≡ Reduce kind source
         → emitted_by n k w.emitted ≡ keeps.given n
+    pub ports : (n port : ℕ) → NeverGoesBack below (keeps.ports n port) (port_frontier below p w n port)
 
   -- the arrangement of a node has a spine that stands for these insertions
   pub record IsSpineAt (p : Dataflow) (n : ℕ) (inserted : List (Insertion T)) (a : ArrangementState T) : Type 0 where
@@ -321,10 +364,13 @@ module _ {T : Type 0} (below : T → T → Bool) (joined : T → T → T) (minim
   HasTurnedTo p w k keeps n upper =
       HasTurned p w k n (keeps.works.upper n) (reached (keeps.works.start n) (keeps.works.inserted n)) upper
 
-  -- what the piece in hand says of the state: how far an input frontier has come, or what was found
+  -- what the piece in hand says of the state: how far an input frontier has come, or had come when the
+  -- bundle was taken, or what was found
   abbrev pub HasCome : Dataflow → State T → ℕ → DeskView T → Keeps T → Hand T → Type 0
   HasCome p w k d keeps (Turned node upper) = HasTurnedTo p w k keeps node upper
   HasCome p w k d keeps (Sealed node batch) = HasTurnedTo p w k keeps node batch.description.upper
+  HasCome p w k d keeps (Taken bundle more) =
+      IsTrue (all_beyond below (keeps.ports bundle.place.node bundle.place.port) (times bundle.updates))
   HasCome p w k d keeps (Ready node updates) = (source : ℕ) (kind : Kind) → node_of p node ≡ Reduce kind source
       → IsFoundOn p w k d keeps node updates
   HasCome p w k d keeps other = ⊤
@@ -338,4 +384,4 @@ module _ {T : Type 0} (below : T → T → Bool) (joined : T → T → T) (minim
     pub hand : w.hand k ≡ hand_node h
     pub come : HasCome p w k d keeps h
     pub on : IsHandOn p d h
-    pub sharing : AreSharing below minimum p d
+    pub holding : AreHolding below p d keeps.ports

@@ -11,7 +11,7 @@ ghost use Rattle.histories.specs.Histories.Cuts.{cut};
 ghost use Rattle.histories.specs.Histories.Dataflows.{Dataflow, IsDataflow, node_of};
 ghost use Rattle.histories.specs.Histories.States.{State};
 ghost use Rattle.desk_laws.specs.Observed.{HoldsBeyondNewest};
-ghost use Rattle.desk_laws.specs.Own.{AreSharing, DeskView, IsArrangedOn, IsOwn, IsSameAt, due_on, waits_on};
+ghost use Rattle.desk_laws.specs.Own.{DeskView, IsArrangedOn, IsOwn, IsSameAt, StayHolding, due_on, waits_on};
 ghost use Rattle.operator_laws.specs.Gathering.{IsCut, IsHeldFor};
 ghost use Rattle.desk_laws.specs.declared.hand.Hand.TheVariants.{Free, Kept, Ready, Sealed};
 
@@ -52,7 +52,7 @@ pub fn sealed_is_given<T: Minimum>()
         → IsOwn T.below T.joined T.least p w k d (Sealed n batch) → batch.updates ≢ []
         → IsCut T.below p (record { node = n; worker = k; updates = batch.updates })
         (cut T.below p (record { node = n; worker = k; updates = batch.updates }))
-        → (c : DeskView T) → ((m : ℕ) → m ≢ n → IsSameAt m d c) → AreSharing T.below T.least p c
+        → (c : DeskView T) → ((m : ℕ) → m ≢ n → IsSameAt m d c) → StayHolding T.below p d c
         → waits_on c n (node_of p n) ≡ waits_on d n (node_of p n)
         → ((start : List T) (inserted : List (Insertion T))
         → IsArrangedOn T.below T.joined T.least p d n start inserted

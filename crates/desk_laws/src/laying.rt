@@ -22,7 +22,7 @@ ghost use Rattle.operator_laws.specs.Joining.{on_top};
 ghost use Rattle.operator.specs.Joins.{JoiningView};
 ghost use Rattle.operator.specs.Reductions.{IsPendingAfter, IsReduced, ReducingView, SumsToReceived, pending_of};
 ghost use Rattle.operator.specs.Arrangements.{ArrangementState};
-ghost use Rattle.desk_laws.specs.Own.{AreSharing, DeskView, IsArrangedOn, IsHandOn, IsMergedAt, IsNextBatch, IsNextBoundary, IsOfOneShape, IsOwn, IsSameAt, waits_on};
+ghost use Rattle.desk_laws.specs.Own.{DeskView, IsArrangedOn, IsHandOn, IsMergedAt, IsNextBatch, IsNextBoundary, IsOfOneShape, IsOwn, IsSameAt, StayHolding, StayHoldingWith, waits_on};
 ghost use Rattle.operator_laws.specs.Gathering.{IsSplit};
 ghost use Rattle.desk_laws.specs.declared.hand.Hand.{Hand};
 ghost use Rattle.desk_laws.specs.declared.hand.Hand.TheVariants.{Kept, Ready, Sealed, Taken, Turned};
@@ -33,7 +33,7 @@ use lattice::Minimum;
 /// the desk has what sums to the same, and no more.
 pub fn kept_is_laid<T: Minimum>()
     ensures { (p : Dataflow) → IsDataflow p → (w : State T) (k : ℕ) (d c : DeskView T)
-        → AreSharing T.below T.least p c → (bundle : Bundle T) (more : Bool)
+        → StayHolding T.below p d c → (bundle : Bundle T) (more : Bool)
         → bundle.place.node < length p.nodes → IsTrue (is_linear (node_of p bundle.place.node))
         → ((m : ℕ) → m ≢ bundle.place.node → IsSameAt m d c)
         → ((start : List T) (inserted : List (Insertion T))
@@ -51,7 +51,7 @@ pub fn kept_is_laid<T: Minimum>()
 /// one in hand is of the batch that begins where the join had come to.
 pub fn kept_is_joined<T: Minimum>()
     ensures left { (p : Dataflow) → IsDataflow p → (w : State T) (k : ℕ) (d c : DeskView T)
-        → AreSharing T.below T.least p c → (bundle : Bundle T) (more : Bool)
+        → StayHolding T.below p d c → (bundle : Bundle T) (more : Bool)
         → bundle.place.node < length p.nodes → (l r : ℕ)
         → node_of p bundle.place.node ≡ Join l r
         → ((m : ℕ) → m ≢ bundle.place.node → IsSameAt m d c) → (j i : JoiningView T)
@@ -69,7 +69,7 @@ pub fn kept_is_joined<T: Minimum>()
         → IsOwn T.below T.joined T.least p w k d (Taken bundle more)
         → IsOwn T.below T.joined T.least p w k c (Kept bundle.place.node more) }
     ensures right { (p : Dataflow) → IsDataflow p → (w : State T) (k : ℕ) (d c : DeskView T)
-        → AreSharing T.below T.least p c → (bundle : Bundle T) (more : Bool)
+        → StayHolding T.below p d c → (bundle : Bundle T) (more : Bool)
         → bundle.place.node < length p.nodes → (l r : ℕ)
         → node_of p bundle.place.node ≡ Join l r
         → ((m : ℕ) → m ≢ bundle.place.node → IsSameAt m d c) → (j i : JoiningView T)
@@ -91,7 +91,8 @@ pub fn kept_is_joined<T: Minimum>()
 /// What a bundle brought is pending at a reduction, which stands for it from then on.
 pub fn kept_is_reduced<T: Minimum>()
     ensures { (p : Dataflow) → IsDataflow p → (w : State T) (k : ℕ) (d c : DeskView T)
-        → AreSharing T.below T.least p c → (bundle : Bundle T) (more : Bool)
+        → (bundle : Bundle T) (more : Bool)
+        → StayHoldingWith T.below p d c bundle.place.node bundle.place.port (times bundle.updates)
         → bundle.place.node < length p.nodes → (kind : Kind) (source : ℕ)
         → node_of p bundle.place.node ≡ Reduce kind source
         → ((m : ℕ) → m ≢ bundle.place.node → IsSameAt m d c) → (r s : ReducingView T)
@@ -113,7 +114,7 @@ pub fn kept_is_reduced<T: Minimum>()
 /// that is not arranged, and no reduction.
 pub fn ready_is_laid<T: Minimum>()
     ensures kept { (p : Dataflow) → IsDataflow p → (w : State T) (k : ℕ) (d c : DeskView T)
-        → AreSharing T.below T.least p c → (n : ℕ) → n < length p.nodes
+        → StayHolding T.below p d c → (n : ℕ) → n < length p.nodes
         → ((m : ℕ) → m ≢ n → IsSameAt m d c) → (out : List (Update T))
         → IsSplit T.below (waits_on d n (node_of p n)) out (waits_on c n (node_of p n))
         → (more : Bool) → arranged_by (node_of p n) ≡ None → is_reduction (node_of p n) ≡ false
@@ -121,7 +122,7 @@ pub fn ready_is_laid<T: Minimum>()
         → IsOwn T.below T.joined T.least p w k d (Kept n more)
         → IsOwn T.below T.joined T.least p w k c (Ready n out) }
     ensures turned { (p : Dataflow) → IsDataflow p → (w : State T) (k : ℕ) (d c : DeskView T)
-        → AreSharing T.below T.least p c → (n : ℕ) → n < length p.nodes
+        → StayHolding T.below p d c → (n : ℕ) → n < length p.nodes
         → ((m : ℕ) → m ≢ n → IsSameAt m d c) → (out : List (Update T))
         → IsSplit T.below (waits_on d n (node_of p n)) out (waits_on c n (node_of p n))
         → (upper : List T) → arranged_by (node_of p n) ≡ None
@@ -137,7 +138,7 @@ pub fn ready_is_laid<T: Minimum>()
 pub fn found_is_laid<T: Minimum>()
     ensures { (p : Dataflow) → IsDataflow p → (es : List (Event T))
         → IsLegal T.below T.least p es → (k : ℕ) (d c : DeskView T)
-        → AreSharing T.below T.least p c → (n : ℕ) → n < length p.nodes → (kind : Kind) (source : ℕ)
+        → StayHolding T.below p d c → (n : ℕ) → n < length p.nodes → (kind : Kind) (source : ℕ)
         → node_of p n ≡ Reduce kind source → ((m : ℕ) → m ≢ n → IsSameAt m d c)
         → (r s : ReducingView T) → slice_get d.reductions n ≡ Some (Some r)
         → slice_get c.reductions n ≡ Some (Some s) → IsOfOneShape r s
@@ -162,7 +163,7 @@ pub fn found_is_laid<T: Minimum>()
 /// to be given and inserted, and the rest stays.
 pub fn sealed_is_laid<T: Minimum>()
     ensures { (p : Dataflow) → IsDataflow p → (w : State T) (k : ℕ) (d c : DeskView T)
-        → AreSharing T.below T.least p c → (n source key : ℕ) → n < length p.nodes
+        → StayHolding T.below p d c → (n source key : ℕ) → n < length p.nodes
         → node_of p n ≡ Arrange source key → ((m : ℕ) → m ≢ n → IsSameAt m d c)
         → (upper : List T) (batch : BatchState T)
         → IsSplit T.below (waits_on d n (node_of p n)) batch.updates (waits_on c n (node_of p n))
@@ -178,7 +179,7 @@ pub fn sealed_is_laid<T: Minimum>()
 /// Merges leave a desk right, whatever is in hand: each arrangement stands for what it stood for, and
 /// has the same waiting. A batch in hand must still go on from its spine.
 pub fn merged_is_laid<T: Minimum>()
-    ensures { (p : Dataflow) (w : State T) (k : ℕ) (d c : DeskView T) → AreSharing T.below T.least p c
+    ensures { (p : Dataflow) (w : State T) (k : ℕ) (d c : DeskView T) → StayHolding T.below p d c
         → ((n : ℕ) → IsMergedAt T.below T.joined T.least p n d c) → (h : Hand T)
         → IsHandOn T.below T.joined T.least p c h
         → IsOwn T.below T.joined T.least p w k d h → IsOwn T.below T.joined T.least p w k c h }

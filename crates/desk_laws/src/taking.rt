@@ -12,7 +12,7 @@ ghost use Rattle.histories.specs.Histories.Outstanding.{input_frontier};
 ghost use Rattle.histories.specs.Histories.States.{State, times};
 ghost use Rattle.shared_board.specs.declared.event.Doing.{Doing};
 ghost use Rattle.shared_board.specs.Tenures.{AreOn, Terms, events, left_by};
-ghost use Rattle.desk_laws.specs.Own.{AreSharing, DeskView, IsLaid, IsOwn, first_keeps};
+ghost use Rattle.desk_laws.specs.Own.{AreHolding, DeskView, IsLaid, IsOwn, first_keeps};
 ghost use Rattle.operator_laws.specs.Gathering.{IsStamped};
 ghost use Rattle.desk_laws.specs.declared.hand.Hand.{Hand};
 ghost use Rattle.desk_laws.specs.declared.hand.Hand.TheVariants.{Free, Taken, Turned};
@@ -22,7 +22,7 @@ use lattice::Minimum;
 /// A desk on which nothing was laid yet is right before the first event, for any worker of the plan.
 pub fn first_is_laid<T: Minimum>()
     ensures { (p : Dataflow) → IsDataflow p → (k : ℕ) → k < p.workers → (d : DeskView T)
-        → AreSharing T.below T.least p d
+        → AreHolding T.below p d (λ n port. T.least ∷ [])
         → IsLaid T.below T.joined T.least p d Free (first_keeps T.least)
         → IsOwn T.below T.joined T.least p (initial_state T.below T.least p) k d Free }
 {}

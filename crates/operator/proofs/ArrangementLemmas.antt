@@ -1,7 +1,6 @@
 -- What an arrangement keeps, step by step.
 use Rattle.std.proofs.Common.{◌≡◌, ℕ, ◌+◌, ◌<◌, Bool, List, [], ◌∷◌, ◌++◌, map, set, slice_get, Some, length, length-append, IsTrue, inl, inr, ⊎_elim, refl, sym, ◌∙◌, ap, subst, arith}
-use Rattle.std.specs.List.{All, Contains, list_all, slice_index_or}
-use Rattle.std.specs.Cmp.{IsTotalOrder}
+use Rattle.std.specs.List.{All, Contains, list_all, list_any, slice_index_or}
 use Rattle.std.specs.declared.cmp.Ordering.{Ordering}
 use Rattle.std.proofs.lemmas.List.{length-set}
 use Rattle.std.specs.Prelude.{eqb}
@@ -10,9 +9,8 @@ use Rattle.std.proofs.lemmas.List.Elements.{All-weaker, All-push, All-set}
 use Rattle.std.proofs.lemmas.List.Folds.{list_all-append}
 use Rattle.std.proofs.lemmas.Option.{get_or_from_slice_get, slice_get-get_or, slice_get_within}
 use Rattle.lattice.specs.Order.{PartialOrderLaws}
-use Rattle.lattice.specs.Frontiers.{all_beyond}
+use Rattle.lattice.specs.Frontiers.{all_beyond, is_beyond}
 use Rattle.lattice.proofs.FrontierLemmas.{beyond_itself, all_beyond_later}
-use Rattle.antichain.proofs.AntichainLemmas.{frontier_by_beyond, frontier_one_time}
 use Rattle.antichain.proofs.Lists.{Among, among_contains, contains_among, all_filter}
 use Rattle.update.specs.declared.change.Update.{Update}
 use Rattle.batch.specs.Descriptions.{BatchState}
@@ -28,7 +26,7 @@ use Rattle.spine.specs.Spines.{SpineState, Stands, AreAllowed, IsWorked, after, 
 use Rattle.spine.proofs.HoldersLemmas.{all_same, hold_begun}
 use Rattle.spine.proofs.StandingLemmas.{end_changed}
 use Rattle.operator.specs.Arrangements.{ArrangementState, IsArrangement, IsNew, IsReader, rows_have, times_from, upper_of}
-use Rattle.operator.proofs.HoldLemmas.{beyond_since, first_last, own_moved, some_passes}
+use Rattle.operator.proofs.HoldLemmas.{any_push, any_same, first_last, or_false, own_moved, some_passes, any_at}
 
 module _ {T : Type 0} where
   -- the spine with one more batch
@@ -71,9 +69,8 @@ module _ {T : Type 0} (below : T → T → Bool) (o : PartialOrderLaws below) (l
       ∙ end_worked below o s.since s.holds w.changes s.list.start s.list.batches w.allowed
 
   -- a hold from the upper frontier on is a reader
-  reader_at_upper : (s : SpineState T) (h : HoldState T) → h.logical ≡ least ∷ [] → h.physical ≡ upper_of s → IsReader below least s h
-  reader_at_upper s h logical physical = record {
-    logical = logical;
+  reader_at_upper : (s : SpineState T) (h : HoldState T) → h.physical ≡ upper_of s → IsReader below s h
+  reader_at_upper s h physical = record {
     boundary = subst (Contains (boundaries s)) (sym physical) (reached_boundary s.list);
     behind = subst (λ u. IsTrue (all_beyond below u (upper_of s))) (sym physical) (beyond_itself o (upper_of s));
   }
@@ -87,8 +84,9 @@ module _ {T : Type 0} (below : T → T → Bool) (o : PartialOrderLaws below) (l
       record {
         holds = subst (λ hs. AreSameHolds hs a.spine.holds) (theirs ∙ sym own) (all_same a.spine.holds);
         own = subst (λ (hs : List (HoldState T)). 0 < length hs) (sym own) (omega arith);
-        readers = subst (All (IsReader below least a.spine)) (sym own) (All-push (IsReader below least a.spine) [] h (λ k d l. absurd (omega (arith, l))) (reader_at_upper a.spine h logical (physical ∙ sym upper)));
-        since = since;
+        readers = subst (All (IsReader below a.spine)) (sym own) (All-push (IsReader below a.spine) [] h (λ k d l. absurd (omega (arith, l))) (reader_at_upper a.spine h (physical ∙ sym upper)));
+        since = λ t. ap (λ F. is_beyond below F t) (since ∙ sym logical) ∙ sym (ap (list_any (λ (k : HoldState T). is_beyond below k.logical t)) own ∙ or_false (is_beyond below h.logical t));
+        begun = subst (λ F. IsTrue (all_beyond below (least ∷ []) F)) (sym since) (beyond_itself o (least ∷ []));
         start = start;
         rows = subst (λ us. IsTrue (rows_have a.width us)) (sym none) refl;
         times = subst (λ us. IsTrue (times_from below least us)) (sym none) refl;
@@ -97,9 +95,8 @@ module _ {T : Type 0} (below : T → T → Bool) (o : PartialOrderLaws below) (l
       }
 
   -- the same batches with other holds
-  readers_kept : (s t : SpineState T) (hs : List (HoldState T)) → t.list ≡ s.list → All (IsReader below least s) hs → All (IsReader below least t) hs
-  readers_kept s t hs e all = All-weaker (IsReader below least s) (IsReader below least t) (λ h r. record {
-    logical = r.logical;
+  readers_kept : (s t : SpineState T) (hs : List (HoldState T)) → t.list ≡ s.list → All (IsReader below s) hs → All (IsReader below t) hs
+  readers_kept s t hs e all = All-weaker (IsReader below s) (IsReader below t) (λ h r. record {
     boundary = subst (λ (l : BatchListState T). Contains (l.start ∷ map (λ (x : BatchState T). x.description.upper) l.batches) h.physical) (sym e) r.boundary;
     behind = subst (λ (l : BatchListState T). IsTrue (all_beyond below h.physical (end_of l.start l.batches))) (sym e) r.behind;
   }) hs all
@@ -111,12 +108,13 @@ module _ {T : Type 0} (below : T → T → Bool) (o : PartialOrderLaws below) (l
   arrangement_held a s h hs is eh es ehs =
       let t : SpineState T = record a.spine { holds = a.spine.holds ++ h ∷ [] } in
       let e : s ≡ t = es ∙ ap (λ (k : HoldState T). record a.spine { holds = a.spine.holds ++ k ∷ [] }) (sym eh) in
-      let reader = reader_at_upper t h (ap (λ (k : HoldState T). k.logical) eh ∙ is.since) (ap (λ (k : HoldState T). k.physical) eh) in
+      let reader = reader_at_upper t h (ap (λ (k : HoldState T). k.physical) eh) in
       let now : IsArrangement below least (record a { spine = t; holds = a.holds ++ h ∷ [] }) = record {
         holds = first_last h a.holds (a.spine.holds ++ h ∷ []) (hold_begun h a.holds a.spine.holds is.holds);
         own = (let l = length-append a.holds (h ∷ []) in let old = is.own in omega (arith, l, old));
-        readers = All-push (IsReader below least t) a.holds h (readers_kept a.spine t a.holds refl is.readers) reader;
-        since = is.since;
+        readers = All-push (IsReader below t) a.holds h (readers_kept a.spine t a.holds refl is.readers) reader;
+        since = λ u. is.since u ∙ sym (any_push (λ (k : HoldState T). is_beyond below k.logical u) a.holds h (λ found. sym (is.since u) ∙ (ap (λ (k : HoldState T). is_beyond below k.logical u) (sym eh) ∙ found)));
+        begun = is.begun;
         start = is.start;
         rows = is.rows;
         times = is.times;
@@ -132,6 +130,7 @@ module _ {T : Type 0} (below : T → T → Bool) (o : PartialOrderLaws below) (l
     own = is.own;
     readers = is.readers;
     since = is.since;
+    begun = is.begun;
     start = is.start;
     rows = is.rows;
     times = is.times;
@@ -146,6 +145,7 @@ module _ {T : Type 0} (below : T → T → Bool) (o : PartialOrderLaws below) (l
     own = is.own;
     readers = is.readers;
     since = is.since;
+    begun = is.begun;
     start = is.start;
     rows = is.rows;
     times = is.times;
@@ -162,12 +162,12 @@ module _ {T : Type 0} (below : T → T → Bool) (o : PartialOrderLaws below) (l
       subst (λ (x : SpineState T). IsArrangement below least (record a { spine = x })) (sym e) (record {
         holds = is.holds;
         own = is.own;
-        readers = All-weaker (IsReader below least a.spine) (IsReader below least t) (λ h r. record {
-          logical = r.logical;
+        readers = All-weaker (IsReader below a.spine) (IsReader below t) (λ h r. record {
           boundary = boundary_more a.spine b reserved h.physical r.boundary;
           behind = subst (λ u. IsTrue (all_beyond below h.physical u)) (sym end) (all_beyond_later o h.physical (upper_of a.spine) b.description.upper r.behind on);
         }) a.holds is.readers;
         since = is.since;
+        begun = is.begun;
         start = is.start;
         rows = stored_more _ a.spine.list.batches b is.rows rows;
         times = stored_more _ a.spine.list.batches b is.times times;
@@ -187,11 +187,11 @@ module _ {T : Type 0} (below : T → T → Bool) (o : PartialOrderLaws below) (l
             let h = slice_index_or a.holds k d in
             let open_ = some_passes (λ g. all_beyond below g.physical h.physical) a.holds a.spine.holds k h is.holds (slice_get-get_or a.holds k d l) (beyond_itself o h.physical) in
             record {
-              logical = r.logical;
               boundary = w.kept_open h.physical r.boundary open_;
               behind = subst (λ u. IsTrue (all_beyond below h.physical u)) (sym upper) r.behind;
             };
-        since = ap (λ (x : SpineState T). x.since) w.kept ∙ is.since;
+        since = λ t. ap (λ (x : SpineState T). is_beyond below x.since t) w.kept ∙ is.since t;
+        begun = subst (λ F. IsTrue (all_beyond below (least ∷ []) F)) (sym (ap (λ (x : SpineState T). x.since) w.kept)) is.begun;
         start = ap (λ (x : SpineState T). x.list.start) w.kept ∙ is.start;
         rows = w.among (λ row t. eqb (length row) a.width) (λ row t u l k. k) is.rows;
         times = w.among (λ row t. below least t) (λ row t u l k. o.transitive least t u k l) is.times;
@@ -206,8 +206,9 @@ module _ {T : Type 0} (below : T → T → Bool) (o : PartialOrderLaws below) (l
       subst (λ (x : SpineState T). IsArrangement below least (record a { spine = x })) (sym e) (record {
         holds = is.holds;
         own = is.own;
-        readers = All-weaker (IsReader below least a.spine) (IsReader below least t) (λ h r. record { logical = r.logical; boundary = r.boundary; behind = r.behind }) a.holds is.readers;
+        readers = All-weaker (IsReader below a.spine) (IsReader below t) (λ h r. record { boundary = r.boundary; behind = r.behind }) a.holds is.readers;
         since = is.since;
+        begun = is.begun;
         start = is.start;
         rows = is.rows;
         times = is.times;
@@ -218,19 +219,21 @@ module _ {T : Type 0} (below : T → T → Bool) (o : PartialOrderLaws below) (l
   -- each reader asks for boundaries from one on that the spine has reached
   pub reader_behind : (a : ArrangementState T) (i : ℕ) (h : HoldState T) → IsArrangement below least a → slice_get a.holds i ≡ Some h → IsTrue (all_beyond below h.physical (upper_of a.spine))
   reader_behind a i h is at =
-      let reader = subst (IsReader below least a.spine) (get_or_from_slice_get a.holds i h h at) (is.readers i h (slice_get_within a.holds i h at)) in
+      let reader = subst (IsReader below a.spine) (get_or_from_slice_get a.holds i h h at) (is.readers i h (slice_get_within a.holds i h at)) in
       reader.behind
 
+  -- the times beyond the logical frontier of a hold may be read
+  pub readable_from : (a : ArrangementState T) (i : ℕ) (h : HoldState T) → IsArrangement below least a → slice_get a.holds i ≡ Some h → (t : T) → IsTrue (is_beyond below h.logical t) → IsTrue (is_beyond below a.spine.since t)
+  readable_from a i h is at t beyond = is.since t ∙ any_at (λ (k : HoldState T). is_beyond below k.logical t) a.holds i h at beyond
+
   -- a reader has got on
-  module _ (cmp : T → T → Ordering) (total : IsTotalOrder cmp) where
-    pub arrangement_moved : (a : ArrangementState T) (s : SpineState T) (i : ℕ) (from to : HoldState T) (u : List T) → slice_get a.holds i ≡ Some from → to ≡ record { logical = least ∷ []; physical = u }
+  module _ (cmp : T → T → Ordering) where
+    pub arrangement_moved : (a : ArrangementState T) (s : SpineState T) (i : ℕ) (from to : HoldState T) (u : List T) → slice_get a.holds i ≡ Some from → to.physical ≡ u
         → Contains (boundaries a.spine) u → IsTrue (all_beyond below u (upper_of a.spine))
-        → IsMoved from to a.spine.holds s.holds → s.list ≡ a.spine.list → IsSinceOf below cmp s.holds s.since → IsArrangement below least a
+        → IsMoved from to a.spine.holds s.holds → s.list ≡ a.spine.list → IsSinceOf below cmp s.holds s.since → IsTrue (all_beyond below a.spine.since s.since) → IsArrangement below least a
         → IsArrangement below least (record a { spine = s; holds = set a.holds i to })
-    arrangement_moved a s i from to u at e there behind moved list since is =
-        let physical : to.physical ≡ u = ap (λ (h : HoldState T). h.physical) e in
-        let reader : IsReader below least a.spine to = record {
-          logical = ap (λ (h : HoldState T). h.logical) e;
+    arrangement_moved a s i from to u at physical there behind moved list since onward is =
+        let reader : IsReader below a.spine to = record {
           boundary = subst (Contains (boundaries a.spine)) (sym physical) there;
           behind = subst (λ F. IsTrue (all_beyond below F (upper_of a.spine))) (sym physical) behind;
         } in
@@ -238,14 +241,13 @@ module _ {T : Type 0} (below : T → T → Bool) (o : PartialOrderLaws below) (l
         let own = set a.holds i to in
         let same = own_moved a.holds i from to a.spine.holds s.holds at moved is.holds in
         let some : 0 < length own = (let l = length-set a.holds i to in let old = is.own in omega (arith, l, old)) in
-        let readers = readers_kept a.spine s own list (All-set (IsReader below least a.spine) a.holds i to reader is.readers) in
-        let logical = All-weaker (IsReader below least s) (λ h. h.logical ≡ least ∷ []) (λ h r. r.logical) own readers in
+        let readers = readers_kept a.spine s own list (All-set (IsReader below a.spine) a.holds i to reader is.readers) in
         record {
           holds = same;
           own = some;
           readers = readers;
-          since = frontier_by_beyond o total s.since (least ∷ []) since.frontier (frontier_one_time below cmp least)
-              (λ t. since.beyond t ∙ beyond_since below (least ∷ []) own s.holds t same some logical);
+          since = λ t. since.beyond t ∙ sym (any_same (λ (k : HoldState T). is_beyond below k.logical t) own s.holds same);
+          begun = all_beyond_later o (least ∷ []) a.spine.since s.since is.begun onward;
           start = ap (λ (l : BatchListState T). l.start) list ∙ is.start;
           rows = subst (λ us. IsTrue (rows_have a.width us)) (sym content) is.rows;
           times = subst (λ us. IsTrue (times_from below least us)) (sym content) is.times;
@@ -260,14 +262,15 @@ module _ {T : Type 0} (below : T → T → Bool) (o : PartialOrderLaws below) (l
   -- a new arrangement with its own hold
   pub new_begun : (worker node width : ℕ) (a : ArrangementState T) (reserved : Bool) → a.width ≡ width
       → a.spine.list ≡ record { worker = worker; node = node; start = least ∷ []; batches = []; reserved = reserved } → a.waiting ≡ []
-      → a.holds ≡ record { logical = least ∷ []; physical = least ∷ [] } ∷ [] → Stands below a.spine [] → IsNew below least worker node width 1 a
-  new_begun worker node width a reserved ew list waiting holds stands = record {
+      → a.holds ≡ record { logical = least ∷ []; physical = least ∷ [] } ∷ [] → Stands below a.spine [] → a.spine.since ≡ least ∷ [] → IsNew below least worker node width 1 a
+  new_begun worker node width a reserved ew list waiting holds stands since = record {
     columns = ew;
     batches = list ∙ ap (λ b. record { worker = worker; node = node; start = least ∷ []; batches = []; reserved = b }) (sym (ap (λ (l : BatchListState T). l.reserved) list));
     nothing_waits = waiting;
     readers = ap length holds;
     begin = subst (All P) (sym holds) (All-push P [] _ (λ k d l. absurd (omega (arith, l))) refl);
     stands = stands;
+    since = since;
   }
     where
       P : HoldState T → Type 0
@@ -275,15 +278,15 @@ module _ {T : Type 0} (below : T → T → Bool) (o : PartialOrderLaws below) (l
 
   -- and with one more reader
   pub new_held : (worker node width n : ℕ) (a b : ArrangementState T) → IsNew below least worker node width n a
-      → b ≡ record a { spine = record a.spine { holds = b.spine.holds }; holds = a.holds ++ record { logical = least ∷ []; physical = upper_of a.spine } ∷ [] }
+      → b ≡ record a { spine = record a.spine { holds = b.spine.holds }; holds = a.holds ++ record { logical = a.spine.since; physical = upper_of a.spine } ∷ [] }
       → Stands below b.spine [] → IsNew below least worker node width (n + 1) b
   new_held worker node width n a b new e stands =
       let P : HoldState T → Type 0 = λ h. h ≡ record { logical = least ∷ []; physical = least ∷ [] } in
       let list : b.spine.list ≡ a.spine.list = ap (λ (x : ArrangementState T). x.spine.list) e in
       let upper : upper_of a.spine ≡ least ∷ [] = ap (λ (l : BatchListState T). end_of l.start l.batches) new.batches in
-      let one : HoldState T = record { logical = least ∷ []; physical = upper_of a.spine } in
+      let one : HoldState T = record { logical = a.spine.since; physical = upper_of a.spine } in
       let holds : b.holds ≡ a.holds ++ one ∷ [] = ap (λ (x : ArrangementState T). x.holds) e in
-      let at : P one = ap (λ u. record { logical = least ∷ []; physical = u }) upper in
+      let at : P one = λ i. record { logical = new.since i; physical = upper i } in
       let counted : length b.holds ≡ n + 1 = (let l = length-append a.holds (one ∷ []) in let old = new.readers in ap length holds ∙ omega (arith, l, old)) in
       record {
         columns = ap (λ (x : ArrangementState T). x.width) e ∙ new.columns;
@@ -292,4 +295,5 @@ module _ {T : Type 0} (below : T → T → Bool) (o : PartialOrderLaws below) (l
         readers = counted;
         begin = subst (All P) (sym holds) (All-push P a.holds one new.begin at);
         stands = stands;
+        since = ap (λ (x : ArrangementState T). x.spine.since) e ∙ new.since;
       }

@@ -80,6 +80,25 @@ module _ {X : Type 0} (p : X → Bool) where
   any_one true (x ∷ xs) some all = or_left (p x) (list_any p xs) (All-head (λ y. p y ≡ true) x xs all)
   any_one false (x ∷ xs) some all = list_any_none p (x ∷ xs) all
 
+-- what adds nothing to a disjunction
+pub or_false : (b : Bool) → (b || false) ≡ b
+or_false true = refl
+or_false false = refl
+
+or_within : (a b : Bool) → (IsTrue b → IsTrue a) → (a || b) ≡ a
+or_within true b h = refl
+or_within false true h = h refl
+or_within false false h = refl
+
+-- a list has an element that passes if one is at some place
+pub any_at : {X : Type 0} (p : X → Bool) (xs : List X) (i : ℕ) (x : X) → slice_get xs i ≡ Some x → IsTrue (p x) → IsTrue (list_any p xs)
+any_at p [] i x e h = absurd (nothing x e)
+  where
+    nothing : {X : Type 0} (x : X) → None ≡ Some x → ⊥
+    nothing x z = cc
+any_at p (y ∷ xs) zero x e h = or_left (p y) (list_any p xs) (ap p (same_Some y x e) ∙ h)
+any_at p (y ∷ xs) (suc i) x e h = or_right (p y) (list_any p xs) (any_at p xs i x e h)
+
 module _ {T : Type 0} where
   -- a test passes one of the holds if and only if it passes one of the spine's
   pub any_same : (p : HoldState T → Bool) (own holds : List (HoldState T)) → AreSameHolds own holds → list_any p own ≡ list_any p holds
@@ -89,12 +108,9 @@ module _ {T : Type 0} where
       (λ h. let n = counted_any p own h in any_counted p holds (omega (arith, n, same)))
       (λ h. let n = counted_any p holds h in any_counted p own (omega (arith, n, same)))
 
-  -- if all holds begin at one frontier, then the same times are beyond the since
-  pub beyond_since : (below : T → T → Bool) (F : List T) (own holds : List (HoldState T)) (t : T) → AreSameHolds own holds → 0 < length own → All (λ h. h.logical ≡ F) own → list_any (λ h. is_beyond below h.logical t) holds ≡ is_beyond below F t
-  beyond_since below F own holds t same some all =
-      let p : HoldState T → Bool = λ h. is_beyond below h.logical t in
-      sym (any_same p own holds same)
-      ∙ any_one p (is_beyond below F t) own some (All-weaker (λ h. h.logical ≡ F) (λ h. p h ≡ is_beyond below F t) (λ h e. ap (λ G. is_beyond below G t) e) own all)
+  -- one more element changes no test that it passes only if another one does
+  pub any_push : (p : HoldState T → Bool) (hs : List (HoldState T)) (h : HoldState T) → (IsTrue (p h) → IsTrue (list_any p hs)) → list_any p (hs ++ h ∷ []) ≡ list_any p hs
+  any_push p hs h with_it = list_any-append p hs (h ∷ []) ∙ (ap (λ b. list_any p hs || b) (or_false (p h)) ∙ or_within (list_any p hs) (p h) with_it)
 
   -- the last hold may be seen as the first
   pub last_first : (hold : HoldState T) (others holds : List (HoldState T)) → AreSameHolds (others ++ hold ∷ []) holds → AreSameHolds (hold ∷ others) holds

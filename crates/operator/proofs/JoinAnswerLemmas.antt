@@ -143,12 +143,3 @@ pair_width k w v g = omega (arith, g)
 -- rows of a batch have the width of the rows that it stands in for
 pub rows_of_batch : {T : Type 0} (below : T → T → Bool) (w : ℕ) (us bs : List (Update T)) → IsBatchOf below us bs → IsTrue (all_rows_have w us) → IsTrue (all_rows_have w bs)
 rows_of_batch below w us bs batch h = batch.among (λ row t. eqb (length row) w) h
-
--- ---- what may be read
-
-module _ {T : Type 0} (below : T → T → Bool) (least : T) (since : List T) (all_read : (t : T) → is_beyond below since t ≡ below least t) (us bs : List (Update T)) (batch : IsBatchOf below us bs) where
-  -- if the since is as the least time, then all times of the batch are beyond it
-  pub times_read : IsTrue (times_from below least us) → IsTrue (all_times_beyond below since bs)
-  times_read h =
-      all_more (λ (u : Update T). below least u.time) (λ u. is_beyond below since u.time) (λ u e. all_read u.time ∙ e)
-      bs (batch.among (λ row t. below least t) h)

@@ -9,4 +9,3 @@ pub mod JoinAnswerLemmas
 pub mod DistinctLemmas
 pub mod AnswerWidthLemmas
 pub mod ReductionLemmas
-pub mod KeepLemmas

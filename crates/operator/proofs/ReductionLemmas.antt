@@ -420,10 +420,6 @@ module _ {T : Type 0} {below : T → T → Bool} {joined met : T → T → T} (o
 
 -- ---- giving
 
--- the least time is at or before the since of a trace that reads at every later one
-pub whole_beyond : {T : Type 0} {below : T → T → Bool} → PartialOrderLaws below → (least : T) (since : List T) → ((t : T) → is_beyond below since t ≡ below least t) → IsTrue (all_beyond below (least ∷ []) since)
-whole_beyond {T} {below} o least since whole = all_beyond_from o (least ∷ []) since (λ t h. or_nothing (below least t) ∙ (sym (whole t) ∙ h))
-
 -- what sums to what was received sums to what was taken
 pub sums_taken : {T : Type 0} (below : T → T → Bool) (since frontier : List T) (inserted received taken : List (Update T)) → SumsToReceived below frontier inserted received → StandIn below taken received
     → SumsToTaken below since frontier inserted taken

@@ -1,7 +1,7 @@
 -- What a contract sees of an arrangement, and what each one keeps (McSherry et al., Shared
 -- Arrangements, VLDB 2020).
 use Rattle.std.specs.Prelude.{◌≡◌, ◌≢◌, ℕ, ◌<◌, Bool, List, [], ◌∷◌, ◌++◌, map, length, eqb, slice_get, IsTrue, ⊤}
-use Rattle.std.specs.List.{All, Contains, list_all}
+use Rattle.std.specs.List.{All, Contains, list_all, list_any}
 use Rattle.lattice.specs.Frontiers.{is_beyond, all_beyond}
 use Rattle.update.specs.declared.change.Update.{Update}
 use Rattle.batch.specs.Intervals.{all_between}
@@ -43,19 +43,19 @@ module _ {T : Type 0} (below : T → T → Bool) where
   pub record IsFrontOf (front : List T) (us : List (Update T)) : Type 0 where
     pub beyond : (t : T) → is_beyond below front t ≡ is_beyond below (times_of us) t
 
-  -- a reader that sums at all times, and asks for boundaries from one on that the spine has reached
-  pub record IsReader (least : T) (s : SpineState T) (hold : HoldState T) : Type 0 where
-    pub logical : hold.logical ≡ least ∷ []
+  -- a reader that asks for boundaries from one on that the spine has reached
+  pub record IsReader (s : SpineState T) (hold : HoldState T) : Type 0 where
     pub boundary : Contains (boundaries s) hold.physical
     pub behind : IsTrue (all_beyond below hold.physical (upper_of s))
 
-  -- the holds are those of the spine, every time may be read, and all rows and times are as they
-  -- should be
+  -- the holds are those of the spine, which may be read at the times beyond the logical frontier of
+  -- one of them, and all rows and times are as they should be
   pub record IsArrangement (least : T) (a : ArrangementState T) : Type 0 where
     pub holds : AreSameHolds a.holds a.spine.holds
     pub own : 0 < length a.holds
-    pub readers : All (IsReader least a.spine) a.holds
-    pub since : a.spine.since ≡ least ∷ []
+    pub readers : All (IsReader a.spine) a.holds
+    pub since : (t : T) → is_beyond below a.spine.since t ≡ list_any (λ hold. is_beyond below hold.logical t) a.holds
+    pub begun : IsTrue (all_beyond below (least ∷ []) a.spine.since)
     pub start : a.spine.list.start ≡ least ∷ []
     pub rows : IsTrue (rows_have a.width (stored a.spine))
     pub times : IsTrue (times_from least (stored a.spine))
@@ -70,6 +70,7 @@ module _ {T : Type 0} (below : T → T → Bool) where
     pub readers : length a.holds ≡ count
     pub begin : All (λ hold. hold ≡ record { logical = least ∷ []; physical = least ∷ [] }) a.holds
     pub stands : Stands below a.spine []
+    pub since : a.spine.since ≡ least ∷ []
 
   -- the insertion goes on from a frontier: it ends at one beyond it, and has updates, all with
   -- times in between
@@ -91,10 +92,11 @@ module _ {T : Type 0} (below : T → T → Bool) where
       → IsTrue (forbids below s.holds (reached s.list.start taken))
       → Contains (boundaries s) (reached s.list.start taken)
 
--- the arrangement with one more hold, from where its spine has come
-pub record IsWithReader {T : Type 0} (below : T → T → Bool) (minimum : T) (a b : ArrangementState T) : Type 0 where
+-- the arrangement with one more hold, from where its spine has come, at the times that may be read
+pub record IsWithReader {T : Type 0} (below : T → T → Bool) (a b : ArrangementState T) : Type 0 where
   pub width : b.width ≡ a.width
   pub start : b.spine.list.start ≡ a.spine.list.start
   pub waiting : b.waiting ≡ a.waiting
-  pub holds : b.holds ≡ a.holds ++ record { logical = minimum ∷ []; physical = upper_of a.spine } ∷ []
+  pub holds : b.holds ≡ a.holds ++ record { logical = a.spine.since; physical = upper_of a.spine } ∷ []
+  pub since : b.spine.since ≡ a.spine.since
   pub stands : (h : List (Insertion T)) → Stands below a.spine h → Stands below b.spine h

@@ -39,7 +39,7 @@ pub record IsBatchOf {T : Type 0} (below : T → T → Bool) (us batch : List (U
 
 module _ {T : Type 0} (below : T → T → Bool) (minimum : T) where
   -- a side of a join has taken the oldest of the insertions for which its spine stands, up to its
-  -- boundary; each time of the spine may be read
+  -- boundary
   pub record IsSide (s : SpineState T) (inserted taken : List (Insertion T)) (boundary : List T) : Type 0 where
     pub stands : Stands below s inserted
     pub start : s.list.start ≡ minimum ∷ []
@@ -48,4 +48,3 @@ module _ {T : Type 0} (below : T → T → Bool) (minimum : T) where
     pub all : inserted ≡ on_top later taken
     pub ends : boundary ≡ reached (minimum ∷ []) taken
     pub readable : Contains (boundaries s) boundary
-    pub since : (t : T) → is_beyond below s.since t ≡ below minimum t

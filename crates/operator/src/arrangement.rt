@@ -5,14 +5,15 @@
 //!
 //! The arrangement keeps the holds of all its readers. Hold 0 is its own. The others are for the
 //! ports of the readers, in the order of the caller. A reader that has taken a batch acknowledges
-//! it, and the spine may merge across the boundaries before. Every reader sums at all times, so
-//! each logical frontier stays at the least time.
+//! it, and the spine may merge across the boundaries before. A reader that sums at later times only
+//! says so, and the spine may advance the times of its updates up to there.
 //!
 //! The invariant is the record `IsArrangement`: the holds are the spine's, each asks for a boundary
 //! that the spine has, and rows and times are as the plan says.
 ghost use Rattle.std.specs.Prelude.{◌≡◌, ◌≢◌, ◌<◌, ◌≤◌, ◌∷◌, ◌++◌, ◌^◌, ◌↔◌, [], true, suc, set, length, slice_get, vec_len, vec_capacity, List, Some, ℤ, Bool, IfOk, IfErr, OnOk, OnErr, IsTrue};
 ghost use Rattle.std.specs.List.{Contains};
 ghost use Rattle.lattice.specs.Frontiers.{all_beyond};
+ghost use Rattle.antichain.specs.Antichains.{IsFrontier};
 ghost use Rattle.update.specs.declared.refusal.Refusal.{Refusal};
 ghost use Rattle.update.specs.Refusals.{IsMemoryOrOverflow};
 ghost use Rattle.update.specs.Updates.{total_where, HasLargeTotal, size};
@@ -168,15 +169,15 @@ impl<T: Minimum> Arrangement<T> {
         }
     }
 
-    /// One more hold, from the upper frontier of the spine on, and its number. If it is refused,
-    /// then nothing has changed: [`Refusal::OutOfMemory`] only.
+    /// One more hold, from the upper frontier of the spine on and at the times that may be read, and
+    /// its number. If it is refused, then nothing has changed: [`Refusal::OutOfMemory`] only.
     pub fn add_reader(&mut self, alloc: Global) -> Result<usize, Refusal>
         ensures number { IfOk result
             (λ number. (number ≡ length self.old.holds) × (0 < number)) }
         ensures held { OnOk result (self.new ≡ record self.old {
           spine = record self.old.spine { holds = self.new.spine.holds };
           holds = self.old.holds ++ record {
-            logical = T.least ∷ [];
+            logical = self.old.spine.since;
             physical = upper_of self.old.spine;
           } ∷ [];
         }) }
@@ -380,27 +381,44 @@ impl<T: Minimum> Arrangement<T> {
         self.spine.work(fuel)
     }
 
-    /// Tells the spine that a reader, by the number of its hold, has taken all that was inserted up
-    /// to a boundary: one that the spine has, and at or after the reader's own. From then on the
-    /// reader asks for boundaries from there on, and the spine may merge what is before. If memory
-    /// for frontiers was refused, then nothing has changed: [`Refusal::OutOfMemory`] only.
+    /// From which frontier on a reader sums, by the number of its hold. Takes no memory.
+    pub fn logical(&self, reader: usize) -> &[T]
+        requires reader { reader < length self.now.holds }
+        ensures value { (hold : HoldState T) → slice_get self.now.holds reader ≡ Some hold
+            → result.now ≡ hold.logical }
+        ensures frontier { IsFrontier T.below T.cmp result.now }
+    {
+        self.holds[reader].logical()
+    }
+
+    /// Moves the hold of a reader on, by its number. From then on the reader sums at times beyond the
+    /// logical frontier alone, and the spine may advance times that are before. The reader has taken all
+    /// that was inserted up to the boundary: one that the spine has. It asks for boundaries from there
+    /// on, and the spine may merge what is before. Neither may go back. If memory for frontiers was
+    /// refused, then nothing has changed: [`Refusal::OutOfMemory`] only.
     ///
-    /// Cost: linear in the number of holds, since every logical frontier is the least time.
+    /// Cost: each element of the logical frontiers of all holds is compared with the least ones so far.
     pub fn advance(
         &mut self,
         alloc: Global,
         reader: usize,
+        logical: &Antichain<T>,
         boundary: &Antichain<T>,
     ) -> Result<(), Refusal>
         requires reader { reader < length self.old.holds }
+        requires onward { (hold : HoldState T) → slice_get self.old.holds reader ≡ Some hold
+            → IsTrue (all_beyond T.below hold.logical logical.now) }
         requires boundary { Contains (boundaries self.old.spine) boundary.now }
         requires forward { (hold : HoldState T) → slice_get self.old.holds reader ≡ Some hold
             → IsTrue (all_beyond T.below hold.physical boundary.now) }
         requires behind { IsTrue (all_beyond T.below boundary.now (upper_of self.old.spine)) }
         ensures moved { OnOk result (self.new ≡ record self.old {
-          spine = record self.old.spine { holds = self.new.spine.holds };
+          spine = record self.old.spine {
+            since = self.new.spine.since;
+            holds = self.new.spine.holds;
+          };
           holds = set self.old.holds reader record {
-            logical = T.least ∷ [];
+            logical = logical.now;
             physical = boundary.now;
           };
         }) }
@@ -411,28 +429,31 @@ impl<T: Minimum> Arrangement<T> {
         ensures same { OnErr result (self.new ≡ self.old) }
         ensures only { IfErr result (λ refused. refused ≡ Refusal.OutOfMemory) }
     {
-        let logical = Antichain::from_elem(alloc, T::minimum());
         let hold = &mut self.holds[reader];
-        self.spine.advance_hold(alloc, hold, &logical, boundary)?;
+        self.spine.advance_hold(alloc, hold, logical, boundary)?;
         Ok(())
     }
 
-    /// Tells the spine that a reader, by the number of its hold, has taken all that was inserted,
-    /// up to the frontier that the spine has reached. From then on the reader asks for boundaries
-    /// from there on, and the spine may merge what is before. If memory for frontiers was refused,
-    /// then nothing has changed: [`Refusal::OutOfMemory`] only.
+    /// Moves the hold of a reader on that has taken all that was inserted, up to the frontier that the
+    /// spine has reached. Otherwise it is [`advance`](Arrangement::advance).
     pub fn acknowledge(
         &mut self,
         alloc: Global,
         reader: usize,
+        logical: &Antichain<T>,
         upper: &Antichain<T>,
     ) -> Result<(), Refusal>
         requires reader { reader < length self.old.holds }
+        requires onward { (hold : HoldState T) → slice_get self.old.holds reader ≡ Some hold
+            → IsTrue (all_beyond T.below hold.logical logical.now) }
         requires upper { upper.now ≡ upper_of self.old.spine }
         ensures moved { OnOk result (self.new ≡ record self.old {
-          spine = record self.old.spine { holds = self.new.spine.holds };
+          spine = record self.old.spine {
+            since = self.new.spine.since;
+            holds = self.new.spine.holds;
+          };
           holds = set self.old.holds reader record {
-            logical = T.least ∷ [];
+            logical = logical.now;
             physical = upper_of self.old.spine;
           };
         }) }
@@ -444,7 +465,7 @@ impl<T: Minimum> Arrangement<T> {
         ensures only { IfErr result (λ refused. refused ≡ Refusal.OutOfMemory) }
     {
         let _spine = self.trace();
-        self.advance(alloc, reader, upper)?;
+        self.advance(alloc, reader, logical, upper)?;
         Ok(())
     }
 
@@ -457,8 +478,9 @@ impl<T: Minimum> Arrangement<T> {
         antichain_of(alloc, self.spine.upper())
     }
 
-    /// The spine, for its readers. Whatever was inserted, each time may be read, all rows have the
-    /// width of the arrangement, and each hold asks for a boundary of the spine. Takes no memory.
+    /// The spine, for its readers. All rows have the width of the arrangement, and each hold asks for
+    /// a boundary of the spine. The times may be read that are beyond the logical frontier of some
+    /// hold. Takes no memory.
     pub fn trace(&self) -> &Spine<T>
         ensures value { result.now ≡ self.now.spine }
         ensures known { IsArrangement T.below T.least self.now }

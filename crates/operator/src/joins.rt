@@ -9,12 +9,11 @@
 //! taken first.
 ghost use Rattle.std.specs.Prelude.{◌≡◌, ◌≤◌, ◌+◌, ◌-◌, ◌*◌, ◌^◌, ◌⊎◌, ◌∷◌, [], List, IfOk, IfErr, OnOk, OnErr, IsTrue};
 ghost use Rattle.std.specs.List.{Contains};
-ghost use Rattle.lattice.specs.Frontiers.{is_beyond};
 ghost use Rattle.antichain.specs.Antichains.{IsFrontier};
 ghost use Rattle.update.specs.Updates.{size, IsConsolidated};
 ghost use Rattle.update.specs.Refusals.{IsMemoryOrOverflow};
 ghost use Rattle.update.specs.declared.refusal.Refusal.{Refusal};
-ghost use Rattle.batch.specs.Intervals.{is_interval_of};
+ghost use Rattle.batch.specs.Intervals.{all_times_beyond, is_interval_of};
 ghost use Rattle.trace.specs.Readings.{Insertion, all_updates};
 ghost use Rattle.spine.specs.Spines.{boundaries, stored};
 ghost use Rattle.join.specs.Pairs.{pairs};
@@ -179,7 +178,7 @@ impl<T: Minimum> Joining<T> {
     /// reached: the left side is then acknowledged up to it.
     ///
     /// The times of the updates are between the left boundary and `upper`. The right spine has the
-    /// right boundary and may be read at all times. Rows have the widths of their sides. If the
+    /// right boundary and may be read at these times. Rows have the widths of their sides. If the
     /// call is refused, then the join stays as it was.
     ///
     /// - [`Refusal::Overflow`] only if the size of the updates, or that size times the size of what
@@ -200,7 +199,7 @@ impl<T: Minimum> Joining<T> {
             upper.now updates.items) }
         requires readable { Contains (boundaries right.now) self.old.state.right }
         requires right_rows { IsTrue (all_rows_have self.old.right_width (stored right.now)) }
-        requires since { (t : T) → is_beyond T.below right.now.since t ≡ T.below T.least t }
+        requires later { IsTrue (all_times_beyond T.below right.now.since updates.items) }
         ensures answer { (inserted taken : List (Insertion T))
             → IsSide T.below T.least right.now inserted taken self.old.state.right
             → IfOk result (λ out. IsAnswer T.below
@@ -241,7 +240,7 @@ impl<T: Minimum> Joining<T> {
             upper.now updates.items) }
         requires readable { Contains (boundaries left.now) self.old.state.left }
         requires left_rows { IsTrue (all_rows_have self.old.left_width (stored left.now)) }
-        requires since { (t : T) → is_beyond T.below left.now.since t ≡ T.below T.least t }
+        requires later { IsTrue (all_times_beyond T.below left.now.since updates.items) }
         ensures answer { (inserted taken : List (Insertion T))
             → IsSide T.below T.least left.now inserted taken self.old.state.left
             → IfOk result (λ out. IsAnswer T.below

@@ -6,15 +6,15 @@
 //! only stands in for it. The contracts speak of what was received and of what was given, each as
 //! one list with the newest first.
 //!
-//! The invariant: no pending time comes before the least time. So wherever a time is due, a trace
-//! whose since is the least time can be read. What the state keeps is as of the least time, too.
+//! The invariant: no pending time comes before the least time. What the state keeps is as of the least
+//! time. The trace need not be: a reader's hold keeps it readable at the pending times.
 //!
 //! A distinct goes by whole rows, whatever the plan's key is: of each row it answers from the count
 //! of that row alone. So a correction looks at one row, and not at all rows of a key. It costs a
 //! history for each row in place of one for each key. What is given is the same.
 ghost use Rattle.std.specs.Prelude.{◌≡◌, ◌≢◌, ◌≤◌, ◌^◌, ◌++◌, ◌∷◌, [], List, Bool, ℤ, pos, IfErr, IfOk, OnErr, OnOk, IsTrue};
 ghost use Rattle.std.specs.List.{AllByRecursion, list_all};
-ghost use Rattle.lattice.specs.Frontiers.{is_beyond, all_beyond};
+ghost use Rattle.lattice.specs.Frontiers.{all_beyond};
 ghost use Rattle.update.specs.Refusals.{IsMemoryOrOverflow};
 ghost use Rattle.update.specs.Updates.{size, total_where, AreApart};
 ghost use Rattle.update.specs.declared.change.Update.{Update};
@@ -185,9 +185,9 @@ impl<T: Minimum> Reducing<T> {
     /// pending no longer. They come column by column. If the call is refused, then nothing has
     /// changed.
     ///
-    /// The trace is the arrangement that the reduction reads. That it sums, at the times that the
-    /// frontier has passed, to what was received is a premise of the promises and not a condition
-    /// of the call.
+    /// The trace is the arrangement that the reduction reads. It may be read at the pending times. That
+    /// it sums, at the times that the frontier has passed, to what was received is a premise of the
+    /// promises and not a condition of the call.
     ///
     /// - [`Refusal::Overflow`] only if the absolute diffs of what was received add up to 2^63 or
     ///   more, or those of a list of updates of one key that is owed: up to some step of the
@@ -201,7 +201,8 @@ impl<T: Minimum> Reducing<T> {
         frontier: &[T],
         trace: &Spine<T>,
     ) -> Result<Columns<T>, Refusal>
-        requires whole { (t : T) → is_beyond T.below trace.now.since t ≡ T.below T.least t }
+        requires begun { IsTrue (all_beyond T.below (T.least ∷ []) trace.now.since) }
+        requires held { IsTrue (all_beyond T.below trace.now.since (pending_of self.old)) }
         ensures stands { IfOk result (λ out. (inserted : List (Insertion T))
             (received emitted : List (Update T))
             → Stands T.below trace.now inserted

@@ -147,7 +147,7 @@ module _ {T : Type 0} {below : T → T → Bool} {cmp : T → T → Ordering} (o
 
 module _ {T : Type 0} (below : T → T → Bool) (o : PartialOrderLaws below) (p : Dataflow) where
   -- at first each input stands at the least time
-  beyond_first : (minimum t : T) (there : ℕ → Bool) (inputs : List ℕ) → is_beyond below (open_where there (flat_map (λ i. open_entries i (minimum ∷ [])) inputs)) t ≡ true → below minimum t ≡ true
+  pub beyond_first : (minimum t : T) (there : ℕ → Bool) (inputs : List ℕ) → is_beyond below (open_where there (flat_map (λ i. open_entries i (minimum ∷ [])) inputs)) t ≡ true → below minimum t ≡ true
   beyond_first minimum t there [] h = absurd (false≢true h)
   beyond_first minimum t there (i ∷ inputs) h = step (there i) h (beyond_first minimum t there inputs)
     where

@@ -4,3 +4,4 @@ pub mod ReducingLemmas
 pub mod QueueLemmas
 pub mod JoiningLemmas
 pub mod WorkingLemmas
+pub mod PortLemmas

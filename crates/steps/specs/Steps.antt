@@ -111,7 +111,7 @@ module _ {T : Type 0} (below : T → T → Bool) (minimum : T) where
 
   -- the worker asks for no boundary that it has left behind, and all is merged on its desk that may be
   abbrev pub IsTidyFor : WorkerView T → Type 0
-  IsTidyFor w = IsTidy minimum (dataflow_of w.known).nodes w.desk below
+  IsTidyFor w = IsTidy (dataflow_of w.known).nodes w.desk below
 
   -- what each refusal to tidy means
   abbrev pub IsTidyRefusal : (T → T → Ordering) → WorkerView T → WorkerView T → Refusal → Type 0

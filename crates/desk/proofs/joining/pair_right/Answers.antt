@@ -2,14 +2,14 @@ use Rattle.std.proofs.Common.{rules, ◌≡◌, ◌⊎◌, ◌*◌, ◌^◌, ◌
 use Rattle.lattice.specs.Frontiers.{all_beyond}
 use Rattle.update.specs.Updates.{IsConsolidated, size}
 use Rattle.update.specs.Refusals.{IsMemoryOrOverflow}
-use Rattle.batch.specs.Intervals.{is_interval_of}
+use Rattle.batch.specs.Intervals.{all_times_beyond, is_interval_of}
 use Rattle.trace.specs.Readings.{all_updates}
 use Rattle.join.specs.Pairs.{pairs}
 use Rattle.join.specs.Sides.{all_rows_have}
 use Rattle.operator.specs.Arrangements.{times_from}
 use Rattle.operator_laws.specs.Joining.{IsAnswer}
 use Rattle.desk.specs.Joinings.{ArePairsLarge, IsEndAfter, IsNextOf, IsPaired, taken_up_to}
-use Rattle.desk.proofs.PairingLemmas.{ends_there, next_interval, next_there, other_readable, other_rows, other_since, side_from}
+use Rattle.desk.proofs.PairingLemmas.{ends_there, next_interval, next_there, other_readable, other_rows, other_later, side_from}
 use Rattle.desk.proofs.ResultLemmas.{if_err_from, if_ok_back, if_ok_from, memory_or, on_ok_back}
 use Rattle.desk.proofs.joining.pair_right.Goals as goal
 
@@ -42,7 +42,7 @@ take_right-requires g c =
     let rows = subst (λ us. IsTrue (all_rows_have j.right_width us)) vec y.rows in
     let times = subst (λ us. IsTrue (times_from below least us)) vec y.times in
     let between = subst (λ us. IsTrue (is_interval_of below j.state.right end us)) vec (next_interval y source c.arrangement_at-source.ensures.there g.met.T.PartialOrder.order end ends) in
-    (search rules, (rows, (times, (between, (other_readable y other there known spine value, (other_rows y other there known spine value, other_since y other there known spine value))))))
+    (search rules, (rows, (times, (between, (other_readable y other there known spine value, (other_rows y other there known spine value, subst (λ us. IsTrue (all_times_beyond below spine.since us)) vec (other_later y other there known spine value g.met.T.PartialOrder.order)))))))
 
 pub returns-clause-paired : goal.returns-clause-paired
 returns-clause-paired g c =

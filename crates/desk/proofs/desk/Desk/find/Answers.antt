@@ -17,10 +17,6 @@ use Rattle.desk.proofs.FindingLemmas.{found_large, found_ok}
 use Rattle.desk.proofs.ResultLemmas.{if_err_from, if_ok_by, memory_or, on_err_by}
 use Rattle.desk.proofs.desk.Desk.find.Goals as goal
 
-or_same : (b : Bool) → (b || false) ≡ b
-or_same true = refl
-or_same false = refl
-
 pub arrangement_at-requires : goal.arrangement_at-requires
 arrangement_at-requires g c =
     let r = c.requires.read in
@@ -34,9 +30,25 @@ index_mut-requires g c =
     omega (arith, l, same, c.self.inside.reductions.ok.0, c.number.ensures)
 
 pub ready-requires : goal.ready-requires
-ready-requires g c = record {
-  whole = λ t. ap (λ F. is_beyond g.T.PartialOrder.below F t) (ap (λ (s : SpineState g.row.T.Denot). s.since) c.trace-source.ensures.value ∙ c.trace-source.ensures.known.since) ∙ or_same (g.T.PartialOrder.below g.T.Minimum.least t);
-}
+ready-requires g c =
+    let inside = c.self.inside in
+    let below = g.T.PartialOrder.below in
+    let n = c.args.node in
+    let r = c.requires.there in
+    let there = subst (λ (x : DeskView g.row.T.Denot). slice_get x.reductions n ≡ Some (Some r.0)) (sym c.self.view_is) r.1 in
+    let mine = found_at inside.reductions.items c.number.result n c.index_mut.result.now (Some r.0) c.number.ensures c.index_mut.ensures.value there in
+    let here = r.1 ∙ ap Some (sym mine ∙ c.in-Some.is) in
+    let a = c.arrangement_at.result.now in
+    let read = subst (λ (x : DeskView g.row.T.Denot). slice_get x.arrangements c.args.source ≡ Some (Some a)) c.self.view_is c.arrangement_at.ensures.there in
+    let known = c.trace-source.ensures.known in
+    let held = pending_readable below g.T.Lattice.joined g.T.Minimum.least c.args.plan.now c.args.self.now n c.args.upper.now c.requires.someones c.requires.reduces.0 c.args.source c.requires.reduces.1 g.met.T.PartialOrder.order c.in-Some.reduction here a read known in
+    let value = sym c.trace-source.ensures.value in (
+      search rules,
+      (
+        subst (λ (s : SpineState g.row.T.Denot). IsTrue (all_beyond below (g.T.Minimum.least ∷ []) s.since)) value known.begun,
+        subst (λ (s : SpineState g.row.T.Denot). IsTrue (all_beyond below s.since (pending_of c.in-Some.reduction))) value held,
+      ),
+    )
 
 pub unreachable-requires : goal.unreachable-requires
 unreachable-requires g c =

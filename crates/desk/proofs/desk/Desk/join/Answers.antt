@@ -31,7 +31,7 @@ join_left-requires g c =
     let r = c.args.right in
     let e : node_of p bundle.place.node ≡ Join l r = ap (λ z. node_at z bundle.place.node) s.nodes ∙ c.requires.joins in
     let b = before below joined least p q w k d bundle more l r e s.right in
-    (search rules, (b.join, b.there, next_left below joined least p q w k d bundle more l r e s.right b.join b.there c.if-bundle-eq0.true))
+    (search rules, (b.join, b.there, next_left below joined least p q w k d bundle more l r e s.right b.join b.there g.met.T.PartialOrder.order c.if-bundle-eq0.true))
 
 pub returns-then-bundle-eq0-clause-leads : goal.returns-then-bundle-eq0-clause-leads
 returns-then-bundle-eq0-clause-leads g c =
@@ -84,7 +84,7 @@ join_right-requires g c =
     let r = c.args.right in
     let e : node_of p bundle.place.node ≡ Join l r = ap (λ z. node_at z bundle.place.node) s.nodes ∙ c.requires.joins in
     let b = before below joined least p q w k d bundle more l r e s.right in
-    (search rules, (b.join, b.there, next_right below joined least p q w k d bundle more l r e s.right b.join b.there (second_port below joined least p q w k d bundle more l r e s.right c.if-bundle-eq0.false)))
+    (search rules, (b.join, b.there, next_right below joined least p q w k d bundle more l r e s.right b.join b.there g.met.T.PartialOrder.order (second_port below joined least p q w k d bundle more l r e s.right c.if-bundle-eq0.false)))
 
 pub returns-clause-leads : goal.returns-clause-leads
 returns-clause-leads g c =

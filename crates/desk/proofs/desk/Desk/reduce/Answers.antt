@@ -55,7 +55,7 @@ returns-clause-reduced g c =
     on_ok_three c.take.result (λ kept stands pending.
     subst (λ x. IsReducedWith below joined least n c.args.updates.now x after) c.self.view_is
     (subst (λ us. IsReducedWith below joined least n us d after) c.in_ok-updates.ensures.copied
-    (reduced_after below joined least n d c.in-Some.reduction c.take.new.self c.in_ok-updates.updates.items c.number.result c.number.ensures here kept stands pending)))
+    (reduced_after below joined least n d c.in-Some.reduction c.take.new.self c.in_ok-updates.updates.items g.met.T.PartialOrder.order c.number.result c.number.ensures here kept stands pending)))
     c.take.ensures.kept c.take.ensures.stands c.take.ensures.pending
 
 pub returns-clause-same : goal.returns-clause-same

@@ -5,5 +5,5 @@ use Rattle.desk.proofs.desk.Desk.settle_all.Given as goal
 -- the arrangements so far are settled, if nothing was left to do there
 abbrev pub invariant-loop-n : goal.invariant-loop-n
 invariant-loop-n g l = LeadsOn g.T.PartialOrder.below g.T.Lattice.joined g.T.Minimum.least l.plan l.fn.self l.self
-    × (l.done ≡ true → (m : ℕ) → m < l.n → IsSettledAt g.T.Minimum.least l.plan l.self g.T.PartialOrder.below m)
-    × (((m : ℕ) → IsFollowed g.T.Minimum.least l.plan l.fn.self m) → (m : ℕ) → IsFollowed g.T.Minimum.least l.plan l.self m)
+    × (l.done ≡ true → (m : ℕ) → m < l.n → IsSettledAt l.plan l.self g.T.PartialOrder.below m)
+    × (((m : ℕ) → IsFollowed l.plan l.fn.self m) → (m : ℕ) → IsFollowed l.plan l.self m)

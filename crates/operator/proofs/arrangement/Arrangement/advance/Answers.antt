@@ -51,12 +51,10 @@ returns-in_err-advance_hold-clause-only g c =
     let s = c.self.inside.spine in
     let within : i < length items = subst (λ (x : ArrangementState g.row.T.Denot). i < length x.holds) (sym c.self.view_is) c.requires.reader in
     let at : slice_get items i ≡ Some d = slice_get-get_or items i d within ∙ ap (λ (h : HoldState g.row.T.Denot). Some h) (sym c.index_mut-hold.ensures.value) in
-    let there : get_or items i d ≡ d = sym c.index_mut-hold.ensures.value in
-    let reader : IsReader below g.T.Minimum.least s d = subst (IsReader below g.T.Minimum.least s) there (c.self.invariant.0.readers i d within) in
-    let logical = c.from_elem-logical.ensures ∙ ap (λ (t : g.row.T.Denot). t ∷ []) c.minimum.ensures ∙ sym reader.logical in
+    let onward : IsTrue (all_beyond below d.logical c.args.logical.now) = c.requires.onward d (subst (λ (x : ArrangementState g.row.T.Denot). slice_get x.holds i ≡ Some d) c.self.view_is at) in
     let forward : IsTrue (all_beyond below d.physical c.args.boundary.now) = c.requires.forward d (subst (λ (x : ArrangementState g.row.T.Denot). slice_get x.holds i ≡ Some d) c.self.view_is at) in
     rw (p.1, p.2) (⊎_elim (λ m. m) (λ n. absurd (c.in_err-advance_hold.ensures.forward.0 (ap (λ r. Err r) n) (
-      subst (λ F. IsTrue (all_beyond below d.logical F)) (sym logical) (beyond_itself o d.logical),
+      onward,
       forward,
     ))) c.in_err-advance_hold.ensures.only)
 
@@ -73,11 +71,9 @@ invariant_of-self-2 g c =
     let at : slice_get items i ≡ Some d = slice_get-get_or items i d within ∙ ap (λ (h : HoldState g.row.T.Denot). Some h) (sym c.index_mut-hold.ensures.value) in
     let there = subst (λ (x : ArrangementState g.row.T.Denot). Contains (boundaries x.spine) u) (sym c.self.view_is) c.requires.boundary in
     let behind = subst (λ (x : ArrangementState g.row.T.Denot). IsTrue (all_beyond below u (upper_of x.spine))) (sym c.self.view_is) c.requires.behind in
-    let logical = c.from_elem-logical.ensures ∙ ap (λ (t : g.row.T.Denot). t ∷ []) c.minimum.ensures in
     let ok = c.in_ok-advance_hold.ensures in
-    let to : c.advance_hold.new.hold ≡ record { logical = g.T.Minimum.least ∷ []; physical = u } = ok.moved ∙ λ j. record { logical = logical j; physical = u } in
     let list = ap (λ (x : SpineState g.row.T.Denot). x.list) ok.kept in (
-      arrangement_moved below g.met.T.PartialOrder.order g.T.Minimum.least g.T.Ord.cmp g.met.T.Ord.total a c.advance_hold.new.self i d c.advance_hold.new.hold u at to there behind ok.entry list ok.since c.self.invariant.0,
+      arrangement_moved below g.met.T.PartialOrder.order g.T.Minimum.least g.T.Ord.cmp a c.advance_hold.new.self i d c.advance_hold.new.hold u at (ap (λ (h : HoldState g.row.T.Denot). h.physical) ok.moved) there behind ok.entry list ok.since ok.onward c.self.invariant.0,
       c.self.invariant.1 ∙ sym (ap (λ (l : BatchListState g.row.T.Denot). l.worker) list),
       c.self.invariant.2 ∙ sym (ap (λ (l : BatchListState g.row.T.Denot). l.node) list),
     )
@@ -89,17 +85,13 @@ returns-clause-moved g c =
     let s = c.self.inside.spine in
     let t = c.advance_hold.new.self in
     let u = c.args.boundary.now in
-    let least : List g.row.T.Denot = g.T.Minimum.least ∷ [] in
     let a : ArrangementState g.row.T.Denot = record { width = c.self.inside.width; spine = s; waiting = c.self.inside.waiting.updates; holds = items } in
-    let logical = c.from_elem-logical.ensures ∙ ap (λ (x : g.row.T.Denot). x ∷ []) c.minimum.ensures in
     let ok = c.in_ok-advance_hold.ensures in
-    let to : c.advance_hold.new.hold ≡ record { logical = least; physical = u } = ok.moved ∙ λ j. record { logical = logical j; physical = u } in
-    let since : t.since ≡ s.since = (invariant_of-self-2 g c).0.since ∙ sym c.self.invariant.0.since in
-    let spine : t ≡ record s { holds = t.holds } = ok.kept ∙ λ j. record s { since = since j; holds = t.holds } in
+    let to = ok.moved in
     let now : ArrangementState g.row.T.Denot = record a { spine = t; holds = set items i c.advance_hold.new.hold } in
-    let step : now ≡ record a { spine = record s { holds = t.holds }; holds = set items i (record { logical = least; physical = u }) } =
-    λ j. record a { spine = spine j; holds = set items i (to j) } in
-    step ∙ ap (λ (x : ArrangementState g.row.T.Denot). record x { spine = record x.spine { holds = t.holds }; holds = set x.holds i (record { logical = least; physical = u }) }) c.self.view_is
+    let step : now ≡ record a { spine = record s { since = t.since; holds = t.holds }; holds = set items i (record { logical = c.args.logical.now; physical = u }) } =
+    λ j. record a { spine = ok.kept j; holds = set items i (to j) } in
+    step ∙ ap (λ (x : ArrangementState g.row.T.Denot). record x { spine = record x.spine { since = t.since; holds = t.holds }; holds = set x.holds i (record { logical = c.args.logical.now; physical = u }) }) c.self.view_is
 
 pub returns-clause-stands : goal.returns-clause-stands
 returns-clause-stands g c h stands =

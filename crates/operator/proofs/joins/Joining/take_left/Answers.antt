@@ -1,5 +1,6 @@
 use Rattle.std.proofs.Common.{◌≡◌, ◌+◌, ◌-◌, ◌^◌, IsTrue, IfOk, sym, ap, subst, inl, inr}
 use Rattle.std.proofs.lemmas.Result.{err_from_is_err_and, IfOk-weaker, IfErr-weaker, on_ok_weaker, on_err_weaker}
+use Rattle.lattice.specs.Frontiers.{is_beyond}
 use Rattle.lattice.proofs.BoundLemmas.{join_below}
 use Rattle.update.specs.Updates.{size}
 use Rattle.trace.specs.Readings.{all_updates}
@@ -9,7 +10,7 @@ use Rattle.join.specs.Sides.{Acknowledged, all_rows_have}
 use Rattle.join.proofs.LargeLemmas.{refused_more, refused_by}
 use Rattle.operator_laws.specs.Joining.{IsAnswer}
 use Rattle.operator.specs.Joins.{JoiningView, IsSide, IsFitting}
-use Rattle.operator.proofs.JoinAnswerLemmas.{left_answers, either_way, grown_left, wide_rows, rows_fit, rows_of_batch, pair_width, times_read}
+use Rattle.operator.proofs.JoinAnswerLemmas.{left_answers, either_way, grown_left, wide_rows, rows_fit, rows_of_batch, pair_width}
 use Rattle.operator.proofs.JoinSideLemmas.{side_inserted}
 use Rattle.operator.proofs.joins.Joining.take_left.Goals as goal
 
@@ -20,7 +21,7 @@ returns-in_err-batch-clause-refused g c =
 
 pub take_left-requires-clause-later : goal.take_left-requires-clause-later
 take_left-requires-clause-later g c =
-    times_read g.T.PartialOrder.below g.T.Minimum.least c.args.right.now.since c.requires.since c.args.updates.items c.in_ok-batch.batch.updates c.in_ok-batch.ensures.stands c.requires.times
+    c.in_ok-batch.ensures.stands.among (λ row t. is_beyond g.T.PartialOrder.below c.args.right.now.since t) c.requires.later
 
 pub take_left-requires-clause-wide : goal.take_left-requires-clause-wide
 take_left-requires-clause-wide g c =

@@ -1,7 +1,7 @@
 use Rattle.std.proofs.Common.{◌≡◌, ◌∙◌, ◌++◌, eqb, length, [], ◌∷◌, List, sym, subst, ⊎_elim, inl, inr}
 use Rattle.std.specs.Prelude.{IsTrue}
 use Rattle.std.specs.List.{list_all}
-use Rattle.lattice.specs.Frontiers.{is_beyond}
+use Rattle.lattice.specs.Frontiers.{all_beyond, is_beyond}
 use Rattle.update.specs.declared.change.Update.{Update}
 use Rattle.plan.specs.Changes.{has_passed}
 use Rattle.plan.specs.declared.node.Kind.{Kind}
@@ -9,17 +9,17 @@ use Rattle.trace.specs.Readings.{Insertion, all_updates}
 use Rattle.reduce.specs.Histories.{ReduceView}
 use Rattle.reduce.proofs.HeldLemmas.{or_nothing}
 use Rattle.correction.proofs.ResultLemmas.{passed_on}
-use Rattle.operator.specs.Reductions.{HasRoom, ReducingView, IsReduced, SumsToReceived, pending_in, state_key}
-use Rattle.operator.proofs.ReductionLemmas.{each_of, pending_has, overfull, sums_taken, gave, answer_at, rest_later, rest_beyond, out_settled, out_beyond, whole_beyond}
+use Rattle.operator.specs.Reductions.{HasRoom, ReducingView, IsReduced, SumsToReceived, pending_in, pending_of, state_key}
+use Rattle.operator.proofs.ReductionLemmas.{each_of, pending_has, overfull, sums_taken, gave, answer_at, rest_later, rest_beyond, out_settled, out_beyond}
 use Rattle.operator.proofs.reduction.Reducing.ready.Given.{Over}
 use Rattle.operator.proofs.reduction.Reducing.ready.Goals as goal
 
 pub ready_columns-requires : goal.ready_columns-requires
 ready_columns-requires g c = record {
   held = λ key t m f.
-      c.requires.whole t
-      ∙ (sym (or_nothing (g.T.PartialOrder.below g.T.Minimum.least t))
-      ∙ each_of (is_beyond g.T.PartialOrder.below (g.T.Minimum.least ∷ [])) (pending_in c.self.inside.state.histories) c.self.invariant.2 t (pending_has c.self.inside.state.histories key t m));
+      each_of (is_beyond g.T.PartialOrder.below c.args.trace.now.since) (pending_in c.self.inside.state.histories)
+      (subst (λ (r : ReducingView g.row.T.Denot). IsTrue (all_beyond g.T.PartialOrder.below c.args.trace.now.since (pending_of r))) (sym c.self.view_is) c.requires.held)
+      t (pending_has c.self.inside.state.histories key t m);
 }
 
 pub returns-in_err-out-clause-refused : goal.returns-in_err-out-clause-refused
@@ -33,7 +33,7 @@ returns-in_err-out-clause-refused g c =
       y.0,
       λ inserted received emitted st sums w passed.
           overfull below r c.self.invariant.0 c.self.invariant.1 g.met.T.PartialOrder.order received w.taken frontier w.same w.stands.wide (w.same.among (λ row s. eqb (length row) r.width) w.wide)
-          (y.1 (g.T.Minimum.least ∷ []) inserted w.taken emitted (whole_beyond g.met.T.PartialOrder.order g.T.Minimum.least c.args.trace.now.since c.requires.whole) st (sums_taken below c.args.trace.now.since frontier (all_updates inserted) received w.taken sums w.same) w.stands w.apart w.ahead
+          (y.1 (g.T.Minimum.least ∷ []) inserted w.taken emitted c.requires.begun st (sums_taken below c.args.trace.now.since frontier (all_updates inserted) received w.taken sums w.same) w.stands w.apart w.ahead
           (each_of (λ (u : Update g.row.T.Denot). has_passed below frontier u.time) emitted passed)),
     )) c.in_err-out.ensures.refused))
 
@@ -60,7 +60,7 @@ module _ (g : Over) (c : goal.In_ok-out g) where
   stands inserted received emitted st sums w =
       let apart = c.in_ok-out.ensures.apart emitted w.apart w.ahead in
       gave g.met.T.PartialOrder.order g.met.T.Lattice.bounds g.met.T.Ord.total old received emitted c.in_ok-out.out c.args.frontier.now c.ready_columns.new.self.histories c.ready_columns.new.self.waiting c.ready_columns.new.self.looked c.self.invariant.1 w
-      (c.in_ok-out.ensures.stands (g.T.Minimum.least ∷ []) inserted w.taken emitted (whole_beyond g.met.T.PartialOrder.order g.T.Minimum.least c.args.trace.now.since c.requires.whole) st (sums_taken g.T.PartialOrder.below c.args.trace.now.since c.args.frontier.now (all_updates inserted) received w.taken sums w.same) w.stands)
+      (c.in_ok-out.ensures.stands (g.T.Minimum.least ∷ []) inserted w.taken emitted c.requires.begun st (sums_taken g.T.PartialOrder.below c.args.trace.now.since c.args.frontier.now (all_updates inserted) received w.taken sums w.same) w.stands)
       apart.0 apart.1 c.in_ok-out.ensures.quiet c.in_ok-out.ensures.once c.in_ok-out.ensures.nonzero settled
 
 pub returns-clause-stands : goal.returns-clause-stands
