@@ -41,7 +41,7 @@ impl<T: Minimum> Desk<T> {
             pass_on(alloc, plan, hand)?;
             return Ok(());
         }
-        match &*hand {
+        match hand {
             Hand::Taken { bundle, more } => {
                 let laid = self.lay(alloc, plan, bundle, *more)?;
                 take_in_hand(hand, laid);
