@@ -5,6 +5,7 @@ pub mod LargeLemmas
 pub mod DeskLemmas
 pub mod BundleLemmas
 pub mod CauseLemmas
+pub mod GatheredLemmas
 pub mod LayingLemmas
 pub mod FindingLemmas
 pub mod FromLemmas

@@ -41,7 +41,7 @@ impl<T: Minimum> Desk<T> {
             pass_on(alloc, plan, hand)?;
             return Ok(());
         }
-        match &*hand {
+        match hand {
             Hand::Taken { bundle, more } => {
                 let laid = self.lay(alloc, plan, bundle, *more)?;
                 take_in_hand(hand, laid);
@@ -104,10 +104,13 @@ impl<T: Minimum> Desk<T> {
     ///   fed.
     /// - [`Refusal::OutOfMemory`] only if memory was refused.
     ///
-    /// Cost: at a linear node one step for each update, and no copy, unless short bundles are gathered
-    /// or the node has two sources. At an arrange node, a join or a reduction a copy of the bundle, and
-    /// then that of [`operator::Arrangement`], [`operator::Joining`] or [`operator::Reducing`]. A turn
-    /// costs n log n comparisons in the number of updates that the frontier has passed.
+    /// Cost: at a linear node one step for each update. The updates of a bundle move, and none is copied,
+    /// unless they came column by column, or short bundles are gathered at a filter. They move at an
+    /// arrange node, too, at the cost of [`operator::Arrangement`]. At a join or a reduction a copy of
+    /// the bundle, and then that of [`operator::Joining`] or [`operator::Reducing`]. What is given at a
+    /// node with two sources costs n log n comparisons in the number of its updates, and a copy only if
+    /// their diffs together are 2^63 or more. A turn costs n log n comparisons in the number of updates
+    /// that the frontier has passed.
     pub fn compute(&mut self, alloc: Global, plan: &Plan, hand: &mut Hand<T>) -> Result<(), Refusal>
         requires someones { IsSomeones T.below T.joined T.least plan.now self.old hand.old }
         ensures leads { Leads T.below T.joined T.least plan.now self.old hand.old self.new hand.new }

@@ -1,6 +1,6 @@
 //! What a bundle makes is laid on the desk. At a linear node it is gathered, at an arrange node it
 //! waits in the arrangement, and at a reduction its times are pending.
-ghost use Rattle.std.specs.Prelude.{◌≡◌, ◌<◌, ◌≤◌, ◌^◌, ℕ, List, [], ◌∷◌, Some, None, Bool, false, true, IfOk, IfErr, OnOk, OnErr, IsTrue, length, slice_get};
+ghost use Rattle.std.specs.Prelude.{◌≡◌, ◌++◌, ◌<◌, ◌≤◌, ◌^◌, ℕ, List, [], ◌∷◌, Some, None, Bool, false, true, IfOk, IfErr, OnOk, OnErr, IsTrue, length, slice_get};
 ghost use Rattle.std.specs.List.{list_all};
 ghost use Rattle.lattice.specs.Frontiers.{all_beyond};
 ghost use Rattle.update.specs.declared.change.Update.{Update};
@@ -27,69 +27,77 @@ use columns::UpdateList;
 use desk_laws::Hand;
 use lattice::Minimum;
 use machine::Bundle;
+use operator::Arrangement;
 use plan::{Node, NodeId, Plan};
 use std::alloc::Global;
-use update::{Refusal, Update};
+use update::Refusal;
 
-// What a linear node makes of updates.
-fn applied<T: Minimum>(
+// Moves updates into an arrangement. If memory was refused, then nothing has changed, and the list has
+// them still.
+fn move_into<T: Minimum>(
     alloc: Global,
-    operator: &Node,
-    updates: &UpdateList<T>,
-) -> Result<Vec<Update<T>>, Refusal>
-    requires linear { IsTrue (is_linear operator.now) }
-    requires rows { IsTrue (takes_rows operator.now updates.now) }
-    ensures applied { IfOk result (λ out. out.items ≡ linear_output operator.now updates.now) }
-    ensures refused { IfErr result (IsMemoryOrOverflow (Overflows operator.now updates.now)) }
+    arrangement: &mut Arrangement<T>,
+    list: &mut UpdateList<T>,
+) -> Result<(), Refusal>
+    requires rows { IsTrue (rows_have arrangement.old.width list.old) }
+    requires times { IsTrue (times_from T.below T.least list.old) }
+    ensures waiting { OnOk result (arrangement.new
+        ≡ record arrangement.old { waiting = arrangement.old.waiting ++ list.old }) }
+    ensures same { OnErr result (arrangement.new ≡ arrangement.old) }
+    ensures left { OnErr result (list.new ≡ list.old) }
+    ensures only { IfErr result (λ refused. refused ≡ OutOfMemory) }
 {
-    let mut updates = updates.to_vec(alloc)?;
-    linear::apply(operator, &mut updates)?;
-    Ok(updates)
+    let mut updates = list.take_vec(alloc)?;
+    let moved = arrangement.take_in(&mut updates);
+    *list = updates.into();
+    moved
 }
 
 impl<T: Minimum> Desk<T> {
-    // Gathers what a linear node makes of updates. Nothing else on the desk changes.
+    // Gathers what a linear node makes of updates. Nothing else on the desk changes. If it is refused,
+    // then the list is as it was.
     fn gather(
         &mut self,
         alloc: Global,
         operator: &Node,
         node: NodeId,
-        updates: &UpdateList<T>,
+        list: &mut UpdateList<T>,
     ) -> Result<(), Refusal>
         requires place { node < length self.old.gathered }
         requires linear { IsTrue (is_linear operator.now) }
         requires plain { arranged_by operator.now ≡ None }
-        requires rows { IsTrue (takes_rows operator.now updates.now) }
+        requires rows { IsTrue (takes_rows operator.now list.old) }
         ensures laid { OnOk result ((p : Dataflow) → node_at p.nodes node ≡ operator.now
             → IsLaidIn T.below T.joined T.least p node
-            (linear_output operator.now updates.now) self.old self.new) }
+            (linear_output operator.now list.old) self.old self.new) }
         ensures same { OnErr result (self.new ≡ self.old) }
-        ensures refused { IfErr result (IsMemoryOrOverflow (Overflows operator.now updates.now)) }
+        ensures left { OnErr result (list.new ≡ list.old) }
+        ensures refused { IfErr result (IsMemoryOrOverflow (Overflows operator.now list.old)) }
     {
-        let out = applied(alloc, operator, updates)?;
-        self.gathered[node.number()].append(alloc, out)?;
+        self.gathered[node.number()].take_in(alloc, operator, list)?;
         Ok(())
     }
 
-    // Puts updates into the arrangement of a node, where they wait. Nothing else on the desk changes.
+    // Moves updates into the arrangement of a node, where they wait. Nothing else on the desk changes.
+    // If it is refused, then the list is as it was.
     fn arrange(
         &mut self,
         alloc: Global,
         node: NodeId,
-        updates: &UpdateList<T>,
+        list: &mut UpdateList<T>,
     ) -> Result<(), Refusal>
         requires there { (a : ArrangementState T) × (slice_get self.old.arrangements node ≡ Some (Some a))
-            × IsTrue (rows_have a.width updates.now) }
-        requires times { IsTrue (times_from T.below T.least updates.now) }
+            × IsTrue (rows_have a.width list.old) }
+        requires times { IsTrue (times_from T.below T.least list.old) }
         ensures laid { OnOk result ((p : Dataflow) (source key : ℕ)
             → node_at p.nodes node ≡ Arrange source key
-            → IsLaidIn T.below T.joined T.least p node updates.now self.old self.new) }
+            → IsLaidIn T.below T.joined T.least p node list.old self.old self.new) }
         ensures same { OnErr result (self.new ≡ self.old) }
+        ensures left { OnErr result (list.new ≡ list.old) }
         ensures only { IfErr result (λ refused. refused ≡ OutOfMemory) }
     {
-        let mut updates = updates.to_vec(alloc)?;
         match &mut self.arrangements[node.number()] {
-            Some(arrangement) => arrangement.take_in(&mut updates),
+            Some(arrangement) => move_into(alloc, arrangement, list),
             None => unreachable!(),
         }
     }
@@ -118,49 +126,52 @@ impl<T: Minimum> Desk<T> {
     }
 
     // Lays what a bundle makes on the desk, at a node that is no join. If it is refused, then nothing
-    // has changed.
+    // has changed, and the bundle is as it was.
     fn take_in(
         &mut self,
         alloc: Global,
         plan: &Plan,
-        bundle: &Bundle<T>,
+        bundle: &mut Bundle<T>,
         more: bool,
     ) -> Result<(), Refusal>
         requires someones { IsSomeones T.below T.joined T.least plan.now self.old
-            (Taken bundle.now more) }
-        requires other { is_join (node_at plan.now bundle.now.place.node) ≡ false }
+            (Taken bundle.old more) }
+        requires other { is_join (node_at plan.now bundle.old.place.node) ≡ false }
         ensures leads { OnOk result (Leads T.below T.joined T.least plan.now self.old
-            (Taken bundle.now more) self.new (Kept bundle.now.place.node more)) }
+            (Taken bundle.old more) self.new (Kept bundle.old.place.node more)) }
         ensures same { OnErr result (self.new ≡ self.old) }
+        ensures left { OnErr result (bundle.new ≡ bundle.old) }
         ensures refused { IfErr result (IsMemoryOrOverflow (IsTooLarge T.below T.joined T.least T.cmp
-            plan.now self.old (Taken bundle.now more))) }
+            plan.now self.old (Taken bundle.old more))) }
     {
         let node = bundle.place.node;
         let operator = plan.node(node);
         match operator {
-            Node::Arrange { .. } => self.arrange(alloc, node, &bundle.updates),
+            Node::Arrange { .. } => self.arrange(alloc, node, &mut bundle.updates),
             Node::Reduce { .. } => self.reduce(alloc, node, &bundle.updates),
-            _ => self.gather(alloc, operator, node, &bundle.updates),
+            _ => self.gather(alloc, operator, node, &mut bundle.updates),
         }
     }
 
-    // Lays what a bundle makes on the desk. The pairs of a join are ready at once. If it is refused,
-    // then nothing has changed.
+    // Lays what a bundle makes on the desk. The pairs of a join are ready at once. What moves to the desk
+    // is gone from the bundle then. If it is refused, then nothing has changed, and the bundle is as it
+    // was.
     pub(crate) fn lay(
         &mut self,
         alloc: Global,
         plan: &Plan,
-        bundle: &Bundle<T>,
+        bundle: &mut Bundle<T>,
         more: bool,
     ) -> Result<Hand<T>, Refusal>
         requires someones { IsSomeones T.below T.joined T.least plan.now self.old
-            (Taken bundle.now more) }
+            (Taken bundle.old more) }
         ensures leads { IfOk result (λ hand. Leads T.below T.joined T.least plan.now self.old
-            (Taken bundle.now more) self.new hand) }
-        ensures laid { IfOk result (λ hand. IsLaidHand bundle.now.place.node hand) }
+            (Taken bundle.old more) self.new hand) }
+        ensures laid { IfOk result (λ hand. IsLaidHand bundle.old.place.node hand) }
         ensures same { OnErr result (self.new ≡ self.old) }
+        ensures left { OnErr result (bundle.new ≡ bundle.old) }
         ensures refused { IfErr result (IsMemoryOrOverflow (IsTooLarge T.below T.joined T.least T.cmp
-            plan.now self.old (Taken bundle.now more))) }
+            plan.now self.old (Taken bundle.old more))) }
     {
         let node = bundle.place.node;
         match plan.node(node) {

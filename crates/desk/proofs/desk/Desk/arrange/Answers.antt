@@ -8,13 +8,13 @@ use Rattle.desk.proofs.PlaceLemmas.{found_at, set_same}
 use Rattle.desk.proofs.ResultLemmas.{on_err_by, on_ok_by}
 use Rattle.desk.proofs.desk.Desk.arrange.Goals as goal
 
-pub take_in-requires-clause-rows : goal.take_in-requires-clause-rows
-take_in-requires-clause-rows g c =
+pub move_into-requires-clause-rows : goal.move_into-requires-clause-rows
+move_into-requires-clause-rows g c =
     let r = c.requires.there in
     let there = subst (λ (x : DeskView g.row.T.Denot). slice_get x.arrangements c.args.node ≡ Some (Some r.0)) (sym c.self.view_is) r.1 in
     let mine = found_at c.self.inside.arrangements.items c.number.result c.args.node c.index_mut.result.now (Some r.0) c.number.ensures c.index_mut.ensures.value there in
     let same = same_Some r.0 c.in-Some.arrangement (sym mine ∙ c.in-Some.is) in
-    subst (λ (a : ArrangementState g.row.T.Denot). IsTrue (rows_have a.width c.in_ok-updates.updates.items)) same (subst (λ us. IsTrue (rows_have r.0.width us)) (sym c.in_ok-updates.ensures.copied) r.2)
+    subst (λ (a : ArrangementState g.row.T.Denot). IsTrue (rows_have a.width c.args.list.now)) same r.2
 
 pub unreachable-requires : goal.unreachable-requires
 unreachable-requires g c =
@@ -39,20 +39,20 @@ returns-clause-laid g c =
     let there = subst (λ (x : DeskView g.row.T.Denot). slice_get x.arrangements c.args.node ≡ Some (Some r.0)) (sym c.self.view_is) r.1 in
     let mine = found_at inside.arrangements.items c.number.result c.args.node c.index_mut.result.now (Some r.0) c.number.ensures c.index_mut.ensures.value there in
     let here = there ∙ ap Some (sym mine ∙ c.in-Some.is) in
-    on_ok_by c.take_in.result (λ waiting p source key at.
-    subst (λ x. IsLaidIn below joined least p c.args.node c.args.updates.now x (record d { arrangements = set d.arrangements c.number.result (Some c.take_in.new.self) })) c.self.view_is
-    (arranged_after below joined least p c.args.node d c.in-Some.arrangement c.take_in.new.self c.args.updates.now c.number.result c.number.ensures here
-    (waiting ∙ ap (λ us. record c.in-Some.arrangement { waiting = c.in-Some.arrangement.waiting ++ us }) c.in_ok-updates.ensures.copied) source key at)) c.take_in.ensures.waiting
+    on_ok_by c.move_into.result (λ waiting p source key at.
+    subst (λ x. IsLaidIn below joined least p c.args.node c.args.list.now x (record d { arrangements = set d.arrangements c.number.result (Some c.move_into.new.arrangement) })) c.self.view_is
+    (arranged_after below joined least p c.args.node d c.in-Some.arrangement c.move_into.new.arrangement c.args.list.now c.number.result c.number.ensures here
+    waiting source key at)) c.move_into.ensures.waiting
 
 pub returns-clause-same : goal.returns-clause-same
 returns-clause-same g c =
     let inside = c.self.inside in
-    on_err_by c.take_in.result (λ same.
+    on_err_by c.move_into.result (λ same.
     let now = ap Some same ∙ sym c.in-Some.is in
     ap (λ (arrangements : List (Option (ArrangementState g.row.T.Denot))). record {
       gathered = inside.gathered.items;
       arrangements = arrangements;
       joins = inside.joins.items;
       reductions = inside.reductions.items;
-    }) (set_same inside.arrangements.items c.number.result (Some c.take_in.new.self) (now ∙ (c.index_mut.ensures.value ∙ ap (λ x. get_or inside.arrangements.items c.number.result x) (sym now))))
-    ∙ c.self.view_is) c.take_in.ensures.same
+    }) (set_same inside.arrangements.items c.number.result (Some c.move_into.new.arrangement) (now ∙ (c.index_mut.ensures.value ∙ ap (λ x. get_or inside.arrangements.items c.number.result x) (sym now))))
+    ∙ c.self.view_is) c.move_into.ensures.same

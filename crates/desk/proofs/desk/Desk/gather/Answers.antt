@@ -1,4 +1,4 @@
-use Rattle.std.proofs.Common.{◌<◌, List, ◌++◌, length, set, get_or, sym, subst, ap, ◌∙◌}
+use Rattle.std.proofs.Common.{◌<◌, List, length, set, get_or, sym, subst, ap, ◌∙◌}
 use Rattle.update.specs.declared.change.Update.{Update}
 use Rattle.linear.specs.Applied.{linear_output}
 use Rattle.desk_laws.specs.Own.{DeskView}
@@ -8,11 +8,11 @@ use Rattle.desk.proofs.PlaceLemmas.{set_same}
 use Rattle.desk.proofs.ResultLemmas.{on_err_always}
 use Rattle.desk.proofs.desk.Desk.gather.Goals as goal
 
-pub returns-in_err-append-clause-same : goal.returns-in_err-append-clause-same
-returns-in_err-append-clause-same g c =
+pub returns-in_err-take_in-clause-same : goal.returns-in_err-take_in-clause-same
+returns-in_err-take_in-clause-same g c =
     let inside = c.self.inside in
-    let kept = set_same inside.gathered.items c.number.result c.append.new.self (c.in_err-append.ensures.same ∙ (c.index_mut.ensures.value ∙ ap (λ us. get_or inside.gathered.items c.number.result us) (sym c.in_err-append.ensures.same))) in
-    on_err_always c.from_residual-in_err-append.result
+    let kept = set_same inside.gathered.items c.number.result c.take_in.new.self (c.in_err-take_in.ensures.same ∙ (c.index_mut.ensures.value ∙ ap (λ us. get_or inside.gathered.items c.number.result us) (sym c.in_err-take_in.ensures.same))) in
+    on_err_always c.from_residual.result
     (ap (λ (gathered : List (List (Update g.row.T.Denot))). record {
       gathered = gathered;
       arrangements = inside.arrangements.items;
@@ -32,8 +32,7 @@ returns-clause-laid g c p at =
       joins = inside.joins.items;
       reductions = inside.reductions.items;
     } in
-    let made = linear_output c.args.operator.now c.args.updates.now in
+    let made = linear_output c.args.operator.now c.args.list.now in
     let within = subst (λ (x : DeskView g.row.T.Denot). c.args.node < length x.gathered) (sym c.self.view_is) c.requires.place in
-    subst (λ x. IsLaidIn below joined least p c.args.node made x (record d { gathered = set d.gathered c.number.result c.append.new.self })) c.self.view_is
-    (gathered_after below joined least p c.args.node d c.args.operator.now at c.requires.plain c.number.result c.number.ensures within c.index_mut.result.now c.append.new.self made c.index_mut.ensures.value
-    (c.in_ok-append.ensures.more ∙ ap (λ us. c.index_mut.result.now ++ us) c.in_ok-out.ensures.applied))
+    subst (λ x. IsLaidIn below joined least p c.args.node made x (record d { gathered = set d.gathered c.number.result c.take_in.new.self })) c.self.view_is
+    (gathered_after below joined least p c.args.node d c.args.operator.now at c.requires.plain c.number.result c.number.ensures within c.index_mut.result.now c.take_in.new.self made c.index_mut.ensures.value c.in_ok-take_in.ensures.more)
