@@ -78,10 +78,10 @@ impl<T: Minimum, P: BoardProtocol<T>> Actor<T, P> {
             Ok(home) => {
                 let mut tenure = home;
                 let board = tenure.state();
-                let answer = board.port_frontiers(self.number, ports);
+                let fronts = board.port_frontiers(self.number, ports);
                 self.accepted = board.accepted();
                 self.pass = Some(tenure.leave());
-                Some(answer)
+                Some(fronts)
             }
             Err(same) => {
                 self.pass = Some(same);
