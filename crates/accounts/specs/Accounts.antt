@@ -80,3 +80,7 @@ module _ {T : Type 0} (below : T → T → Bool) where
 
   abbrev pub input_front_of : AccountState T → ℕ → List T
   input_front_of a n = Tallies.input_frontier below a.nodes (items_on a) n
+
+  -- the input frontier of one port, found in the same way
+  abbrev pub port_front_of : AccountState T → ℕ → ℕ → List T
+  port_front_of a n port = Tallies.port_frontier below a.nodes (items_on a) n port

@@ -9,7 +9,7 @@ ghost use Rattle.progress.specs.Tallies.{SameCounts};
 ghost use Rattle.outstanding.specs.Inputs.{first_inputs};
 ghost use Rattle.outstanding.specs.Loads.{first_stations};
 ghost use Rattle.outstanding.specs.Stations.{lots};
-ghost use Rattle.accounts.specs.Accounts.{AccountState, items_left, front_of, input_front_of};
+ghost use Rattle.accounts.specs.Accounts.{AccountState, items_left, front_of, input_front_of, port_front_of};
 
 use antichain::Antichain;
 use lattice::Minimum;
@@ -151,6 +151,22 @@ impl<T: Minimum> Accounts<T> {
         ensures refused { IfErr result (λ refusal. refusal ≡ OutOfMemory) }
     {
         self.tally.input_times_of(node)
+    }
+
+    /// The input frontier of one port of a node: the least of what is in flight to it, and of what is
+    /// outstanding at its source or above. Refused only with `OutOfMemory`.
+    ///
+    /// Cost: that of [`Tally::input_frontier`].
+    pub fn port_frontier(&mut self, node: NodeId, port: usize) -> Result<Antichain<T>, Refusal>
+        requires { node < length self.old.nodes }
+        ensures kept { self.new ≡ self.old }
+        ensures least { IfOk result (λ found.
+            SameElements found (port_front_of T.below self.old node port)) }
+        ensures beyond { IfOk result (λ found. (t : T) → is_beyond T.below found t
+            ≡ is_beyond T.below (port_front_of T.below self.old node port) t) }
+        ensures refused { IfErr result (λ refusal. refusal ≡ OutOfMemory) }
+    {
+        self.tally.input_frontier(node, port)
     }
 
     /// Finds anew what the tally keeps of a node, if something moved it. A caller that asks about many

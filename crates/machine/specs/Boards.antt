@@ -25,7 +25,7 @@ use Rattle.histories.specs.Histories.Dataflows.{Dataflow, node_of}
 use Rattle.histories.specs.Histories.States.{State, queue, held_at, emitted_at, fed_to, open_at}
 use Rattle.histories.specs.Histories.Shares.{home}
 use Rattle.outstanding.specs.Inputs.{front_at, first_inputs, feed_faults, advance_faults}
-use Rattle.histories.specs.Histories.Outstanding.{frontier, input_frontier}
+use Rattle.histories.specs.Histories.Outstanding.{frontier, input_frontier, port_frontier}
 use Rattle.histories.specs.Histories.{alone, state_after, dataflow_after, IsLegal, IsGive}
 use Rattle.histories.specs.Histories.Promises.{changes_in}
 use Rattle.histories.specs.Histories.Readings.{IsQuiet, is_from_start}
@@ -180,6 +180,10 @@ module _ {T : Type 0} (below : T → T → Bool) (minimum : T) where
 
   abbrev pub input_frontier_on : BoardState T → List (Event T) → ℕ → List T
   input_frontier_on b h n = input_frontier below (plan_on b h) (state_on b h) n
+
+  -- the input frontier of one port after a history of the board
+  abbrev pub port_frontier_on : BoardState T → List (Event T) → ℕ → ℕ → List T
+  port_frontier_on b h n port = port_frontier below (plan_on b h) (state_on b h) n port
 
   -- the times that a worker holds at a node after a history of the board
   abbrev pub held_on : BoardState T → List (Event T) → ℕ → ℕ → List T

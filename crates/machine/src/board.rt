@@ -136,6 +136,11 @@ impl<T: Minimum> Board<T> {
         self.accounts.plan()
     }
 
+    /// The allocator of the board's lists. Takes no memory.
+    pub fn allocator(&self) -> Global {
+        *self.hand.allocator()
+    }
+
     // Records an event as the board's last.
     pub(crate) fn note(&mut self, event: Snapshot<Event<T>>)
         ensures noted { self.new ≡ record self.old { last = event.value } }

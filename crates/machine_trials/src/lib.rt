@@ -13,3 +13,5 @@ mod moves;
 mod partial_tests;
 #[cfg(test)]
 mod piece_tests;
+#[cfg(test)]
+mod port_tests;

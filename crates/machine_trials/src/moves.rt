@@ -1,7 +1,7 @@
 //! What clients and workers do in several of these trials: one call of a board each. The asserts show
 //! what the call requires. The first node of each plan is an input of one column.
 use lattice::Bitime;
-use machine::{Board, Emission, Routing};
+use machine::{Board, Emission, Routing, Site};
 use plan::NodeId;
 use row::Row;
 use std::alloc::Global;
@@ -73,4 +73,30 @@ pub(crate) fn gave(
         Ok(()) => Ok(()),
         Err(_ungiven) => Err(Refusal::OutOfMemory),
     }
+}
+
+// Worker 0 takes the first bundle that waits at the first port of a node, and gives its updates there.
+pub(crate) fn passed_on(
+    rt: &impl Abort,
+    alloc: Global,
+    board: &mut Board<Bitime>,
+    node: usize,
+) -> Result<(), Refusal> {
+    let site = Site {
+        node: NodeId::new(node),
+        port: 0,
+        worker: 0,
+    };
+    let waits = board.waiting(&site) > 0;
+    assert!(rt; waits);
+    board.known();
+    let is_free = board.in_hand(0).is_none();
+    assert!(rt; is_free);
+    let bundle = board.take(site, 0)?;
+    let given = Emission {
+        node: NodeId::new(node),
+        worker: 0,
+        updates: bundle.updates,
+    };
+    gave(rt, alloc, board, given, Vec::new(alloc).into())
 }

@@ -3,7 +3,7 @@
 ghost use Rattle.std.specs.Prelude.{◌≡◌, ◌<◌, None, get_or};
 ghost use Rattle.machine.specs.Boards.Pieces.{IsPiece};
 
-use crate::moves::{advanced, fed, gave};
+use crate::moves::{advanced, fed, gave, passed_on};
 use lattice::{Bitime, Minimum};
 use machine::{Board, Emission, Piece, Site};
 use plan::{Kind, NodeId};
@@ -19,32 +19,6 @@ const INPUT: usize = 0;
 const ARRANGED: usize = 1;
 
 const COUNTS: usize = 2;
-
-// Takes the first bundle that waits at a node, and gives its updates there.
-fn passed_on(
-    rt: &impl Abort,
-    alloc: Global,
-    board: &mut Board<Bitime>,
-    node: usize,
-) -> Result<(), Refusal> {
-    let site = Site {
-        node: NodeId::new(node),
-        port: 0,
-        worker: 0,
-    };
-    let waits = board.waiting(&site) > 0;
-    assert!(rt; waits);
-    board.known();
-    let is_free = board.in_hand(0).is_none();
-    assert!(rt; is_free);
-    let bundle = board.take(site, 0)?;
-    let given = Emission {
-        node: NodeId::new(node),
-        worker: 0,
-        updates: bundle.updates,
-    };
-    gave(rt, alloc, board, given, Vec::new(alloc).into())
-}
 
 // Takes the first bundle that waits at the counts, and gives nothing, so the worker still holds the
 // bundle's time.

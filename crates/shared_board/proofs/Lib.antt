@@ -5,3 +5,4 @@ pub mod ActorLemmas
 pub mod ApartLemmas
 pub mod QuietLemmas
 pub mod TakenLemmas
+pub mod PortLemmas

@@ -8,12 +8,14 @@ use Rattle.update.specs.declared.refusal.Refusal.{Refusal}
 use Rattle.plan.specs.Changes.{AreDifferences, query_at}
 use Rattle.hub.specs.Known.{Known}
 use Rattle.histories.specs.declared.event.Fed.{Fed}
+use Rattle.histories.specs.declared.event.Site.{Site}
 use Rattle.histories.specs.Histories.Dataflows.{Dataflow}
 use Rattle.histories.specs.Histories.Outstanding.{frontier, input_frontier}
 use Rattle.histories.specs.Histories.Promises.{changes_in}
 use Rattle.histories.specs.Histories.Readings.{IsQuiet}
 use Rattle.shared_board.specs.declared.event.Doing.{Doing}
 use Rattle.shared_board.specs.Large.{HasNoSmallBound}
+use Rattle.shared_board.specs.Ports.{AreFrontsOf}
 use Rattle.shared_board.specs.Tenures.{terms_in, state_found, feed_refusal_in, read_refusal_in, changes_refusal_in, IsReadRefusalIn, IsChangesRefusalIn}
 
 module _ {T : Type 0} where
@@ -28,6 +30,11 @@ module _ {T : Type 0} where
 
     abbrev pub input_frontier_found : ℕ → List T
     input_frontier_found n = input_frontier below (dataflow_of old) (state_found below minimum new) n
+
+    -- these are the input frontiers of the ports there, in this order
+    abbrev pub AreFrontsFound : List Site → List (List T) → Type 0
+    AreFrontsFound ports fronts =
+        AreFrontsOf below (dataflow_of old) (state_found below minimum new) ports fronts
 
     -- what refuses a change, a read and a question for changes there
     abbrev pub feed_refusal_found : Fed T → Option Refusal

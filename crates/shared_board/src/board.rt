@@ -30,6 +30,7 @@ ghost use Rattle.shared_board.specs.Large.{HasNoSmallBound};
 ghost use Rattle.shared_board.specs.Tenures.{IsKeptBeside, StandsFor, WaitsOrNot, doing, left_by, terms_for, terms_of_board, feed_refusal_in, advance_refusal_in, allow_refusal_in, read_refusal_in, changes_refusal_in, IsReadRefusalIn, IsChangesRefusalIn};
 ghost use Rattle.shared_board.specs.Widths.{are_wide_for};
 
+mod ports;
 mod taking;
 
 use antichain::Antichain;

@@ -13,24 +13,25 @@ use Rattle.antichain.specs.Antichains.{SameElements}
 use Rattle.antichain.proofs.InsertionLemmas.{least_beyond}
 use Rattle.antichain.proofs.Lists.{Among, contains_among, all_at, all_from}
 use Rattle.plan.specs.Changes.{has_passed}
+use Rattle.histories.specs.declared.event.Site.{Site}
 use Rattle.histories.specs.declared.event.Bundle.{Bundle}
 use Rattle.histories.specs.declared.event.HeldTime.{HeldTime}
 use Rattle.histories.specs.declared.event.OpenTime.{OpenTime}
 use Rattle.histories.specs.declared.event.Event.{Event}
 use Rattle.histories.specs.Histories.Dataflows.{upstream}
 use Rattle.histories.specs.Histories.States.{State, queue, held_at}
-use Rattle.progress.specs.Tallies.{is_upstream, is_input_upstream, times_where}
+use Rattle.progress.specs.Tallies.{is_upstream, is_input_upstream, is_port_upstream, times_where}
 use Rattle.progress.proofs.FrontierLemmas.{same_least}
 use Rattle.progress.proofs.NumberLemmas.{number_below}
-use Rattle.histories.specs.Histories.Outstanding.{stamps, items_of, frontier, strictly_upstream, input_frontier}
+use Rattle.histories.specs.Histories.Outstanding.{stamps, items_of, frontier, strictly_upstream, input_frontier, port_frontier}
 use Rattle.histories.specs.Histories.{state_after, IsTakeHeld}
 use Rattle.histories.specs.Histories.Promises.{IsInPlace}
 use Rattle.histories.specs.Histories.Readings.{IsQuiet}
 use Rattle.machine.specs.Boards.{BoardState, IsBoard, Stands}
-use Rattle.machine.specs.Boards.Reads.{on_board, open_on, front, input_front, is_ready, hands_are_free, is_quiet_board}
+use Rattle.machine.specs.Boards.Reads.{on_board, open_on, front, input_front, port_front, is_ready, hands_are_free, is_quiet_board}
 use Rattle.outstanding.specs.Loads.{is_none, lot_of, all_bundles, all_held}
 use Rattle.outstanding.proofs.LotLemmas.{all_held_all, all_queued, all_held_at}
-use Rattle.histories.proofs.HistoryLemmas.OutstandingLemmas.{held_where, open_where, counted_times, beyond_frontier, beyond_input_frontier}
+use Rattle.histories.proofs.HistoryLemmas.OutstandingLemmas.{held_where, open_where, logged_times, counted_times, at_site, at_held, at_input, beyond_frontier, beyond_input_frontier, beyond_port_frontier}
 use Rattle.outstanding.proofs.OpenLemmas.{open_on_at}
 use Rattle.plan.specs.Ancestors.{numbers_below}
 use Rattle.outstanding.proofs.SiteLemmas.{AreQueued, AreHeld, AreOpen, any_among, queued_any, none_queued, held_any_like, held_all_like, open_any_like}
@@ -40,11 +41,11 @@ or_nothing true = refl
 or_nothing false = refl
 
 module _ {T : Type 0} (below : T → T → Bool) (o : PartialOrderLaws below) where
-  stamps_any : (test : ℕ → Bool) (t : T) (bs : List (Bundle T)) → is_beyond below (stamps (λ site. test site.node) bs) t ≡ list_any (λ b. test b.place.node && is_beyond below b.stamp t) bs
+  stamps_any : (test : Site → Bool) (t : T) (bs : List (Bundle T)) → is_beyond below (stamps test bs) t ≡ list_any (λ b. test b.place && is_beyond below b.stamp t) bs
   stamps_any test t [] = refl
   stamps_any test t (b ∷ bs) =
-      list_any-append (λ f. below f t) (cond (test b.place.node) b.stamp []) (stamps (λ site. test site.node) bs)
-      ∙ ap₂ (λ x y. x || y) (step (test b.place.node)) (stamps_any test t bs)
+      list_any-append (λ f. below f t) (cond (test b.place) b.stamp []) (stamps test bs)
+      ∙ ap₂ (λ x y. x || y) (step (test b.place)) (stamps_any test t bs)
     where
       step : (c : Bool) → is_beyond below (cond c b.stamp []) t ≡ (c && is_beyond below b.stamp t)
       step true = refl
@@ -70,20 +71,24 @@ module _ {T : Type 0} (below : T → T → Bool) (o : PartialOrderLaws below) wh
       step true = or_nothing (below x.time t)
       step false = refl
 
-  counted_any : (w : State T) (there holds : ℕ → Bool) (t : T) → is_beyond below (counted_times w there holds) t
-      ≡ (list_any (λ b. there b.place.node && is_beyond below b.stamp t) w.in_flight || (list_any (λ m. holds m.node && below m.time t) w.held || list_any (λ x. there x.input && below x.time t) w.open_times))
-  counted_any w there holds t =
-      list_any-append (λ f. below f t) (stamps (λ site. there site.node) w.in_flight) (held_where holds w.held ++ open_where there w.open_times)
-      ∙ ap₂ (λ x y. x || y) (stamps_any there t w.in_flight) (list_any-append (λ f. below f t) (held_where holds w.held) (open_where there w.open_times) ∙ ap₂ (λ x y. x || y) (held_any holds t w.held) (opened_any there t w.open_times))
+  logged_any : (w : State T) (there : Site → Bool) (holds opens : ℕ → Bool) (t : T) → is_beyond below (logged_times w there holds opens) t
+      ≡ (list_any (λ b. there b.place && is_beyond below b.stamp t) w.in_flight || (list_any (λ m. holds m.node && below m.time t) w.held || list_any (λ x. opens x.input && below x.time t) w.open_times))
+  logged_any w there holds opens t =
+      list_any-append (λ f. below f t) (stamps there w.in_flight) (held_where holds w.held ++ open_where opens w.open_times)
+      ∙ ap₂ (λ x y. x || y) (stamps_any there t w.in_flight) (list_any-append (λ f. below f t) (held_where holds w.held) (open_where opens w.open_times) ∙ ap₂ (λ x y. x || y) (held_any holds t w.held) (opened_any opens t w.open_times))
 
-  -- states that are alike at each place count the same
-  pub counted_like : (v w : State T) (there holds : ℕ → Bool) → AreQueued v.in_flight w.in_flight → AreHeld v.held w.held → AreOpen v.open_times w.open_times
-      → (t : T) → is_beyond below (counted_times v there holds) t ≡ is_beyond below (counted_times w there holds) t
-  counted_like v w there holds queued held opened t =
-      counted_any v there holds t
-      ∙ (ap₂ (λ x y. x || y) (queued_any (λ b. there b.place.node && is_beyond below b.stamp t) v.in_flight w.in_flight queued)
-      (ap₂ (λ x y. x || y) (held_any_like (λ n u. holds n && below u t) v.held w.held held) (open_any_like (λ i u. there i && below u t) v.open_times w.open_times opened))
-      ∙ sym (counted_any w there holds t))
+  module _ (v w : State T) (queued : AreQueued v.in_flight w.in_flight) (held : AreHeld v.held w.held) (opened : AreOpen v.open_times w.open_times) where
+    -- states that are alike at each place count the same
+    pub logged_like : (there : Site → Bool) (holds opens : ℕ → Bool) (t : T) → is_beyond below (logged_times v there holds opens) t ≡ is_beyond below (logged_times w there holds opens) t
+    logged_like there holds opens t =
+        logged_any v there holds opens t
+        ∙ (ap₂ (λ x y. x || y) (queued_any (λ b. there b.place && is_beyond below b.stamp t) v.in_flight w.in_flight queued)
+        (ap₂ (λ x y. x || y) (held_any_like (λ n u. holds n && below u t) v.held w.held held) (open_any_like (λ i u. opens i && below u t) v.open_times w.open_times opened))
+        ∙ sym (logged_any w there holds opens t))
+
+    -- the same, if bundles and inputs count at the same nodes
+    pub counted_like : (there holds : ℕ → Bool) (t : T) → is_beyond below (counted_times v there holds) t ≡ is_beyond below (counted_times w there holds) t
+    counted_like there holds = logged_like (λ site. there site.node) holds there
 
 -- what follows from a fact about an answer holds if the fact does
 pub on_ok : {A E : Type 0} (r : Result A E) (P Q : A → Type 0) → ((x : A) → P x → Q x) → IfOk r P → IfOk r Q
@@ -107,7 +112,7 @@ module _ {T : Type 0} (below : T → T → Bool) (o : PartialOrderLaws below) (m
   front_stands b board h s n t =
       let w = state_after below minimum b.dataflow h in
       beyond_frontier b.dataflow (on_board b) n below o t
-      ∙ (counted_like below o (on_board b) w (upstream b.dataflow n) (upstream b.dataflow n) (queued b h s) (holds b h s) (opened b board h s) t
+      ∙ (counted_like below o (on_board b) w (queued b h s) (holds b h s) (opened b board h s) (upstream b.dataflow n) (upstream b.dataflow n) t
       ∙ sym (beyond_frontier b.dataflow w n below o t))
 
   -- they have the same elements
@@ -123,7 +128,7 @@ module _ {T : Type 0} (below : T → T → Bool) (o : PartialOrderLaws below) (m
   input_front_stands b board h s n t =
       let w = state_after below minimum b.dataflow h in
       beyond_input_frontier b.dataflow (on_board b) n below o t
-      ∙ (counted_like below o (on_board b) w (upstream b.dataflow n) (strictly_upstream b.dataflow n) (queued b h s) (holds b h s) (opened b board h s) t
+      ∙ (counted_like below o (on_board b) w (queued b h s) (holds b h s) (opened b board h s) (upstream b.dataflow n) (strictly_upstream b.dataflow n) t
       ∙ sym (beyond_input_frontier b.dataflow w n below o t))
 
   -- they have the same elements
@@ -132,6 +137,23 @@ module _ {T : Type 0} (below : T → T → Bool) (o : PartialOrderLaws below) (m
       let found = times_where (is_input_upstream b.dataflow.nodes n) (items_of (on_board b)) in
       let left = times_where (is_input_upstream b.dataflow.nodes n) (items_of (state_after below minimum b.dataflow h)) in
       same_least below o found left (λ t. sym (least_beyond o found t) ∙ (input_front_stands b board h s n t ∙ least_beyond o left t))
+
+  -- the same times are beyond the frontier of a port found on the board and the one that the history
+  -- leaves
+  pub port_front_stands : (b : BoardState T) → IsBoard b → (h : List (Event T)) → Stands below minimum b h → (n port : ℕ) (t : T) → is_beyond below (port_front below b n port) t ≡ is_beyond below (port_frontier below b.dataflow (state_after below minimum b.dataflow h) n port) t
+  port_front_stands b board h s n port t =
+      let w = state_after below minimum b.dataflow h in
+      let counts = is_port_upstream b.dataflow.nodes n port in
+      beyond_port_frontier b.dataflow (on_board b) n below o t port
+      ∙ (logged_like below o (on_board b) w (queued b h s) (holds b h s) (opened b board h s) (at_site counts) (at_held counts) (at_input counts) t
+      ∙ sym (beyond_port_frontier b.dataflow w n below o t port))
+
+  -- they have the same elements
+  pub port_front_elements : (b : BoardState T) → IsBoard b → (h : List (Event T)) → Stands below minimum b h → (n port : ℕ) → SameElements (port_front below b n port) (port_frontier below b.dataflow (state_after below minimum b.dataflow h) n port)
+  port_front_elements b board h s n port =
+      let found = times_where (is_port_upstream b.dataflow.nodes n port) (items_of (on_board b)) in
+      let left = times_where (is_port_upstream b.dataflow.nodes n port) (items_of (state_after below minimum b.dataflow h)) in
+      same_least below o found left (λ t. sym (least_beyond o found t) ∙ (port_front_stands b board h s n port t ∙ least_beyond o left t))
 
   -- a worker is ready on the board if some time that it holds after the history is one that the
   -- input frontier has passed

@@ -14,7 +14,7 @@ use Rattle.histories.specs.Histories.{open_entries}
 use Rattle.outstanding.specs.Inputs.{front_at}
 use Rattle.histories.specs.Histories.States.{State}
 use Rattle.outstanding.specs.Loads.{is_none, lot_of, all_bundles, all_held}
-use Rattle.histories.specs.Histories.Outstanding.{frontier, input_frontier}
+use Rattle.histories.specs.Histories.Outstanding.{frontier, input_frontier, port_frontier}
 use Rattle.views.specs.Views.{HasLargeSum}
 use Rattle.update.specs.Refusals.{IsRefusalOr}
 use Rattle.machine.specs.Boards.{BoardState, no_view, is_from_start}
@@ -59,6 +59,10 @@ module _ {T : Type 0} (below : T → T → Bool) where
 
   abbrev pub input_front : BoardState T → ℕ → List T
   input_front b n = input_frontier below b.dataflow (on_board b) n
+
+  -- the input frontier of one port, found in the same way
+  abbrev pub port_front : BoardState T → ℕ → ℕ → List T
+  port_front b n port = port_frontier below b.dataflow (on_board b) n port
 
   -- a worker holds a time at a node that the node's input frontier has passed
   abbrev pub is_ready : BoardState T → ℕ → ℕ → Bool

@@ -11,8 +11,8 @@ ghost use Rattle.plan.specs.Changes.{has_passed};
 ghost use Rattle.histories.specs.declared.event.Event.{Event};
 ghost use Rattle.outstanding.specs.Loads.{lot_of};
 ghost use Rattle.accounts.specs.Accounts.{input_front_of};
-ghost use Rattle.machine.specs.Boards.{IsBoard, Stands, frontier_on, input_frontier_on, held_on};
-ghost use Rattle.machine.specs.Boards.Reads.{front, input_front, is_ready};
+ghost use Rattle.machine.specs.Boards.{IsBoard, Stands, frontier_on, input_frontier_on, port_frontier_on, held_on};
+ghost use Rattle.machine.specs.Boards.Reads.{front, input_front, port_front, is_ready};
 
 use crate::board::Board;
 use accounts::Accounts;
@@ -111,6 +111,27 @@ impl<T: Minimum> Board<T> {
     {
         self.known();
         self.accounts.input_times(node)
+    }
+
+    /// The input frontier of one port of a node: updates may still come to that port at times beyond
+    /// this frontier. It is the least of the times that are in flight to the port, and of those that
+    /// are in flight, held or open at its source or above. Refused only with `OutOfMemory`.
+    ///
+    /// Cost: that of [`Tally::input_frontier`](progress::Tally::input_frontier).
+    pub fn port_frontier(&mut self, node: NodeId, port: usize) -> Result<Antichain<T>, Refusal>
+        requires { node < length self.old.dataflow.nodes }
+        ensures kept { self.new ≡ self.old }
+        ensures least { IfOk result (λ found.
+            SameElements found (port_front T.below self.old node port)) }
+        ensures beyond { IfOk result (λ found. (t : T) → is_beyond T.below found t
+            ≡ is_beyond T.below (port_front T.below self.old node port) t) }
+        ensures stands { (h : List (Event T)) → Stands T.below T.least self.old h
+            → IfOk result (λ found.
+            SameElements found (port_frontier_on T.below T.least self.old h node port)) }
+        ensures refused { IfErr result (λ refusal. refusal ≡ OutOfMemory) }
+    {
+        self.known();
+        self.accounts.port_frontier(node, port)
     }
 
     /// Whether a worker holds a time at a node that the node's input frontier has passed. If so, it

@@ -7,15 +7,18 @@ ghost use Rattle.std.specs.Prelude.{◌≡◌, ◌<◌, None, IfOk, IfErr, IfSom
 ghost use Rattle.update.specs.declared.refusal.Refusal.TheVariants.{OutOfMemory};
 ghost use Rattle.histories.specs.declared.event.Event.TheVariants.{Give, Look};
 ghost use Rattle.histories.specs.Histories.{IsGive};
+ghost use Rattle.shared_board.specs.Found.{AreFrontsFound};
 ghost use Rattle.shared_board.specs.Pieces.{IsTakenIn};
+ghost use Rattle.shared_board.specs.Ports.{AreWithin};
 ghost use Rattle.shared_board.specs.Tenures.{Adds, terms_in, state_left};
 ghost use Rattle.shared_board.specs.Widths.{are_wide_for};
 
 use crate::actor::Actor;
 use crate::board::Taken;
 use crate::protocol::BoardProtocol;
+use antichain::Antichain;
 use lattice::Minimum;
-use machine::{CutEmission, Ungiven};
+use machine::{CutEmission, Site, Ungiven};
 use update::{Refusal, Times};
 
 impl<T: Minimum, P: BoardProtocol<T>> Actor<T, P> {
@@ -43,6 +46,42 @@ impl<T: Minimum, P: BoardProtocol<T>> Actor<T, P> {
                 self.accepted = board.accepted();
                 self.pass = Some(tenure.leave());
                 Some(answer)
+            }
+            Err(same) => {
+                self.pass = Some(same);
+                None
+            }
+        }
+    }
+
+    /// The input frontiers of these ports, in this order, as
+    /// [`SharedBoard::port_frontiers`](crate::SharedBoard::port_frontiers) says, if the board is there.
+    /// `None` if another actor has it; then this one has seen nothing. Refused only with
+    /// `OutOfMemory`. If the board is there, then the event is a look, also after a refusal.
+    pub fn try_port_frontiers(
+        &mut self,
+        ports: &[Site],
+    ) -> Option<Result<Vec<Antichain<T>>, Refusal>>
+        requires within { AreWithin (terms_in self.old.seen).dataflow ports.now }
+        ensures looked { IfSome result (λ r. Adds self.old (Look self.old.number) self.new) }
+        ensures len { IfSome result (λ r.
+            IfOk r (λ fronts. length fronts.items ≡ length ports.now)) }
+        ensures found { IfSome result (λ r. IfOk r (λ fronts.
+            AreFrontsFound T.below T.least self.old self.new ports.now fronts.items)) }
+        ensures refused { IfSome result (λ r. IfErr r (λ refusal. refusal ≡ OutOfMemory)) }
+        ensures busy { result ≡ None → self.new ≡ self.old }
+    {
+        let Some(pass) = self.pass.take() else {
+            unreachable!()
+        };
+        match self.hub.try_enter(pass) {
+            Ok(home) => {
+                let mut tenure = home;
+                let board = tenure.state();
+                let fronts = board.port_frontiers(self.number, ports);
+                self.accepted = board.accepted();
+                self.pass = Some(tenure.leave());
+                Some(fronts)
             }
             Err(same) => {
                 self.pass = Some(same);

@@ -1,0 +1,69 @@
+//! The input frontiers of several ports, in one tenure.
+//!
+//! A worker asks for those of all its joins and reductions at once. One event moves no frontier
+//! between two of the answers, so all of them hold of one state.
+ghost use Rattle.std.specs.Prelude.{◌≡◌, List, ◌∷◌, IfOk, IfErr, length};
+ghost use Rattle.hub.specs.declared.view.Entry.{Entry};
+ghost use Rattle.hub.specs.Histories.{entry};
+ghost use Rattle.update.specs.declared.refusal.Refusal.TheVariants.{OutOfMemory};
+ghost use Rattle.histories.specs.declared.event.Event.TheVariants.{Look};
+ghost use Rattle.machine.specs.Boards.Reads.{on_board};
+ghost use Rattle.shared_board.specs.declared.event.Doing.{Doing};
+ghost use Rattle.shared_board.specs.Ports.{AreFrontsOf, AreWithin};
+ghost use Rattle.shared_board.specs.Tenures.{IsKeptBeside, StandsFor, doing, left_by, terms_of_board};
+
+use crate::board::SharedBoard;
+use antichain::Antichain;
+use lattice::Minimum;
+use machine::{Board, Site};
+use update::Refusal;
+
+impl<T: Minimum> SharedBoard<T> {
+    /// The input frontiers of these ports, in this order. The worker that a site names is not read.
+    /// The event is a look. Refused only with `OutOfMemory`; then it is a look too.
+    ///
+    /// Cost: that of [`Board::port_frontier`](machine::Board::port_frontier) for each port.
+    pub fn port_frontiers(
+        &mut self,
+        actor: usize,
+        ports: &[Site],
+    ) -> Result<Vec<Antichain<T>>, Refusal>
+        requires within { AreWithin self.old.board.dataflow ports.now }
+        ensures terms { terms_of_board self.new ≡ terms_of_board self.old }
+        ensures beside { IsKeptBeside self.old self.new }
+        ensures looked { self.new.board.last ≡ Look actor }
+        ensures stands { (es : List (Entry (Doing T))) → StandsFor T.below T.least T.cmp self.old es
+            → StandsFor T.below T.least T.cmp self.new
+            (entry actor (doing (terms_of_board self.old) self.new.board.last) ∷ es) }
+        ensures len { IfOk result (λ fronts. length fronts.items ≡ length ports.now) }
+        ensures found { (es : List (Entry (Doing T))) → StandsFor T.below T.least T.cmp self.old es
+            → IfOk result (λ fronts. AreFrontsOf T.below self.old.board.dataflow
+            (left_by T.below T.least self.old.board.dataflow es) ports.now fronts.items) }
+        ensures refused { IfErr result (λ refusal. refusal ≡ OutOfMemory) }
+    {
+        self.board.known();
+        let found = frontiers_of(&mut self.board, ports);
+        self.board.look(actor);
+        found
+    }
+}
+
+// The input frontiers of these ports, as they are on the board.
+fn frontiers_of<T: Minimum>(
+    board: &mut Board<T>,
+    ports: &[Site],
+) -> Result<Vec<Antichain<T>>, Refusal>
+    requires within { AreWithin board.old.dataflow ports.now }
+    ensures kept { board.new ≡ board.old }
+    ensures len { IfOk result (λ fronts. length fronts.items ≡ length ports.now) }
+    ensures found { IfOk result (λ fronts. AreFrontsOf T.below board.old.dataflow
+        (on_board board.old) ports.now fronts.items) }
+    ensures refused { IfErr result (λ refusal. refusal ≡ OutOfMemory) }
+{
+    let mut fronts = Vec::new(board.allocator());
+    for site in ports {
+        let front = board.port_frontier(site.node, site.port)?;
+        fronts.push(front)?;
+    }
+    Ok(fronts)
+}
