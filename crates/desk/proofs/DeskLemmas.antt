@@ -97,9 +97,9 @@ module _ {T : Type 0} (below : T → T → Bool) (p : Dataflow) (d : DeskView T)
     abbrev reduced_desk : DeskView T
     reduced_desk = record d { reductions = set d.reductions n (Some s) }
 
-    before : (ts : List T) → (ports : ℕ → ℕ → List T) → ((F : List T) → IsTrue (all_beyond below F (pending_of r)) → IsTrue (all_beyond below F (ports n 0)) → IsTrue (all_beyond below F (pending_of s)))
+    before : (ports : ℕ → ℕ → List T) → ((F : List T) → IsTrue (all_beyond below F (pending_of r)) → IsTrue (all_beyond below F (ports n 0)) → IsTrue (all_beyond below F (pending_of s)))
         → (m source : ℕ) (u : ReducingView T) → Reduces p reduced_desk m source u → (v : ReducingView T) × Reduces p d m source v × ((F : List T) → IsTrue (all_beyond below F (pending_of v)) → IsTrue (all_beyond below F (ports m 0)) → IsTrue (all_beyond below F (pending_of u)))
-    before ts ports on m source u is = by (eqb m n) refl
+    before ports on m source u is = by (eqb m n) refl
       where
         by : (b : Bool) → eqb m n ≡ b → (v : ReducingView T) × Reduces p d m source v × ((F : List T) → IsTrue (all_beyond below F (pending_of v)) → IsTrue (all_beyond below F (ports m 0)) → IsTrue (all_beyond below F (pending_of u)))
         by true e =
@@ -117,11 +117,11 @@ module _ {T : Type 0} (below : T → T → Bool) (p : Dataflow) (d : DeskView T)
 
     -- nothing is pending before what was
     pub holding_found : ((F : List T) → IsTrue (all_beyond below F (pending_of r)) → IsTrue (all_beyond below F (pending_of s))) → StayHolding below p d reduced_desk
-    holding_found on ports x = holding_from below p d reduced_desk (λ m. refl) (λ k a own. (a, own, refl)) ports x (before [] ports (λ F pending come. on F pending))
+    holding_found on ports x = holding_from below p d reduced_desk (λ m. refl) (λ k a own. (a, own, refl)) ports x (before ports (λ F pending come. on F pending))
 
     -- these times became pending
     pub holding_taken : PartialOrderLaws below → (ts : List T) → ((F : List T) → IsTrue (all_beyond below F (pending_of r)) → IsTrue (all_beyond below F ts) → IsTrue (all_beyond below F (pending_of s))) → StayHoldingWith below p d reduced_desk n 0 ts
-    holding_taken o ts on ports later x = holding_from below p d reduced_desk (λ m. refl) (λ k a own. (a, own, refl)) ports x (before ts ports (λ F pending come. on F pending (all_beyond_later o F (ports n 0) ts come later)))
+    holding_taken o ts on ports later x = holding_from below p d reduced_desk (λ m. refl) (λ k a own. (a, own, refl)) ports x (before ports (λ F pending come. on F pending (all_beyond_later o F (ports n 0) ts come later)))
 
 -- ---- one arrangement has changed
 
