@@ -1,10 +1,9 @@
 -- The frontier of one port of a node, event by event.
-use Rattle.std.proofs.Common.{◌≡◌, ℕ, Bool, true, false, ◌&&◌, ◌||◌, not, eqb, List, [], ◌∷◌, ◌++◌, Some, IsTrue, sym, refl, ap, ◌∙◌}
+use Rattle.std.proofs.Common.{◌≡◌, ℕ, Bool, true, false, ◌&&◌, ◌||◌, not, eqb, List, [], ◌∷◌, ◌++◌, sym, refl, ap, ◌∙◌}
 use Rattle.std.proofs.lemmas.Bool.{or_left, and_from, eq-eqb, false_from_ne_true, false≢true}
 use Rattle.lattice.specs.Order.{PartialOrderLaws}
 use Rattle.lattice.specs.Frontiers.{is_beyond, all_beyond}
 use Rattle.antichain.proofs.Lists.{Among, all_at, all_from}
-use Rattle.plan.specs.Changes.{has_passed}
 use Rattle.plan.specs.Edges.{numbers_where}
 use Rattle.plan.specs.Nodes.{is_input}
 use Rattle.progress.specs.declared.place.Place.{Place}
@@ -49,7 +48,7 @@ module _ {T : Type 0} (below : T → T → Bool) (o : PartialOrderLaws below) (p
         port : ℕ
         port = bundle.place.port
 
-        abbrev counts : Place → Bool
+        counts : Place → Bool
         counts = is_port_upstream p.nodes n port
 
         counted : at_site counts bundle.place ≡ true
