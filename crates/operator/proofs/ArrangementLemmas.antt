@@ -259,24 +259,7 @@ module _ {T : Type 0} (below : T → T → Bool) (o : PartialOrderLaws below) (l
   pub stands_reserved : (s t : SpineState T) (reserved : Bool) → t ≡ record s { list = record s.list { reserved = reserved } } → (h : List (Insertion T)) → Stands below s h → Stands below t h
   stands_reserved s t reserved e h st = subst (λ (x : SpineState T). Stands below x h) (sym e) (record { upper = st.upper; ended = st.ended; reads = st.reads })
 
-  -- a new arrangement with its own hold
-  pub new_begun : (worker node width : ℕ) (a : ArrangementState T) (reserved : Bool) → a.width ≡ width
-      → a.spine.list ≡ record { worker = worker; node = node; start = least ∷ []; batches = []; reserved = reserved } → a.waiting ≡ []
-      → a.holds ≡ record { logical = least ∷ []; physical = least ∷ [] } ∷ [] → Stands below a.spine [] → a.spine.since ≡ least ∷ [] → IsNew below least worker node width 1 a
-  new_begun worker node width a reserved ew list waiting holds stands since = record {
-    columns = ew;
-    batches = list ∙ ap (λ b. record { worker = worker; node = node; start = least ∷ []; batches = []; reserved = b }) (sym (ap (λ (l : BatchListState T). l.reserved) list));
-    nothing_waits = waiting;
-    readers = ap length holds;
-    begin = subst (All P) (sym holds) (All-push P [] _ (λ k d l. absurd (omega (arith, l))) refl);
-    stands = stands;
-    since = since;
-  }
-    where
-      P : HoldState T → Type 0
-      P h = h ≡ record { logical = least ∷ []; physical = least ∷ [] }
-
-  -- and with one more reader
+  -- a new arrangement with one more reader
   pub new_held : (worker node width n : ℕ) (a b : ArrangementState T) → IsNew below least worker node width n a
       → b ≡ record a { spine = record a.spine { holds = b.spine.holds }; holds = a.holds ++ record { logical = a.spine.since; physical = upper_of a.spine } ∷ [] }
       → Stands below b.spine [] → IsNew below least worker node width (n + 1) b

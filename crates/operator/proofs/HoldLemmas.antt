@@ -1,11 +1,11 @@
 -- The holds of an arrangement are those of its spine, in some order, while they come, move and go.
-use Rattle.std.proofs.Common.{◌≡◌, ℕ, zero, suc, ◌+◌, ◌≤◌, ◌<◌, Bool, true, false, cond, ◌↔◌, List, [], ◌∷◌, ◌++◌, set, slice_get, Some, IsTrue, length, refl, sym, ◌∙◌, ap, ⊎_elim, arith}
+use Rattle.std.proofs.Common.{◌≡◌, ℕ, zero, suc, ◌+◌, ◌≤◌, ◌<◌, Bool, true, false, cond, ◌↔◌, List, [], ◌∷◌, ◌++◌, set, slice_get, Some, IsTrue, length, refl, sym, ◌∙◌, ap, ⊎_elim, arith, ◌||◌, None}
 use Rattle.std.specs.List.{All, Contains, count_by, list_any, remove}
 use Rattle.std.specs.Cmp.Lexicographic.{pointwise}
 use Rattle.std.proofs.lemmas.Bool.{or_cases, or_left, or_right, true≢false}
-use Rattle.std.proofs.lemmas.List.Elements.{All-head, All-weaker}
-use Rattle.std.proofs.lemmas.List.Folds.{list_any_none}
-use Rattle.lattice.specs.Frontiers.{is_beyond}
+use Rattle.std.proofs.lemmas.List.Elements.{All-head}
+use Rattle.std.proofs.lemmas.Option.{same_Some}
+use Rattle.std.proofs.lemmas.List.Folds.{list_any_none, list_any-append}
 use Rattle.lattice.proofs.BoundLemmas.{same_test}
 use Rattle.std.proofs.lemmas.List.Sums.{sum_by-cons, sum_by_push}
 use Rattle.trace.specs.Holds.{HoldState}
@@ -87,7 +87,7 @@ or_false false = refl
 
 or_within : (a b : Bool) → (IsTrue b → IsTrue a) → (a || b) ≡ a
 or_within true b h = refl
-or_within false true h = h refl
+or_within false true h = sym (h refl)
 or_within false false h = refl
 
 -- a list has an element that passes if one is at some place

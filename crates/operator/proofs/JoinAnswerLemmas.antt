@@ -21,7 +21,6 @@ use Rattle.join.specs.Pairs.{pairs, pairs_fit, fits, is_keyed, is_wide}
 use Rattle.join.specs.Sides.{all_rows_have}
 use Rattle.join.proofs.VisibleLemmas.{left_compacted, right_compacted}
 use Rattle.operator_laws.specs.Joining.{IsAnswer}
-use Rattle.operator.specs.Arrangements.{times_from}
 use Rattle.operator.specs.Joins.{IsBatchOf}
 
 abbrev times : {T : Type 0} → List (Update T) → List T

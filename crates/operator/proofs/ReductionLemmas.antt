@@ -39,7 +39,7 @@ use Rattle.reduce.specs.Kinds.{kind_answer, kind_reduces}
 use Rattle.reduce.specs.Reductions.{StandsFor, IsOpenTo, IsQuietAt, SumsToTaken}
 use Rattle.key_history.proofs.ApartLemmas.{doubled, doubled_is, own_total, apart_both}
 use Rattle.key_history.proofs.OverfullLemmas.{overfull_is_large}
-use Rattle.reduce.proofs.HeldLemmas.{under_in, pending_under, or_nothing}
+use Rattle.reduce.proofs.HeldLemmas.{under_in, pending_under}
 use Rattle.joined_times.proofs.JoinLemmas.{joins_have}
 use Rattle.correction.proofs.KeyedLemmas.{absent_row}
 use Rattle.reduce.proofs.LawLemmas.{settled_law}

@@ -1,13 +1,12 @@
 -- What a contract sees of an arrangement, and what each one keeps (McSherry et al., Shared
 -- Arrangements, VLDB 2020).
-use Rattle.std.specs.Prelude.{◌≡◌, ◌≢◌, ℕ, ◌<◌, Bool, List, [], ◌∷◌, ◌++◌, map, length, eqb, slice_get, IsTrue, ⊤}
+use Rattle.std.specs.Prelude.{◌≡◌, ◌≢◌, ℕ, ◌<◌, Bool, List, [], ◌∷◌, ◌++◌, map, length, eqb, IsTrue, ⊤}
 use Rattle.std.specs.List.{All, Contains, list_all, list_any}
 use Rattle.lattice.specs.Frontiers.{is_beyond, all_beyond}
 use Rattle.update.specs.declared.change.Update.{Update}
 use Rattle.batch.specs.Intervals.{all_between}
 use Rattle.trace.specs.Readings.{Insertion, reached}
-use Rattle.batch.specs.Descriptions.{BatchState}
-use Rattle.trace.specs.BatchLists.{end_of, insertion_of}
+use Rattle.trace.specs.BatchLists.{end_of}
 use Rattle.trace.specs.Holds.{HoldState}
 use Rattle.spine.specs.Holding.{AreSameHolds, forbids}
 use Rattle.spine.specs.Spines.{SpineState, Stands, boundaries, stored}

@@ -1,7 +1,6 @@
 -- What one worker keeps at a join, and what a side of it has taken of the spine that it reads.
 use Rattle.std.specs.Prelude.{◌≡◌, ℕ, ◌+◌, ◌≤◌, Bool, List, [], ◌∷◌, ℤ, IsTrue}
 use Rattle.std.specs.List.{list_all, Contains}
-use Rattle.lattice.specs.Frontiers.{is_beyond}
 use Rattle.update.specs.Bags.{Alike}
 use Rattle.update.specs.Updates.{as_of, size}
 use Rattle.update.specs.declared.change.Update.{Update}

@@ -18,12 +18,15 @@ advance-requires g c =
       search rules,
       (
         c.requires.reader,
-        (c.requires.onward, (
-          subst (Contains (boundaries s)) back (reached_boundary s.list),
+        (
+          c.requires.onward,
           (
-            (λ hold at. subst (λ F. IsTrue (all_beyond below hold.physical F)) back (reader_behind below o g.T.Minimum.least c.args.self.now c.args.reader hold c.trace-spine.ensures.known at)),
-            subst (λ F. IsTrue (all_beyond below F upper)) back (beyond_itself o upper),
+            subst (Contains (boundaries s)) back (reached_boundary s.list),
+            (
+              (λ hold at. subst (λ F. IsTrue (all_beyond below hold.physical F)) back (reader_behind below o g.T.Minimum.least c.args.self.now c.args.reader hold c.trace-spine.ensures.known at)),
+              subst (λ F. IsTrue (all_beyond below F upper)) back (beyond_itself o upper),
+            ),
           ),
-        )),
+        ),
       ),
     )

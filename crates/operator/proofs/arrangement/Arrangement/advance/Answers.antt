@@ -1,16 +1,15 @@
-use Rattle.std.proofs.Common.{◌≡◌, List, [], ◌∷◌, IsTrue, Some, slice_get, sym, ◌∙◌, ap, subst}
-use Rattle.std.proofs.Common.{set, get_or, length, ◌<◌, Err, ⊎_elim, rules}
+use Rattle.std.proofs.Common.{◌≡◌, IsTrue, Some, slice_get, sym, ◌∙◌, ap, subst}
+use Rattle.std.proofs.Common.{set, length, ◌<◌, Err, ⊎_elim, rules}
 use Rattle.std.specs.List.{Contains}
 use Rattle.std.proofs.lemmas.List.{set-get_or}
 use Rattle.std.proofs.lemmas.Option.{slice_get-get_or}
 use Rattle.std.proofs.lemmas.Result.{err_from_is_err_and}
 use Rattle.lattice.specs.Frontiers.{all_beyond}
-use Rattle.lattice.proofs.FrontierLemmas.{beyond_itself}
 use Rattle.trace.specs.Holds.{HoldState}
 use Rattle.trace.specs.BatchLists.{BatchListState}
 use Rattle.trace.proofs.BoundaryLemmas.{frontiers_decided}
 use Rattle.spine.specs.Spines.{SpineState, Stands, boundaries}
-use Rattle.operator.specs.Arrangements.{ArrangementState, IsOpen, IsReader, upper_of}
+use Rattle.operator.specs.Arrangements.{ArrangementState, IsOpen, upper_of}
 use Rattle.operator.proofs.ArrangementLemmas.{arrangement_moved}
 use Rattle.operator.proofs.HoldLemmas.{own_found}
 use Rattle.operator.proofs.OpenLemmas.{open_moved}
@@ -72,7 +71,7 @@ invariant_of-self-2 g c =
     let there = subst (λ (x : ArrangementState g.row.T.Denot). Contains (boundaries x.spine) u) (sym c.self.view_is) c.requires.boundary in
     let behind = subst (λ (x : ArrangementState g.row.T.Denot). IsTrue (all_beyond below u (upper_of x.spine))) (sym c.self.view_is) c.requires.behind in
     let ok = c.in_ok-advance_hold.ensures in
-    let list = ap (λ (x : SpineState g.row.T.Denot). x.list) ok.kept in (
+    let list : c.advance_hold.new.self.list ≡ s.list = ap (λ (x : SpineState g.row.T.Denot). x.list) ok.kept in (
       arrangement_moved below g.met.T.PartialOrder.order g.T.Minimum.least g.T.Ord.cmp a c.advance_hold.new.self i d c.advance_hold.new.hold u at (ap (λ (h : HoldState g.row.T.Denot). h.physical) ok.moved) there behind ok.entry list ok.since ok.onward c.self.invariant.0,
       c.self.invariant.1 ∙ sym (ap (λ (l : BatchListState g.row.T.Denot). l.worker) list),
       c.self.invariant.2 ∙ sym (ap (λ (l : BatchListState g.row.T.Denot). l.node) list),

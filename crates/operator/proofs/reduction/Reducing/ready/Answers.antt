@@ -1,4 +1,4 @@
-use Rattle.std.proofs.Common.{◌≡◌, ◌∙◌, ◌++◌, eqb, length, [], ◌∷◌, List, sym, subst, ⊎_elim, inl, inr}
+use Rattle.std.proofs.Common.{◌≡◌, ◌++◌, eqb, length, [], ◌∷◌, List, sym, subst, ⊎_elim, inl, inr}
 use Rattle.std.specs.Prelude.{IsTrue}
 use Rattle.std.specs.List.{list_all}
 use Rattle.lattice.specs.Frontiers.{all_beyond, is_beyond}
@@ -7,7 +7,6 @@ use Rattle.plan.specs.Changes.{has_passed}
 use Rattle.plan.specs.declared.node.Kind.{Kind}
 use Rattle.trace.specs.Readings.{Insertion, all_updates}
 use Rattle.reduce.specs.Histories.{ReduceView}
-use Rattle.reduce.proofs.HeldLemmas.{or_nothing}
 use Rattle.correction.proofs.ResultLemmas.{passed_on}
 use Rattle.operator.specs.Reductions.{HasRoom, ReducingView, IsReduced, SumsToReceived, pending_in, pending_of, state_key}
 use Rattle.operator.proofs.ReductionLemmas.{each_of, pending_has, overfull, sums_taken, gave, answer_at, rest_later, rest_beyond, out_settled, out_beyond}
