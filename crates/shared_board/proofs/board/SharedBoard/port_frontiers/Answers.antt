@@ -19,7 +19,7 @@ returns-clause-stands g c =
     let actor = c.args.actor in
     let new : SharedState g.row.T.Denot = record old { board = c.look.new.self } in
     subst (λ (b : SharedState g.row.T.Denot). (es : List (Entry (Doing g.row.T.Denot))) → StandsFor below least cmp b es → StandsFor below least cmp new (entry actor (doing (terms_of_board b) c.look.new.self.last) ∷ es)) c.self.view_is
-    (asked below least cmp old c.frontiers_of-found.new.self c.look.new.self actor c.frontiers_of-found.ensures.kept c.look.ensures.looked c.look.ensures.stands)
+    (asked below least cmp old c.frontiers_of-found.new.board c.look.new.self actor c.frontiers_of-found.ensures.kept c.look.ensures.looked c.look.ensures.stands)
 
 pub returns-clause-found : goal.returns-clause-found
 returns-clause-found g c =

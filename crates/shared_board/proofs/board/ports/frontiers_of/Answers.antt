@@ -1,6 +1,5 @@
-use Rattle.std.proofs.Common.{rules, ◌+◌, ◌<◌, List, length, get_or, sym, ◌∙◌, subst}
-use Rattle.std.proofs.lemmas.Option.{slice_get-get_or, slice_get_within}
-use Rattle.plan.specs.declared.node.NodeId.{NodeId}
+use Rattle.std.proofs.Common.{rules, ◌+◌, ◌<◌, List, length, refl, sym, ◌∙◌, subst}
+use Rattle.std.proofs.lemmas.Option.{slice_get_read, slice_get_within}
 use Rattle.histories.specs.declared.event.Site.{Site}
 use Rattle.machine.specs.Boards.{BoardState}
 use Rattle.machine.specs.Boards.Reads.{on_board}
@@ -16,13 +15,14 @@ loop-site-preserved g c =
     let ports = c.args.ports.now in
     let fronts = λ (site : Site) (front : List g.row.T.Denot). IsFrontOf below b.dataflow (on_board b) site front in
     let within : l.site-index < length ports = search rules in
-    let site = get_or ports l.site-index (record { node = 0; port = 0; worker = 0 }) in
+    let site = c.site-item.result in
+    let there = slice_get_read ports (length ports) l.site-index site refl within c.site-item.is in
     let here = subst (λ (z : BoardState g.row.T.Denot). IsFrontOf below z.dataflow (on_board z) site c.in_ok-front.front) l.invariant.kept c.in_ok-front.ensures.beyond in
     record {
       kept = c.port_frontier.ensures.kept ∙ l.invariant.kept;
       len = search rules;
       found = subst (λ fs. AreMatched fronts ports fs (l.site-index + 1)) (sym c.in_ok-push.ensures.items)
-          (matched_more fronts ports l.fronts.items l.site-index site c.in_ok-front.front l.invariant.len (slice_get-get_or ports l.site-index _ within) here l.invariant.found);
+          (matched_more fronts ports l.fronts.items l.site-index site c.in_ok-front.front l.invariant.len there here l.invariant.found);
     }
 
 pub returns-clause-found : goal.returns-clause-found
