@@ -3,7 +3,7 @@ use Rattle.std.specs.Prelude.{IfOk}
 use Rattle.hub.specs.declared.view.Entry.{Entry}
 use Rattle.hub.specs.Histories.{entry}
 use Rattle.shared_board.specs.declared.event.Doing.{Doing}
-use Rattle.shared_board.specs.Ports.{AreFrontsOf, AreWithin}
+use Rattle.shared_board.specs.Ports.{AreFrontsOf}
 use Rattle.shared_board.specs.Tenures.{SharedState, StandsFor, doing, left_by, terms_of_board}
 use Rattle.shared_board.proofs.ActorLemmas.{if_ok_map}
 use Rattle.shared_board.proofs.PortLemmas.{fronts_stand}
