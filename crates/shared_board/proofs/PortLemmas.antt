@@ -1,6 +1,6 @@
 -- The input frontiers of several ports: found one after the other on a board, and right for the
 -- entries that it stands for.
-use Rattle.std.proofs.Common.{◌≡◌, ℕ, suc, ◌+◌, ◌<◌, Bool, true, false, List, [], ◌∷◌, ◌++◌, length, Some, arith, nat_lt, refl, sym, ap, ◌∙◌, subst}
+use Rattle.std.proofs.Common.{◌≡◌, ℕ, ◌+◌, ◌<◌, Bool, true, false, List, [], ◌∷◌, ◌++◌, length, Some, arith, nat_lt, refl, sym, ap, ◌∙◌, subst}
 use Rattle.std.specs.Prelude.{slice_get}
 use Rattle.std.specs.Option.{unwrap_or}
 use Rattle.std.specs.declared.cmp.Ordering.{Ordering}
@@ -22,7 +22,7 @@ module _ {A B : Type 0} (P : A → B → Type 0) where
   AreMatched xs ys k = (i : ℕ) (x : A) → i < k → slice_get xs i ≡ Some x → (y : B) × (slice_get ys i ≡ Some y) × P x y
 
   -- so has one more, if its match comes to the end
-  pub matched_more : (xs : List A) (ys : List B) (k : ℕ) (x : A) (y : B) → length ys ≡ k → slice_get xs k ≡ Some x → P x y → AreMatched xs ys k → AreMatched xs (ys ++ y ∷ []) (suc k)
+  pub matched_more : (xs : List A) (ys : List B) (k : ℕ) (x : A) (y : B) → length ys ≡ k → slice_get xs k ≡ Some x → P x y → AreMatched xs ys k → AreMatched xs (ys ++ y ∷ []) (k + 1)
   matched_more xs ys k x y len here new old i z l e = by (nat_lt i k) refl
     where
       by : (c : Bool) → nat_lt i k ≡ c → (w : B) × (slice_get (ys ++ y ∷ []) i ≡ Some w) × P z w

@@ -21,7 +21,7 @@ port_frontiers-fronts-requires g c =
     let here : IsIn g.T.PartialOrder.below g.T.Minimum.least g.T.Ord.cmp pass held.state.value held.hub held.number held.found = record { actor = there.2; its_hub = t.0.0; its_number = t.0.1; agrees = t.0.2; stands = g.met.P.BoardProtocol.stands_for held.state held.found t.1 } in
     let same : c.deref_mut.result.now ≡ held.state.value = search rules in
     let self_is : pass ≡ c.args.self.now = search rules in
-    at_board g.T.PartialOrder.below g.T.Minimum.least g.T.Ord.cmp pass held.state.value held.hub held.number held.found here (λ (x : Terms). AreWithin x.dataflow c.args.ports.now) (subst (λ (k : Known (Doing g.row.T.Denot)). AreWithin (terms_in k.seen).dataflow c.args.ports.now) (sym self_is) c.requires.within) c.deref_mut.result.now same
+    (search rules, at_board g.T.PartialOrder.below g.T.Minimum.least g.T.Ord.cmp pass held.state.value held.hub held.number held.found here (λ (x : Terms). AreWithin x.dataflow c.args.ports.now) (subst (λ (k : Known (Doing g.row.T.Denot)). AreWithin (terms_in k.seen).dataflow c.args.ports.now) (sym self_is) c.requires.within) c.deref_mut.result.now same)
 
 pub leave-requires : goal.leave-requires
 leave-requires g c =

@@ -3,7 +3,7 @@ use Rattle.std.specs.Prelude.{IfOk}
 use Rattle.hub.specs.declared.view.Entry.{Entry}
 use Rattle.hub.specs.Histories.{entry}
 use Rattle.shared_board.specs.declared.event.Doing.{Doing}
-use Rattle.shared_board.specs.Ports.{AreFrontsOf, AreWithin}
+use Rattle.shared_board.specs.Ports.{AreFrontsOf}
 use Rattle.shared_board.specs.Tenures.{SharedState, StandsFor, doing, left_by, terms_of_board}
 use Rattle.shared_board.proofs.ActorLemmas.{if_ok_map}
 use Rattle.shared_board.proofs.PortLemmas.{fronts_stand}
@@ -19,7 +19,7 @@ returns-clause-stands g c =
     let actor = c.args.actor in
     let new : SharedState g.row.T.Denot = record old { board = c.look.new.self } in
     subst (λ (b : SharedState g.row.T.Denot). (es : List (Entry (Doing g.row.T.Denot))) → StandsFor below least cmp b es → StandsFor below least cmp new (entry actor (doing (terms_of_board b) c.look.new.self.last) ∷ es)) c.self.view_is
-    (asked below least cmp old c.frontiers_of-found.new.self c.look.new.self actor c.frontiers_of-found.ensures.kept c.look.ensures.looked c.look.ensures.stands)
+    (asked below least cmp old c.frontiers_of-found.new.board c.look.new.self actor c.frontiers_of-found.ensures.kept c.look.ensures.looked c.look.ensures.stands)
 
 pub returns-clause-found : goal.returns-clause-found
 returns-clause-found g c =
