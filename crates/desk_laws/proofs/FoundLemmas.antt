@@ -31,7 +31,7 @@ use Rattle.operator_laws.specs.Working.{Works, IsWorkingAt}
 use Rattle.operator_laws.proofs.WorkingLemmas.{has_all}
 use Rattle.operator.specs.Arrangements.{ArrangementState}
 use Rattle.operator.specs.Reductions.{HasRoom, IsReduced, ReducingView, SumsToReceived, pending_of, state_key}
-use Rattle.desk_laws.specs.Own.{DeskView, IsArrangedOn, IsOfOneShape, IsOwn, IsReducedOn, IsSameAt}
+use Rattle.desk_laws.specs.Own.{DeskView, IsArrangedOn, IsOfOneShape, IsOwn, IsReducedOn, IsSameAt, StayHolding}
 use Rattle.desk_laws.specs.declared.hand.Hand.TheVariants.{Ready, Turned}
 use Rattle.desk_laws.proofs.KeptLemmas.{at_each, ready_idle, same_keeps, turned_idle}
 use Rattle.desk_laws.proofs.ComputedLemmas.{computed_with}

@@ -1,6 +1,10 @@
 -- What a give makes of a worker's own: of what is ready, or of nothing, at a node that sends to no
 -- join. What lies on the desk for the node is held back.
-use Rattle.std.proofs.Common.{◌≡◌, ◌≢◌, ℕ, ◌+◌, ◌<◌, Bool, true, false, cond, ◌&&◌, eqb, List, [], ◌∷◌, ◌++◌, map, length, Some, None, IsTrue, arith, sym, refl, ap, ◌∙◌, subst}
+use Rattle.histories.specs.declared.event.Event.TheVariants.{Give}
+use Rattle.operator_laws.proofs.PortLemmas.{port_stays}
+use Rattle.histories.specs.Histories.Outstanding.{port_frontier}
+use Rattle.histories.specs.Histories.Promises.{NeverGoesBack}
+use Rattle.std.proofs.Common.{◌≡◌, ◌≢◌, ℕ, ◌<◌, Bool, true, false, cond, ◌&&◌, eqb, List, [], ◌∷◌, ◌++◌, map, length, Some, None, IsTrue, arith, sym, refl, ap, ◌∙◌, subst}
 use Rattle.std.specs.List.{slice_get}
 use Rattle.std.proofs.lemmas.Bool.{eqb-true, eqb-false, eq-eqb, ne_eqb, false≢true, true≢false}
 use Rattle.std.proofs.lemmas.Option.{none-some}

@@ -19,7 +19,7 @@ use Rattle.operator_laws.specs.Gathering.{IsSplit}
 use Rattle.operator_laws.specs.Joining.{IsJoining, on_top}
 use Rattle.operator_laws.specs.Working.{Works, IsWorkingAt}
 use Rattle.operator.specs.Joins.{JoiningView}
-use Rattle.desk_laws.specs.Own.{DeskView, IsArrangedOn, IsJoinedOn, IsNextBoundary, IsOwn, IsSameAt, in_hand_at, is_taken_at, made_of, made_of_pairs, waits_on}
+use Rattle.desk_laws.specs.Own.{DeskView, IsArrangedOn, IsJoinedOn, IsNextBoundary, IsOwn, IsSameAt, in_hand_at, is_taken_at, made_of, made_of_pairs, waits_on, StayHolding}
 use Rattle.desk_laws.specs.declared.hand.Hand.{Hand}
 use Rattle.desk_laws.specs.declared.hand.Hand.TheVariants.{Kept, Taken}
 use Rattle.desk_laws.proofs.KeptLemmas.{IsLaidAt, at_each, kept_idle, taken_idle}

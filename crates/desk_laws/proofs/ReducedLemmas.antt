@@ -26,7 +26,7 @@ use Rattle.operator_laws.specs.Reducing.{IsReducing}
 use Rattle.operator_laws.specs.Working.{Works, IsWorkingAt}
 use Rattle.operator.specs.Reductions.{HasRoom, IsPendingAfter, IsReduced, ReducingView, pending_of, state_key}
 use Rattle.operator.proofs.ReductionLemmas.{answer_at}
-use Rattle.desk_laws.specs.Own.{DeskView, IsOfOneShape, IsOwn, IsReducedOn, IsSameAt}
+use Rattle.desk_laws.specs.Own.{DeskView, IsOfOneShape, IsOwn, IsReducedOn, IsSameAt, StayHoldingWith}
 use Rattle.desk_laws.specs.declared.hand.Hand.TheVariants.{Kept, Taken}
 use Rattle.desk_laws.proofs.KeptLemmas.{at_each, kept_idle, taken_idle}
 use Rattle.desk_laws.proofs.ComputedLemmas.{computed_with, looked_working}

@@ -21,7 +21,7 @@ use Rattle.operator_laws.specs.Working.{Works}
 use Rattle.operator_laws.proofs.ArrangingLemmas.{may_insert, gave_arranging, gave_none}
 use Rattle.operator_laws.proofs.GatheringLemmas.{cut_none, held_beyond, no_emission}
 use Rattle.operator_laws.proofs.WorkingLemmas.{inserts_lem, gives_lem}
-use Rattle.desk_laws.specs.Own.{DeskView, IsArrangedOn, IsOwn, IsSameAt, due_on, waits_on}
+use Rattle.desk_laws.specs.Own.{DeskView, IsArrangedOn, IsOwn, IsSameAt, due_on, waits_on, StayHolding}
 use Rattle.desk_laws.specs.declared.hand.Hand.TheVariants.{Free, Sealed}
 use Rattle.desk_laws.proofs.KeptLemmas.{IsLaidAt, at_each, same_desk, sealed_idle}
 use Rattle.desk_laws.proofs.TakenLemmas.{IsKeptAt, kept_from, same_but, waiting_there, with_waiting, working_from}

@@ -13,7 +13,7 @@ use Rattle.histories.specs.declared.event.Site.{Site}
 use Rattle.histories.specs.declared.event.Bundle.{Bundle}
 use Rattle.histories.specs.declared.event.Event.TheVariants.{Take}
 use Rattle.histories.specs.Histories.Dataflows.{Dataflow, IsDataflow, node_of, source_of}
-use Rattle.histories.specs.Histories.States.{State, place, same_place, times}
+use Rattle.histories.specs.Histories.States.{State, place, same_place}
 use Rattle.histories.specs.Histories.{IsTake, next_state, with_at}
 use Rattle.operator_laws.specs.Gathering.{IsStamped}
 use Rattle.operator_laws.specs.Joining.{IsAnswer, IsJoining, IsQueued}

@@ -1,5 +1,5 @@
 //! What a take, and what others do, make of a worker's own. The functions do nothing.
-ghost use Rattle.std.specs.Prelude.{◌≡◌, ◌<◌, ℕ, Bool, List, ◌++◌, IsTrue, length};
+ghost use Rattle.std.specs.Prelude.{◌≡◌, ◌<◌, ℕ, Bool, List, [], ◌∷◌, ◌++◌, IsTrue, length};
 ghost use Rattle.hub.specs.declared.view.Entry.{Entry};
 ghost use Rattle.hub.specs.Histories.{NoneBy};
 ghost use Rattle.lattice.specs.Frontiers.{is_beyond};
