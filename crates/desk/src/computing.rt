@@ -41,19 +41,16 @@ impl<T: Minimum> Desk<T> {
             pass_on(alloc, plan, hand)?;
             return Ok(());
         }
-        match hand {
-            Hand::Taken { bundle, more } => {
-                let laid = self.lay(alloc, plan, bundle, *more)?;
-                take_in_hand(hand, laid);
-                Ok(())
-            }
-            Hand::Turned { node, upper } => {
-                let turned = self.turn(alloc, plan, *node, upper.as_slice())?;
-                take_in_hand(hand, turned);
-                Ok(())
-            }
-            _ => Ok(()),
+        if let Hand::Taken { bundle, more } = hand {
+            let laid = self.lay(alloc, plan, bundle, *more)?;
+            take_in_hand(hand, laid);
+            return Ok(());
         }
+        if let Hand::Turned { node, upper } = &*hand {
+            let turned = self.turn(alloc, plan, *node, upper.as_slice())?;
+            take_in_hand(hand, turned);
+        }
+        Ok(())
     }
 
     // Whether what lies on the desk for a node is given at once: at a linear node, unless more bundles

@@ -1,4 +1,4 @@
-use Rattle.std.proofs.Common.{◌≡◌, List, ◌++◌, Option, Some, set, get_or, slice_get, IsTrue, sym, subst, ap, ◌∙◌}
+use Rattle.std.proofs.Common.{◌≡◌, List, Option, Some, set, get_or, slice_get, IsTrue, sym, subst, ap, ◌∙◌}
 use Rattle.std.proofs.lemmas.Option.{none-some, same_Some}
 use Rattle.operator.specs.Arrangements.{ArrangementState, rows_have}
 use Rattle.desk_laws.specs.Own.{DeskView}

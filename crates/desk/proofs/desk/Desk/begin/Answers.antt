@@ -10,39 +10,39 @@ use Rattle.desk.proofs.PassingLemmas.{passed_leads, passed_rows, passed_too_larg
 use Rattle.desk.proofs.ResultLemmas.{if_err_at, memory_or}
 use Rattle.desk.proofs.desk.Desk.begin.Goals as goal
 
-pub returns-in_err-laid-in-Taken-clause-refused : goal.returns-in_err-laid-in-Taken-clause-refused
-returns-in_err-laid-in-Taken-clause-refused g c =
+pub returns-in_err-laid-clause-refused : goal.returns-in_err-laid-clause-refused
+returns-in_err-laid-clause-refused g c =
     let large : Hand g.row.T.Denot → Type 0 = λ h. IsTooLarge g.T.PartialOrder.below g.T.Lattice.joined g.T.Minimum.least g.T.Ord.cmp c.args.plan.now c.args.self.now h in
-    let p = err_from_is_err_and c.from_residual-in_err-laid-in-Taken.result c.from_residual-in_err-laid-in-Taken.ensures.1 in
-    if_err_at c.from_residual-in_err-laid-in-Taken.result (IsMemoryOrOverflow (large c.args.hand.now)) c.in_err-laid-in-Taken.field-0.0 p.0 p.1 (cc p.2) (memory_or (λ cause. subst large (sym c.in-Taken.is) cause) c.in_err-laid-in-Taken.ensures.refused)
+    let p = err_from_is_err_and c.from_residual-in_err-laid.result c.from_residual-in_err-laid.ensures.1 in
+    if_err_at c.from_residual-in_err-laid.result (IsMemoryOrOverflow (large c.args.hand.now)) c.in_err-laid.field-0.0 p.0 p.1 (cc p.2) (memory_or (λ cause. subst large (sym c.in-Taken.is) cause) c.in_err-laid.ensures.refused)
 
-pub returns-in_err-turned-in-Turned-clause-leads : goal.returns-in_err-turned-in-Turned-clause-leads
-returns-in_err-turned-in-Turned-clause-leads g c p q e es legal k x =
+pub returns-in_err-turned-clause-leads : goal.returns-in_err-turned-clause-leads
+returns-in_err-turned-clause-leads g c p q e es legal k x =
     let w = state_after g.T.PartialOrder.below g.T.Minimum.least p es in
     let right : DeskView g.row.T.Denot → Hand g.row.T.Denot → Type 0 = λ d h. IsRight g.T.PartialOrder.below g.T.Lattice.joined g.T.Minimum.least p w k d h in
     subst (λ h. right c.turn.new.self h) (sym c.in-Turned.is) (subst (λ ts. right c.turn.new.self (Turned c.in-Turned.node ts)) c.as_slice.ensures
-    (c.in_err-turned-in-Turned.ensures.kept p q e es legal k (subst (λ ts. right c.args.self.now (Turned c.in-Turned.node ts)) (sym c.as_slice.ensures) (subst (λ h. right c.args.self.now h) c.in-Turned.is x))))
+    (c.in_err-turned.ensures.kept p q e es legal k (subst (λ ts. right c.args.self.now (Turned c.in-Turned.node ts)) (sym c.as_slice.ensures) (subst (λ h. right c.args.self.now h) c.in-Turned.is x))))
 
-pub returns-in_err-turned-in-Turned-clause-refused : goal.returns-in_err-turned-in-Turned-clause-refused
-returns-in_err-turned-in-Turned-clause-refused g c =
+pub returns-in_err-turned-clause-refused : goal.returns-in_err-turned-clause-refused
+returns-in_err-turned-clause-refused g c =
     let large : Hand g.row.T.Denot → Type 0 = λ h. IsTooLarge g.T.PartialOrder.below g.T.Lattice.joined g.T.Minimum.least g.T.Ord.cmp c.args.plan.now c.args.self.now h in
-    let r = c.from_residual-in_err-turned-in-Turned.result in
-    let p = err_from_is_err_and r c.from_residual-in_err-turned-in-Turned.ensures.1 in
-    if_err_at r (IsMemoryOrOverflow (large c.args.hand.now)) c.in_err-turned-in-Turned.field-0.0 p.0 p.1 (cc p.2)
-    (memory_or (λ cause. subst large (sym c.in-Turned.is) (subst (λ ts. large (Turned c.in-Turned.node ts)) c.as_slice.ensures cause)) c.in_err-turned-in-Turned.ensures.refused)
+    let r = c.from_residual-in_err-turned.result in
+    let p = err_from_is_err_and r c.from_residual-in_err-turned.ensures.1 in
+    if_err_at r (IsMemoryOrOverflow (large c.args.hand.now)) c.in_err-turned.field-0.0 p.0 p.1 (cc p.2)
+    (memory_or (λ cause. subst large (sym c.in-Turned.is) (subst (λ ts. large (Turned c.in-Turned.node ts)) c.as_slice.ensures cause)) c.in_err-turned.ensures.refused)
 
-pub returns-in_ok-laid-in-Taken-clause-leads : goal.returns-in_ok-laid-in-Taken-clause-leads
-returns-in_ok-laid-in-Taken-clause-leads g c p q e es legal k x =
+pub returns-in-Taken-clause-leads : goal.returns-in-Taken-clause-leads
+returns-in-Taken-clause-leads g c p q e es legal k x =
     let w = state_after g.T.PartialOrder.below g.T.Minimum.least p es in
     let right : DeskView g.row.T.Denot → Hand g.row.T.Denot → Type 0 = λ d h. IsRight g.T.PartialOrder.below g.T.Lattice.joined g.T.Minimum.least p w k d h in
-    subst (λ h. right c.lay.new.self h) (sym c.take_in_hand.ensures) (c.in_ok-laid-in-Taken.ensures.leads p q e es legal k (subst (λ h. right c.args.self.now h) c.in-Taken.is x))
+    subst (λ h. right c.lay.new.self h) (sym c.take_in_hand.ensures) (c.in_ok-laid.ensures.leads p q e es legal k (subst (λ h. right c.args.self.now h) c.in-Taken.is x))
 
-pub returns-in_ok-turned-in-Turned-clause-leads : goal.returns-in_ok-turned-in-Turned-clause-leads
-returns-in_ok-turned-in-Turned-clause-leads g c p q e es legal k x =
+pub returns-in_ok-turned-clause-leads : goal.returns-in_ok-turned-clause-leads
+returns-in_ok-turned-clause-leads g c p q e es legal k x =
     let w = state_after g.T.PartialOrder.below g.T.Minimum.least p es in
     let right : DeskView g.row.T.Denot → Hand g.row.T.Denot → Type 0 = λ d h. IsRight g.T.PartialOrder.below g.T.Lattice.joined g.T.Minimum.least p w k d h in
     subst (λ h. right c.turn.new.self h) (sym c.take_in_hand-in-Turned.ensures)
-    (c.in_ok-turned-in-Turned.ensures.leads p q e es legal k (subst (λ ts. right c.args.self.now (Turned c.in-Turned.node ts)) (sym c.as_slice.ensures) (subst (λ h. right c.args.self.now h) c.in-Turned.is x)))
+    (c.in_ok-turned.ensures.leads p q e es legal k (subst (λ ts. right c.args.self.now (Turned c.in-Turned.node ts)) (sym c.as_slice.ensures) (subst (λ h. right c.args.self.now h) c.in-Turned.is x)))
 
 pub pass_on-requires : goal.pass_on-requires
 pass_on-requires g c =
