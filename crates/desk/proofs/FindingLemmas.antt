@@ -1,4 +1,6 @@
 -- What is ready to be given: what lay gathered, and what a reduction answers.
+use Rattle.operator.proofs.ArrangementLemmas.{readable_from}
+use Rattle.lattice.proofs.FrontierLemmas.{all_more}
 use Rattle.std.proofs.Common.{◌≡◌, ℕ, ◌<◌, ◌≤◌, ◌^◌, Bool, true, false, cond, eqb, List, [], ◌++◌, length, set, get_or, Some, None, IsTrue, sym, refl, ap, ◌∙◌, subst, arith}
 use Rattle.std.specs.List.{list_all, slice_get}
 use Rattle.std.specs.Prelude.{Result, Ok, Err}
@@ -8,7 +10,7 @@ use Rattle.std.proofs.lemmas.Bool.{and_parts, eq-eqb, eqb-true, eqb-false}
 use Rattle.std.proofs.lemmas.List.Folds.{list_all-append}
 use Rattle.std.proofs.lemmas.Option.{same_Some}
 use Rattle.lattice.specs.Order.{PartialOrderLaws, LatticeLaws}
-use Rattle.lattice.specs.Frontiers.{all_beyond}
+use Rattle.lattice.specs.Frontiers.{all_beyond, is_beyond}
 use Rattle.antichain.proofs.Lists.{all_at, all_from}
 use Rattle.update.specs.Bags.{count_of}
 use Rattle.update.specs.Updates.{HasLargeTotal, as_of, size}
@@ -33,7 +35,7 @@ use Rattle.histories.specs.Histories.Dataflows.{Dataflow, IsDataflow, node_of, s
 use Rattle.histories.specs.Histories.Promises.{changes_in}
 use Rattle.histories.specs.Histories.NodeLaws.{received_at}
 use Rattle.histories.specs.Histories.States.{State, emitted_by, times}
-use Rattle.operator.specs.Arrangements.{ArrangementState}
+use Rattle.operator.specs.Arrangements.{ArrangementState, IsArrangement}
 use Rattle.operator.specs.Reductions.{IsOverfullWith, IsReduced, ReducingView, SumsToReceived, output_width, pending_of}
 use Rattle.operator_laws.specs.Arranging.{IsArranging}
 use Rattle.operator_laws.specs.Gathering.{IsSplit}
@@ -49,7 +51,7 @@ use Rattle.desk_laws.proofs.LaidLemmas.{ready_from_kept, ready_from_turned}
 use Rattle.desk.specs.Desks.{IsOnPlan, IsRight, IsSomeones, IsTakenOut, IsTooLarge, Leads}
 use Rattle.desk.proofs.CauseLemmas.{large_owed, large_waits}
 use Rattle.desk.proofs.DeskLemmas.{same_but_gathered, same_but_reduction, holding_gathered, holding_found, waits_plain}
-use Rattle.desk.proofs.PlaceLemmas.{get_own, length_set, read_at}
+use Rattle.desk.proofs.PlaceLemmas.{get_own, length_set, read_at, one_entry}
 
 -- ---- what lay gathered
 

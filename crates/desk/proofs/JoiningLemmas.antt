@@ -1,5 +1,8 @@
 -- A bundle at a join: which of the source's insertions it is, and what the desk and the hand are after
 -- the join took it.
+use Rattle.operator.specs.Reductions.{ReducingView, pending_of}
+use Rattle.batch.specs.Intervals.{all_times_beyond}
+use Rattle.desk.proofs.DeskLemmas.{holding_gathered}
 use Rattle.std.proofs.Common.{◌≡◌, ◌≢◌, ℕ, zero, suc, ◌+◌, ◌-◌, ◌*◌, ◌^◌, ◌<◌, ◌≤◌, ◌⊎◌, Bool, true, false, ◌&&◌, eqb, List, [], ◌∷◌, ◌++◌, length, set, Some, IsTrue, sym, refl, ap, ◌∙◌, subst, ⊎_elim, arith}
 use Rattle.std.specs.Prelude.{nat_lt, unwrap_or}
 use Rattle.std.specs.List.{slice_get}
@@ -28,14 +31,14 @@ use Rattle.join.specs.Pairs.{pairs}
 use Rattle.join.specs.Sides.{all_rows_have}
 use Rattle.histories.specs.declared.event.Bundle.{Bundle}
 use Rattle.histories.specs.Histories.Dataflows.{Dataflow, IsDataflow, node_of, source_of}
-use Rattle.histories.specs.Histories.States.{State}
+use Rattle.histories.specs.Histories.States.{State, times}
 use Rattle.operator_laws.specs.Gathering.{IsSplit}
 use Rattle.operator_laws.specs.Joining.{IsAnswer, on_top}
 use Rattle.operator_laws.specs.Working.{Works, IsWorkingAt}
 use Rattle.operator_laws.proofs.GatheringLemmas.{size_none}
 use Rattle.operator.specs.Arrangements.{ArrangementState}
 use Rattle.operator.specs.Joins.{JoiningView, IsFitting}
-use Rattle.desk_laws.specs.Own.{AreSharing, DeskView, HasHold, IsArrangedOn, IsJoinedOn, IsNextBoundary, IsOwn, IsSameAt, ReadsAt, boundary_at, gathered_in, hold_at, is_taken_at, waits_on}
+use Rattle.desk_laws.specs.Own.{DeskView, HasHold, IsArrangedOn, IsJoinedOn, IsNextBoundary, IsOwn, IsSameAt, ReadsAt, boundary_at, gathered_in, hold_at, is_taken_at, waits_on, StayHolding, other_port, Reduces, KeepsApart}
 use Rattle.desk_laws.specs.declared.hand.Hand.{Hand}
 use Rattle.desk_laws.specs.declared.hand.Hand.TheVariants.{Kept, Ready, Taken}
 use Rattle.desk_laws.proofs.FoundLemmas.{is_arrange}
@@ -238,10 +241,11 @@ module _ {T : Type 0} (below : T → T → Bool) (joined : T → T → T) (minim
     the_hold : (port source : ℕ) → source_of p n port ≡ Some source → HasHold below d source (hold_at port j) (boundary_at port j) (x.own.keeps.ports n (other_port port))
     the_hold port source reads = x.own.holding.joins.held n port source j (record { within = within; join = ap is_join e; reads = reads; there = there })
 
-    kept_apart : PartialOrderLaws below → (port source : ℕ) (reads : source_of p n port ≡ Some source) → bundle.place.port ≡ other_port port → IsTrue (all_beyond below (the_hold port source reads).hold.logical (times bundle.updates))
+    kept_apart : PartialOrderLaws below → (port source : ℕ) (reads : source_of p n port ≡ Some source) → bundle.place.port ≡ other_port port → IsTrue (all_times_beyond below (the_hold port source reads).hold.logical bundle.updates)
     kept_apart o port source reads at =
         let h = the_hold port source reads in
-        all_beyond_later o h.hold.logical (x.own.keeps.ports n (other_port port)) (times bundle.updates) h.apart
+        sym (list_all-map (is_beyond below h.hold.logical) (λ (u : Update T). u.time) bundle.updates)
+        ∙ all_beyond_later o h.hold.logical (x.own.keeps.ports n (other_port port)) (times bundle.updates) h.apart
         (subst (λ z. IsTrue (all_beyond below (x.own.keeps.ports n z) (times bundle.updates))) at x.own.come)
 
     -- ---- what the join takes next
@@ -257,6 +261,7 @@ module _ {T : Type 0} (below : T → T → Bool) (joined : T → T → T) (minim
         reading_there 0 l reads_left (works.start l) (works.inserted l) here.1.later before.left (arranged 0 l reads_left) (here.1.all ∙ ap (on_top here.1.later) still) left_before
 
     pub next_left : PartialOrderLaws below → bundle.place.port ≡ 0 → IsNextAt below minimum 0 d.arrangements l r j bundle.updates
+    unfolding opposite_right the_hold reading_there
     next_left o port =
         let newest = before.at_left.newest bundle more refl (in_hand 0 port) in
         let y = arranged 0 l reads_left in
@@ -285,6 +290,7 @@ module _ {T : Type 0} (below : T → T → Bool) (joined : T → T → T) (minim
         }
 
     pub next_right : PartialOrderLaws below → bundle.place.port ≡ 1 → IsNextAt below minimum 1 d.arrangements r l j bundle.updates
+    unfolding opposite_left the_hold reading_there
     next_right o port =
         let newest = before.at_right.newest bundle more refl (in_hand 1 port) in
         let y = arranged 1 r reads_right in

@@ -1,8 +1,13 @@
 -- From a bundle in hand to what lies on the desk.
-use Rattle.std.proofs.Common.{◌≡◌, ℕ, ◌<◌, ◌≤◌, ◌^◌, Bool, true, false, eqb, List, [], ◌++◌, length, None, IsTrue, sym, refl, ap, ◌∙◌, subst, arith}
+use Rattle.std.proofs.lemmas.Bool.Decides.{nat_tests}
+use Rattle.std.specs.Prelude.{nat_lt}
+use Rattle.operator.specs.Reductions.{IsReduced}
+use Rattle.linear.specs.Ports.{is_port}
+use Rattle.desk.proofs.PlaceLemmas.{one_entry}
+use Rattle.std.proofs.Common.{◌≡◌, ℕ, ◌<◌, ◌≤◌, ◌^◌, Bool, true, false, eqb, List, [], ◌++◌, length, None, IsTrue, sym, refl, ap, ◌∙◌, subst, arith, ⊎_elim}
 use Rattle.std.specs.List.{slice_get}
 use Rattle.std.specs.declared.cmp.Ordering.{Ordering}
-use Rattle.std.proofs.lemmas.Bool.{eqb-true, eqb-false, true≢false}
+use Rattle.std.proofs.lemmas.Bool.{eqb-true, eqb-false, true≢false, or_cases}
 use Rattle.std.proofs.lemmas.Int.{ints}
 use Rattle.std.proofs.Math.IntN.{ℤ, ◌+ℤ◌}
 use Rattle.lattice.specs.Order.{PartialOrderLaws, LatticeLaws}
@@ -25,7 +30,7 @@ use Rattle.histories.proofs.HistoryLemmas.FlowLemmas.{sum_at, sum_at-append}
 use Rattle.operator_laws.specs.Gathering.{IsSplit}
 use Rattle.shared_board.specs.Large.{HasNoSmallBound}
 use Rattle.operator_laws.proofs.GatheringLemmas.{beyond_both, beyond_parts, size_both, size_none, times_both}
-use Rattle.desk_laws.specs.Own.{DeskView, gathered_in, waits_on}
+use Rattle.desk_laws.specs.Own.{DeskView, gathered_in, waits_on, StayHoldingWith}
 use Rattle.desk_laws.specs.declared.hand.Hand.TheVariants.{Kept, Taken}
 use Rattle.desk_laws.proofs.LaidLemmas.{kept_lem}
 use Rattle.desk_laws.proofs.ReducedLemmas.{kept_reduce}

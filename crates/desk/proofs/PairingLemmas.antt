@@ -5,7 +5,6 @@ use Rattle.std.specs.List.{Contains, slice_get}
 use Rattle.lattice.specs.Order.{PartialOrderLaws}
 use Rattle.lattice.specs.Frontiers.{is_beyond}
 use Rattle.lattice.proofs.FrontierLemmas.{all_more}
-use Rattle.std.proofs.lemmas.List.Folds.{list_all-map}
 use Rattle.update.specs.declared.change.Update.{Update}
 use Rattle.batch.specs.Intervals.{all_times_beyond, is_interval_of}
 use Rattle.trace.specs.Readings.{Insertion}
@@ -60,7 +59,7 @@ module _ {T : Type 0} {below : T → T → Bool} {minimum : T} {port : ℕ} {arr
         subst (λ (s : SpineState T). IsTrue (all_times_beyond below s.since us)) (sym value)
         (all_more (λ (u : Update T). is_beyond below y.reading.hold.logical u.time) (λ u. is_beyond below b.spine.since u.time)
         (λ u h. readable_from below o minimum b y.reading.number y.reading.hold known (ap (λ (z : ArrangementState T). slice_get z.holds y.reading.number) (sym opposite_is) ∙ y.reading.held) u.time h)
-        us (sym (list_all-map (is_beyond below y.reading.hold.logical) (λ (u : Update T). u.time) us) ∙ y.apart))
+        us y.apart)
 
     -- what a reader has taken there is a side of the join
     pub side_from : (a : ArrangementState T) → slice_get arrangements other ≡ Some (Some a) → (inserted later taken : List (Insertion T)) → IsReading below minimum a inserted later taken (boundary_at (other_port port) j) → IsSide below minimum spine inserted taken (boundary_at (other_port port) j)

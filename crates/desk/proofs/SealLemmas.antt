@@ -31,7 +31,7 @@ use Rattle.operator_laws.specs.Working.{IsWorkingAt, Works}
 use Rattle.operator_laws.proofs.ArrangingLemmas.{interval, open_beyond, seal_split}
 use Rattle.operator.specs.Arrangements.{ArrangementState, IsOpen, rows_have, times_from, upper_of}
 use Rattle.shared_board.specs.Large.{HasNoSmallBound}
-use Rattle.desk_laws.specs.Own.{DeskView, IsArrangedOn, IsMergedAt, IsNextBatch, IsOwn, IsSpineAt, waiting_in, waits_on}
+use Rattle.desk_laws.specs.Own.{DeskView, IsArrangedOn, IsMergedAt, IsNextBatch, IsOwn, IsSpineAt, waiting_in, waits_on, StayHolding}
 use Rattle.desk_laws.specs.declared.hand.Hand.TheVariants.{Sealed, Turned}
 use Rattle.desk_laws.proofs.BeyondLemmas.{newest_later}
 use Rattle.desk_laws.proofs.KeptLemmas.{at_each, laid_same, of_each, same_desk, same_keeps, turned_idle}

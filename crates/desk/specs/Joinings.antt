@@ -4,6 +4,7 @@ use Rattle.std.specs.declared.cmp.Ordering.{Ordering}
 use Rattle.lattice.specs.Frontiers.{all_beyond}
 use Rattle.update.specs.Updates.{size, IsConsolidated}
 use Rattle.update.specs.declared.change.Update.{Update}
+use Rattle.batch.specs.Intervals.{all_times_beyond}
 use Rattle.trace.specs.Holds.{HoldState}
 use Rattle.trace.specs.Readings.{Insertion, all_updates, reached}
 use Rattle.spine.specs.Spines.{Stands}
@@ -81,7 +82,7 @@ module _ {T : Type 0} (below : T → T → Bool) (minimum : T) where
     pub later : List (Insertion T)
     pub taken : List (Insertion T)
     pub reading : IsReading opposite inserted later taken (boundary_at (other_port port) j)
-    pub apart : IsTrue (all_beyond below reading.hold.logical (times us))
+    pub apart : IsTrue (all_times_beyond below reading.hold.logical us)
 
   -- a bundle that came at a port, or its pairs with all that the join took at the other port, are too
   -- large for 64-bit numbers

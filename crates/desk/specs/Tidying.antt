@@ -1,5 +1,6 @@
 -- What is left when a desk was tidied: where the holds are, and what was merged.
-use Rattle.std.specs.Prelude.{◌≡◌, ℕ, ◌<◌, Bool, true, false, List, [], ◌∷◌, Some, length, set, slice_get, Option, ◌^◌, ◌-◌, min}
+use Rattle.trace.specs.Holds.{HoldState}
+use Rattle.std.specs.Prelude.{◌≡◌, ℕ, ◌<◌, Bool, true, false, List, Some, length, set, slice_get, Option, ◌^◌, ◌-◌, min}
 use Rattle.std.specs.declared.cmp.Ordering.{Ordering}
 use Rattle.plan.specs.Nodes.{node_at}
 use Rattle.plan.specs.declared.node.Node.{Node}

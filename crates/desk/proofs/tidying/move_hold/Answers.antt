@@ -1,4 +1,4 @@
-use Rattle.std.proofs.Common.{rules, ◌∙◌, sym, ap, subst}
+use Rattle.std.proofs.Common.{rules, ◌∙◌, sym, refl, ap}
 use Rattle.std.specs.List.{slice_get}
 use Rattle.desk.proofs.ResultLemmas.{on_ok_both}
 use Rattle.desk.proofs.SettleLemmas.{has_moved, may_advance, same_times}
@@ -7,7 +7,7 @@ use Rattle.desk.proofs.tidying.move_hold.Goals as goal
 pub logical-requires : goal.logical-requires
 logical-requires g c =
     let may = may_advance g.T.PartialOrder.below g.T.Minimum.least g.met.T.PartialOrder.order c.args.arrangement.now c.args.number c.args.boundary.now c.args.boundary.now refl c.trace-spine.ensures.known c.requires.may in
-    may.0
+    record { reader = may.0 }
 
 pub advance-requires : goal.advance-requires
 advance-requires g c =

@@ -1,8 +1,6 @@
-use Rattle.std.proofs.Common.{◌≡◌, Some, slice_get, rules, ◌∙◌}
-use Rattle.trace.specs.Holds.{HoldState}
+use Rattle.std.proofs.Common.{rules, ◌∙◌}
 use Rattle.desk.proofs.ResultLemmas.{on_ok_always}
 use Rattle.desk.proofs.SettleLemmas.{is_settled, own_settled, same_times}
-use Rattle.desk.proofs.tidying.settle.Given.{Over}
 use Rattle.desk.proofs.tidying.settle.Goals as goal
 
 pub acknowledge-requires : goal.acknowledge-requires

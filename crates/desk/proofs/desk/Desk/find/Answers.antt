@@ -1,19 +1,19 @@
 -- What a reduction answers.
-use Rattle.std.proofs.Common.{◌≡◌, Bool, true, false, ◌||◌, IsTrue, List, arith, length, set, Option, Some, get_or, slice_get, sym, refl, subst, ap, ◌∙◌}
+use Rattle.std.proofs.Common.{◌≡◌, IsTrue, List, arith, length, set, Option, Some, get_or, slice_get, sym, subst, ap, ◌∙◌, ◌∷◌, []}
 use Rattle.std.specs.List.{list_all}
 use Rattle.std.proofs.lemmas.Option.{none-some, slice_get_within}
-use Rattle.lattice.specs.Frontiers.{is_beyond}
+use Rattle.lattice.specs.Frontiers.{all_beyond}
 use Rattle.update.specs.Refusals.{IsMemoryOrOverflow}
 use Rattle.trace.specs.Readings.{Insertion, all_updates}
 use Rattle.spine.specs.Spines.{SpineState, Stands}
 use Rattle.update.specs.declared.change.Update.{Update}
 use Rattle.plan.specs.Changes.{has_passed}
-use Rattle.operator.specs.Reductions.{IsOverfullWith, IsReduced, ReducingView, SumsToReceived}
+use Rattle.operator.specs.Reductions.{IsOverfullWith, IsReduced, ReducingView, SumsToReceived, pending_of}
 use Rattle.desk_laws.specs.Own.{DeskView}
 use Rattle.desk_laws.specs.declared.hand.Hand.TheVariants.{Ready, Turned}
 use Rattle.desk.specs.Desks.{IsTooLarge, Leads}
 use Rattle.desk.proofs.PlaceLemmas.{found_at, set_same}
-use Rattle.desk.proofs.FindingLemmas.{found_large, found_ok}
+use Rattle.desk.proofs.FindingLemmas.{found_large, found_ok, pending_readable}
 use Rattle.desk.proofs.ResultLemmas.{if_err_from, if_ok_by, memory_or, on_err_by}
 use Rattle.desk.proofs.desk.Desk.find.Goals as goal
 
@@ -29,8 +29,12 @@ index_mut-requires g c =
     let same = ap length (ap (λ (z : DeskView _). z.reductions) c.self.view_is) in
     omega (arith, l, same, c.self.inside.reductions.ok.0, c.number.ensures)
 
-pub ready-requires : goal.ready-requires
-ready-requires g c =
+pub ready-requires-clause-begun : goal.ready-requires-clause-begun
+ready-requires-clause-begun g c =
+    subst (λ (s : SpineState g.row.T.Denot). IsTrue (all_beyond g.T.PartialOrder.below (g.T.Minimum.least ∷ []) s.since)) (sym c.trace-source.ensures.value) c.trace-source.ensures.known.begun
+
+pub ready-requires-clause-held : goal.ready-requires-clause-held
+ready-requires-clause-held g c =
     let inside = c.self.inside in
     let below = g.T.PartialOrder.below in
     let n = c.args.node in
@@ -40,15 +44,8 @@ ready-requires g c =
     let here = r.1 ∙ ap Some (sym mine ∙ c.in-Some.is) in
     let a = c.arrangement_at.result.now in
     let read = subst (λ (x : DeskView g.row.T.Denot). slice_get x.arrangements c.args.source ≡ Some (Some a)) c.self.view_is c.arrangement_at.ensures.there in
-    let known = c.trace-source.ensures.known in
-    let held = pending_readable below g.T.Lattice.joined g.T.Minimum.least c.args.plan.now c.args.self.now n c.args.upper.now c.requires.someones c.requires.reduces.0 c.args.source c.requires.reduces.1 g.met.T.PartialOrder.order c.in-Some.reduction here a read known in
-    let value = sym c.trace-source.ensures.value in (
-      search rules,
-      (
-        subst (λ (s : SpineState g.row.T.Denot). IsTrue (all_beyond below (g.T.Minimum.least ∷ []) s.since)) value known.begun,
-        subst (λ (s : SpineState g.row.T.Denot). IsTrue (all_beyond below s.since (pending_of c.in-Some.reduction))) value held,
-      ),
-    )
+    subst (λ (s : SpineState g.row.T.Denot). IsTrue (all_beyond below s.since (pending_of c.in-Some.reduction))) (sym c.trace-source.ensures.value)
+    (pending_readable below g.T.Lattice.joined g.T.Minimum.least c.args.plan.now c.args.self.now n c.args.upper.now c.requires.someones c.requires.reduces.0 c.args.source c.requires.reduces.1 g.met.T.PartialOrder.order c.in-Some.reduction here a read c.trace-source.ensures.known)
 
 pub unreachable-requires : goal.unreachable-requires
 unreachable-requires g c =

@@ -47,7 +47,7 @@ returns-clause-moved g c j at a own =
     on_ok_by c.move_hold_at.result (λ m. (
       m.0,
       (λ i. record d { arrangements = m.1 i }) ∙ ap (λ (z : DeskView g.row.T.Denot). record z { arrangements = set z.arrangements s (Some m.0) }) c.self.view_is,
-      subst (λ F. HasMoved below least (hold_at port j) F a m.0) boundary (subst (λ k. HasMoved below least k c.boundary_on.result.now a m.0) number m.2),
+      subst (λ F. HasMoved below (hold_at port j) F a m.0) boundary (subst (λ k. HasMoved below k c.boundary_on.result.now a m.0) number m.2),
     )) (c.move_hold_at.ensures.moved a here)
 
 pub returns-clause-same : goal.returns-clause-same
