@@ -97,7 +97,7 @@ module _ {T : Type 0} (below : T → T → Bool) (joined : T → T → T) (minim
     some_may : batch.updates ≢ [] → IsCut below p (emission_of n k batch.updates) (cut below p (emission_of n k batch.updates)) → MayGive (Sealed n batch)
     some_may some cuts = record {
       allowed = sealed_may cuts;
-      after = λ c away. (sealed_given below joined minimum o p q w k n within d batch held is_held x some cuts c away.others (away.sharing x.sharing) away.waits (away.inserted some)).1;
+      after = λ c away. (sealed_given below joined minimum o p q w k n within d batch held is_held x some cuts c away.others away.holding away.waits (away.inserted some)).1;
     }
 
     batch_may : IsCut below p (emission_of n k batch.updates) (cut below p (emission_of n k batch.updates)) → MayGive (Sealed n batch)
