@@ -146,21 +146,27 @@ module _ {T : Type 0} (below : T → T → Bool) (p : Dataflow) (d : DeskView T)
         ap (slice_get (set d.arrangements n (Some b))) at ∙ get_own d.arrangements n (Some b) (Some a) there,
       )
 
-  -- readers still have their holds if those have stayed, and the arrangement's own one is for the same
-  -- times
-  pub holding_with : ((number : ℕ) → 0 < number → slice_get b.holds number ≡ slice_get a.holds number)
-      → ((hold : HoldState T) → slice_get a.holds 0 ≡ Some hold → (moved : HoldState T) × (slice_get b.holds 0 ≡ Some moved) × (moved.logical ≡ hold.logical)) → StayHolding below p d (with_arrangement n b d)
-  holding_with same own ports x = record {
+  -- for these frontiers of the ports: readers still have their holds if those have stayed, and the
+  -- arrangement's own one still serves the reductions
+  pub holding_at : (ports : ℕ → ℕ → List T) → ((number : ℕ) → 0 < number → slice_get b.holds number ≡ slice_get a.holds number)
+      → ((m : ℕ) (r : ReducingView T) → Reduces p d m n r → (hold : HoldState T) → slice_get a.holds 0 ≡ Some hold → (moved : HoldState T) × (slice_get b.holds 0 ≡ Some moved)
+          × (IsTrue (all_beyond below hold.logical (pending_of r)) → IsTrue (all_beyond below moved.logical (pending_of r)))
+          × (IsTrue (all_beyond below hold.logical (ports m 0)) → IsTrue (all_beyond below moved.logical (ports m 0))))
+      → AreHolding below p d ports → AreHolding below p (with_arrangement n b d) ports
+  holding_at ports same own x = record {
     joins = record {
       held = λ m port source j r. step source (hold_at port j) (boundary_at port j) (ports m (other_port port)) (x.joins.held m port source j (reads_with m port source j r)) (eqb source n) refl;
       apart = λ m port k other source i j r t. x.joins.apart m port k other source i j (reads_with m port source i r) (reads_with k other source j t);
     };
-    pending = λ m source r is. serves source (pending_of r) (x.pending m source r (reduces m source r is)) (eqb source n) refl;
-    come = λ m source r is. serves source (ports m 0) (x.come m source r (reduces m source r is)) (eqb source n) refl;
+    pending = λ m source r is. serves source (pending_of r) (x.pending m source r (reduces m source r is)) (λ at hold there apart. let z = own m r (here m source r at is) hold there in (z.0, z.1, z.2 apart)) (eqb source n) refl;
+    come = λ m source r is. serves source (ports m 0) (x.come m source r (reduces m source r is)) (λ at hold there apart. let z = own m r (here m source r at is) hold there in (z.0, z.1, z.3 apart)) (eqb source n) refl;
   }
     where
       reduces : (m source : ℕ) (r : ReducingView T) → Reduces p (with_arrangement n b d) m source r → Reduces p d m source r
       reduces m source r is = record { within = is.within; kind = is.kind; node = is.node; there = is.there }
+
+      here : (m source : ℕ) (r : ReducingView T) → source ≡ n → Reduces p (with_arrangement n b d) m source r → Reduces p d m n r
+      here m source r at is = subst (λ k. Reduces p d m k r) at (reduces m source r is)
 
       step : (source number : ℕ) (u ts : List T) → HasHold below d source number u ts → (c : Bool) → eqb source n ≡ c → HasHold below (with_arrangement n b d) source number u ts
       step source number u ts h true e =
@@ -184,18 +190,32 @@ module _ {T : Type 0} (below : T → T → Bool) (p : Dataflow) (d : DeskView T)
         behind = h.behind;
       }
 
-      serves : (source : ℕ) (ts : List T) → KeepsApart below d source 0 ts → (c : Bool) → eqb source n ≡ c → KeepsApart below (with_arrangement n b d) source 0 ts
-      serves source ts h true e =
+      serves : (source : ℕ) (ts : List T) → KeepsApart below d source 0 ts
+          → (source ≡ n → (hold : HoldState T) → slice_get a.holds 0 ≡ Some hold → IsTrue (all_beyond below hold.logical ts) → (moved : HoldState T) × (slice_get b.holds 0 ≡ Some moved) × IsTrue (all_beyond below moved.logical ts))
+          → (c : Bool) → eqb source n ≡ c → KeepsApart below (with_arrangement n b d) source 0 ts
+      serves source ts h on true e =
           let now = here_now source h.arrangement h.there e in
-          let m = own h.hold (ap (λ (z : ArrangementState T). slice_get z.holds 0) now.0 ∙ h.held) in
-          record { arrangement = b; there = now.1; hold = m.0; held = m.1; apart = subst (λ F. IsTrue (all_beyond below F ts)) (sym m.2) h.apart }
-      serves source ts h false e = record {
+          let m = on (eqb-true source n e) h.hold (ap (λ (z : ArrangementState T). slice_get z.holds 0) now.0 ∙ h.held) h.apart in
+          record { arrangement = b; there = now.1; hold = m.0; held = m.1; apart = m.2 }
+      serves source ts h on false e = record {
         arrangement = h.arrangement;
         there = get_set d.arrangements n source (Some b) (eqb-false source n e) ∙ h.there;
         hold = h.hold;
         held = h.held;
         apart = h.apart;
       }
+
+  -- so they have for any frontiers of the ports, if the own one is for the same times
+  pub holding_with : ((number : ℕ) → 0 < number → slice_get b.holds number ≡ slice_get a.holds number)
+      → ((hold : HoldState T) → slice_get a.holds 0 ≡ Some hold → (moved : HoldState T) × (slice_get b.holds 0 ≡ Some moved) × (moved.logical ≡ hold.logical)) → StayHolding below p d (with_arrangement n b d)
+  holding_with same own ports x =
+      holding_at ports same (λ m r is hold at.
+          let z = own hold at in (
+            z.0,
+            z.1,
+            (λ apart. subst (λ F. IsTrue (all_beyond below F (pending_of r))) (sym z.2) apart),
+            (λ apart. subst (λ F. IsTrue (all_beyond below F (ports m 0))) (sym z.2) apart),
+          )) x
 
   -- in particular if all of them have
   pub holding_same : b.holds ≡ a.holds → StayHolding below p d (with_arrangement n b d)

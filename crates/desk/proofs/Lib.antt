@@ -19,6 +19,8 @@ pub mod PairingLemmas
 pub mod PassingLemmas
 pub mod JoiningLemmas
 pub mod JoiningCauseLemmas
+pub mod FrontLemmas
+pub mod ServingLemmas
 pub mod TidyLemmas
 pub mod FollowLemmas
 pub mod SettleLemmas

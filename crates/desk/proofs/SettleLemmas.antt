@@ -1,5 +1,5 @@
 -- What settled arrangements leave of a worker's desk, and why a merge could not be made.
-use Rattle.std.proofs.Common.{◌≡◌, ◌≢◌, ℕ, ◌+◌, ◌<◌, ◌≤◌, ◌^◌, Bool, true, false, eqb, List, [], ◌∷◌, length, set, Some, IsTrue, sym, refl, ap, ◌∙◌, subst, arith}
+use Rattle.std.proofs.Common.{◌≡◌, ◌≢◌, ℕ, ◌+◌, ◌<◌, ◌≤◌, ◌^◌, Bool, true, false, eqb, List, [], ◌∷◌, length, set, Option, Some, IsTrue, inr, ⊎_elim, sym, refl, ap, ◌∙◌, subst, arith}
 use Rattle.std.specs.Prelude.{Result, Ok, Err}
 use Rattle.std.specs.Result.{IfOk, OnOk}
 use Rattle.std.specs.List.{Contains, slice_get}
@@ -8,24 +8,30 @@ use Rattle.std.proofs.lemmas.Bool.{eqb-true, eqb-false}
 use Rattle.std.proofs.lemmas.Option.{same_Some, slice_get_within}
 use Rattle.lattice.specs.Order.{PartialOrderLaws}
 use Rattle.lattice.specs.Frontiers.{all_beyond}
-use Rattle.lattice.proofs.FrontierLemmas.{beyond_itself}
+use Rattle.lattice.proofs.FrontierLemmas.{all_beyond_later}
 use Rattle.update.specs.Updates.{size}
 use Rattle.plan.specs.Nodes.{node_at}
 use Rattle.plan.specs.declared.node.Node.{Node}
-use Rattle.plan.specs.declared.node.Node.TheVariants.{Arrange}
+use Rattle.plan.specs.declared.node.Node.TheVariants.{Arrange, Reduce}
 use Rattle.trace.specs.Holds.{HoldState}
 use Rattle.trace.specs.Readings.{Insertion, all_updates}
 use Rattle.spine.specs.Spines.{IsDone, Stands, boundaries}
 use Rattle.histories.specs.Histories.{state_after}
-use Rattle.histories.specs.Histories.Dataflows.{node_of}
+use Rattle.histories.specs.Histories.Dataflows.{Dataflow, node_of}
+use Rattle.histories.specs.Histories.Outstanding.{port_frontier}
 use Rattle.histories.specs.Histories.Promises.{changes_in}
+use Rattle.histories.specs.Histories.States.{State}
 use Rattle.operator.specs.Arrangements.{ArrangementState, IsArrangement, IsOpen, upper_of}
+use Rattle.operator.specs.Joins.{JoiningView}
+use Rattle.operator.specs.Reductions.{ReducingView, pending_of}
 use Rattle.operator_laws.specs.Working.{IsWorkingAt}
 use Rattle.shared_board.specs.Large.{HasNoSmallBound}
-use Rattle.desk_laws.specs.Own.{DeskView, ReadsAt, boundary_at, hold_at}
+use Rattle.desk_laws.specs.Own.{AreHolding, DeskView, KeepsApart, ReadsAt, Reduces, boundary_at, due_in, hold_at, other_port}
+use Rattle.desk_laws.proofs.MergedLemmas.{beyond_reached}
 use Rattle.desk.specs.Openings.{on_plan}
-use Rattle.desk.specs.Tidying.{HasMoved, HasOwnHold, IsFollowed, IsHeldFrom, IsSettled, IsSettledAt, IsTooLargeOn, LeadsOn, MayMove, MayTidy}
-use Rattle.desk.proofs.DeskLemmas.{holding_with, with_arrangement}
+use Rattle.desk.specs.Tidying.{AreTold, HasMoved, IsFollowed, IsHeldFrom, IsLevel, IsSettled, IsSettledAt, IsTooLargeOn, LeadsOn, MayMove, MayRise, MayTidy, ServesReductions, front_of_port}
+use Rattle.desk.proofs.DeskLemmas.{holding_at, with_arrangement}
+use Rattle.desk.proofs.FrontLemmas.{told_after, told_before}
 use Rattle.desk.proofs.PlaceLemmas.{get_own, get_set, get_within, one_entry}
 use Rattle.desk.proofs.LargeLemmas.{large_load}
 use Rattle.desk.proofs.ReadingLemmas.{reading_readable}
@@ -35,27 +41,25 @@ use Rattle.desk.proofs.TidyLemmas.{leads_with, reading_behind, reads_in, reads_b
 
 module _ {T : Type 0} (below : T → T → Bool) (minimum : T) where
   -- a hold may move to where its reader has come
-  pub may_advance : (o : PartialOrderLaws below) (a : ArrangementState T) (number : ℕ) (boundary u : List T) → u ≡ boundary → IsArrangement below minimum a → MayMove below minimum a number boundary
-      → (number < length a.holds) × Contains (boundaries a.spine) u × ((hold : HoldState T) → slice_get a.holds number ≡ Some hold → IsTrue (all_beyond below hold.physical u)) × IsTrue (all_beyond below u (upper_of a.spine))
-  may_advance o a number boundary u e known may =
+  pub may_advance : (o : PartialOrderLaws below) (a : ArrangementState T) (number : ℕ) (logical boundary l u : List T) → l ≡ logical → u ≡ boundary → IsArrangement below minimum a → MayMove below minimum a number logical boundary
+      → (number < length a.holds) × ((hold : HoldState T) → slice_get a.holds number ≡ Some hold → IsTrue (all_beyond below hold.logical l)) × Contains (boundaries a.spine) u
+      × ((hold : HoldState T) → slice_get a.holds number ≡ Some hold → IsTrue (all_beyond below hold.physical u)) × IsTrue (all_beyond below u (upper_of a.spine))
+  may_advance o a number logical boundary l u f e known may =
       let r = may.reading in
-      let held : slice_get a.holds number ≡ Some r.hold = ap (slice_get a.holds) (sym may.is) ∙ r.held in (
+      let held : slice_get a.holds number ≡ Some r.hold = ap (slice_get a.holds) (sym may.is) ∙ r.held in
+      let of_reader : (P : HoldState T → Type 0) → P r.hold → (hold : HoldState T) → slice_get a.holds number ≡ Some hold → P hold = λ P x hold at. subst P (same_Some r.hold hold (sym held ∙ at)) x in (
         slice_get_within a.holds number r.hold held,
+        of_reader (λ (z : HoldState T). IsTrue (all_beyond below z.logical l)) (subst (λ F. IsTrue (all_beyond below r.hold.logical F)) (sym f) may.onward),
         subst (Contains (boundaries a.spine)) (sym e) (reading_readable known r),
-        (λ hold at. subst (λ (z : HoldState T). IsTrue (all_beyond below z.physical u)) (same_Some r.hold hold (sym held ∙ at)) (subst (λ F. IsTrue (all_beyond below r.hold.physical F)) (sym e) r.behind)),
+        of_reader (λ (z : HoldState T). IsTrue (all_beyond below z.physical u)) (subst (λ F. IsTrue (all_beyond below r.hold.physical F)) (sym e) r.behind),
         subst (λ F. IsTrue (all_beyond below F (upper_of a.spine))) (sym e) (reading_behind o (minimum ∷ []) minimum a may.inserted may.later may.taken boundary refl r),
       )
 
-  -- the same times are kept apart by a hold that moves to another boundary
-  pub same_times : (a : ArrangementState T) (number : ℕ) (logical : List T) → ((hold : HoldState T) → slice_get a.holds number ≡ Some hold → logical ≡ hold.logical) → (o : PartialOrderLaws below)
-      → (hold : HoldState T) → slice_get a.holds number ≡ Some hold → IsTrue (all_beyond below hold.logical logical)
-  same_times a number logical is o hold at = subst (λ F. IsTrue (all_beyond below hold.logical F)) (sym (is hold at)) (beyond_itself o hold.logical)
-
-  module _ (a b : ArrangementState T) (number : ℕ) (logical u : List T)
-      (moved : b ≡ record a { spine = record a.spine { since = b.spine.since; holds = b.spine.holds }; holds = set a.holds number (record { logical = logical; physical = u }) }) where
-    pub has_moved : (boundary : List T) → u ≡ boundary → (hold : HoldState T) → slice_get a.holds number ≡ Some hold → logical ≡ hold.logical
-        → ((h : List (Insertion T)) → Stands below a.spine h → Stands below b.spine h) → ((h : List (Insertion T)) → IsOpen below a.spine h → IsOpen below b.spine h) → HasMoved below number boundary a b
-    has_moved boundary e hold was same stands whole = record {
+  module _ (a b : ArrangementState T) (number : ℕ) (l u : List T)
+      (moved : b ≡ record a { spine = record a.spine { since = b.spine.since; holds = b.spine.holds }; holds = set a.holds number (record { logical = l; physical = u }) }) where
+    pub has_moved : (logical boundary : List T) → l ≡ logical → u ≡ boundary → (hold : HoldState T) → slice_get a.holds number ≡ Some hold
+        → ((h : List (Insertion T)) → Stands below a.spine h → Stands below b.spine h) → ((h : List (Insertion T)) → IsOpen below a.spine h → IsOpen below b.spine h) → HasMoved below number logical boundary a b
+    has_moved logical boundary same e hold was stands whole = record {
       alike = record {
         width = ap (λ (z : ArrangementState T). z.width) moved;
         start = ap (λ (z : ArrangementState T). z.spine.list.start) moved;
@@ -69,17 +73,20 @@ module _ {T : Type 0} (below : T → T → Bool) (minimum : T) where
       holds = ap (λ (z : ArrangementState T). z.holds) moved ∙ (λ k. set a.holds number (record { logical = same k; physical = e k }));
     }
 
-  module _ (a b c : ArrangementState T) (logical : List T) (moved : b ≡ record a { spine = record a.spine { since = b.spine.since; holds = b.spine.holds }; holds = set a.holds 0 (record { logical = logical; physical = upper_of a.spine }) })
+  module _ (a b c : ArrangementState T) (level : List T) (moved : b ≡ record a { spine = record a.spine { since = b.spine.since; holds = b.spine.holds }; holds = set a.holds 0 (record { logical = level; physical = upper_of a.spine }) })
       (kept : c ≡ record b { spine = record b.spine { list = record b.spine.list { batches = c.spine.list.batches; reserved = c.spine.list.reserved }; progress = c.spine.progress } }) (upper : upper_of c.spine ≡ upper_of b.spine) (some : 0 < length a.holds) where
     abbrev own_hold : HoldState T
-    own_hold = record { logical = logical; physical = upper_of a.spine }
+    own_hold = record { logical = level; physical = upper_of a.spine }
 
-    now_held : slice_get c.holds 0 ≡ Some own_hold
-    now_held = ap (λ (z : ArrangementState T). slice_get z.holds 0) kept ∙ (ap (λ (z : ArrangementState T). slice_get z.holds 0) moved ∙ get_within a.holds 0 own_hold some)
+    pub own_settled : IsHeldFrom c 0 level (upper_of c.spine)
+    own_settled =
+        ap (λ (z : ArrangementState T). slice_get z.holds 0) kept
+        ∙ (ap (λ (z : ArrangementState T). slice_get z.holds 0) moved
+        ∙ (get_within a.holds 0 own_hold some ∙ (λ k. Some (record { logical = level; physical = sym (upper ∙ ap (λ (z : ArrangementState T). upper_of z.spine) moved) k }))))
 
-    pub is_settled : ((hold : HoldState T) → slice_get a.holds 0 ≡ Some hold → logical ≡ hold.logical) → ((h : List (Insertion T)) → Stands below a.spine h → Stands below b.spine h) → ((h : List (Insertion T)) → IsOpen below a.spine h → IsOpen below b.spine h)
-        → ((h : List (Insertion T)) → Stands below b.spine h → Stands below c.spine h) → ((h : List (Insertion T)) → IsOpen below b.spine h → IsOpen below c.spine h) → IsSettled below a c
-    is_settled same stands whole stands_then whole_then = record {
+    pub is_settled : ((h : List (Insertion T)) → Stands below a.spine h → Stands below b.spine h) → ((h : List (Insertion T)) → IsOpen below a.spine h → IsOpen below b.spine h)
+        → ((h : List (Insertion T)) → Stands below b.spine h → Stands below c.spine h) → ((h : List (Insertion T)) → IsOpen below b.spine h → IsOpen below c.spine h) → IsSettled below level a c
+    is_settled stands whole stands_then whole_then = record {
       alike = record {
         width = ap (λ (z : ArrangementState T). z.width) kept ∙ ap (λ (z : ArrangementState T). z.width) moved;
         start = ap (λ (z : ArrangementState T). z.spine.list.start) kept ∙ ap (λ (z : ArrangementState T). z.spine.list.start) moved;
@@ -89,26 +96,49 @@ module _ {T : Type 0} (below : T → T → Bool) (minimum : T) where
         whole = λ h x. whole_then h (whole h x);
       };
       readers = λ number l. ap (λ (z : ArrangementState T). slice_get z.holds number) kept ∙ (ap (λ (z : ArrangementState T). slice_get z.holds number) moved ∙ get_set a.holds 0 number own_hold (λ e. let z = e in omega (arith, l, z)));
-      own = λ hold at. (own_hold, now_held, same hold at);
+      own = inr own_settled;
     }
-
-    pub own_settled : HasOwnHold c
-    own_settled = record { hold = own_hold; held = now_held; begins = sym (upper ∙ ap (λ (z : ArrangementState T). upper_of z.spine) moved) }
 
 -- ---- a desk
 
-module _ {T : Type 0} (below : T → T → Bool) (joined : T → T → T) (minimum : T) (plan : List Node) (d : DeskView T) (n : ℕ) where
-  module _ (within : n < length plan) (source key : ℕ) (e : node_at plan n ≡ Arrange source key) (may : MayTidy below joined minimum plan d) where
-    -- there is an arrangement at an arrange node
-    pub there_to_settle : (a : ArrangementState T) × (slice_get d.arrangements n ≡ Some (Some a))
-    there_to_settle = by may
+module _ {T : Type 0} (below : T → T → Bool) (joined : T → T → T) (minimum : T) (o : PartialOrderLaws below) (plan : List Node) (fronts : List (List T)) (d : DeskView T) (n : ℕ) where
+  module _ (within : n < length plan) (source key : ℕ) (e : node_at plan n ≡ Arrange source key) (may : MayTidy below joined minimum plan fronts d) where
+    -- the own hold of an arrangement serves the reductions that read it
+    serves_now : (a : ArrangementState T) → slice_get d.arrangements n ≡ Some (Some a) → (hold : HoldState T) → slice_get a.holds 0 ≡ Some hold → ServesReductions fronts d.reductions n below plan hold.logical
+    serves_now a own hold at m kind l reads =
+        let x = may.someones in
+        let p = x.dataflow in
+        let w = state_after below minimum p x.events in
+        let l_in : m < length p.nodes = subst (λ nodes. m < length nodes) (sym x.nodes) l in
+        let node : node_of p m ≡ Reduce kind n = ap (λ nodes. node_at nodes m) x.nodes ∙ reads in
+        let lies = x.right.own.laid.reducing m n kind l_in node in
+        let is : Reduces p d m n lies.reduction = record { within = l_in; kind = kind; node = node; there = lies.there } in
+        let pends = x.right.own.holding.pending m n lies.reduction is in
+        let comes = x.right.own.holding.come m n lies.reduction is in
+        let was = x.right.own.keeps.ports m 0 in
+        let now = port_frontier below p w m 0 in (
+          subst (λ (place : Option (Option (ReducingView T))). IsTrue (all_beyond below hold.logical (due_in place))) (sym lies.there) (mine a own hold at (pending_of lies.reduction) pends),
+          all_beyond_later o hold.logical was (front_of_port fronts m 0) (mine a own hold at was comes)
+          (all_beyond_later o was now (front_of_port fronts m 0) (beyond_reached below o was now (x.right.own.keeping.ports m 0)) (told_after below o p w fronts may.told m 0 l_in (omega arith))),
+        )
       where
-        by : MayTidy below joined minimum plan d → (a : ArrangementState T) × (slice_get d.arrangements n ≡ Some (Some a))
-        by (h, f, x) = let lies = x.right.own.laid.arranged n source key (subst (λ nodes. n < length nodes) (sym x.nodes) within) (ap (λ nodes. node_at nodes n) x.nodes ∙ e) in (lies.arrangement, lies.there)
+        -- there is but one hold of a number
+        mine : (a : ArrangementState T) → slice_get d.arrangements n ≡ Some (Some a) → (hold : HoldState T) → slice_get a.holds 0 ≡ Some hold → (ts : List T) → KeepsApart below d n 0 ts → IsTrue (all_beyond below hold.logical ts)
+        mine a own hold at ts h =
+            let same : h.arrangement ≡ a = one_entry d.arrangements n h.arrangement a h.there own in
+            let is : h.hold ≡ hold = same_Some h.hold hold (sym h.held ∙ (ap (λ (z : ArrangementState T). slice_get z.holds 0) same ∙ at)) in
+            subst (λ (z : HoldState T). IsTrue (all_beyond below z.logical ts)) is h.apart
+
+    -- there is an arrangement at an arrange node, and its own hold may move to the level
+    pub there_to_settle : (level : List T) → IsLevel fronts d.reductions n below plan level → (a : ArrangementState T) × (slice_get d.arrangements n ≡ Some (Some a)) × MayRise below a level
+    there_to_settle level is =
+        let x = may.someones in
+        let lies = x.right.own.laid.arranged n source key (subst (λ nodes. n < length nodes) (sym x.nodes) within) (ap (λ nodes. node_at nodes n) x.nodes ∙ e) in
+        (lies.arrangement, lies.there, λ hold at. is.latest hold.logical (serves_now lies.arrangement lies.there hold at))
 
     -- all that was inserted is too large only if a bound is
-    pub merge_large : (o : PartialOrderLaws below) (cmp : T → T → Ordering) (a : ArrangementState T) → slice_get d.arrangements n ≡ Some (Some a) → ((h : List (Insertion T)) → Stands below a.spine h → 2 ^ 63 ≤ size (all_updates h)) → IsTooLargeOn below joined minimum plan cmp d
-    merge_large o cmp a own large h f p q nodes es legal k x =
+    pub merge_large : (cmp : T → T → Ordering) (a : ArrangementState T) → slice_get d.arrangements n ≡ Some (Some a) → ((h : List (Insertion T)) → Stands below a.spine h → 2 ^ 63 ≤ size (all_updates h)) → IsTooLargeOn below joined minimum plan fronts cmp d
+    merge_large cmp a own large p q nodes es legal k told x =
         let inside : n < length p.nodes = subst (λ ns. n < length ns) (sym nodes) within in
         let at : node_of p n ≡ Arrange source key = ap (λ ns. node_at ns n) nodes ∙ e in
         let lies = x.own.laid.arranged n source key inside at in
@@ -120,64 +150,79 @@ module _ {T : Type 0} (below : T → T → Bool) (joined : T → T → T) (minim
         subst (λ ns. HasNoSmallBound below cmp ns (changes_in (state_after below minimum p es))) nodes
         (large_load below minimum o cmp p q es legal n k inside x.own.worker arranging.gathering.kind (omega (arith, much, load, given)))
 
-  module _ (c : DeskView T) (a b : ArrangementState T) (own : slice_get d.arrangements n ≡ Some (Some a)) (is : c ≡ with_arrangement n b d) (settled : IsSettled below a b) where
+  module _ (c : DeskView T) (level : List T) (at_level : IsLevel fronts d.reductions n below plan level) (a b : ArrangementState T) (own : slice_get d.arrangements n ≡ Some (Some a)) (is : c ≡ with_arrangement n b d) (settled : IsSettled below level a b) where
     b_there : slice_get (with_arrangement n b d).arrangements n ≡ Some (Some b)
     b_there = get_own d.arrangements n (Some b) (Some a) own
 
-    pub leads_settled : LeadsOn below joined minimum plan d c
-    leads_settled =
-        subst (LeadsOn below joined minimum plan d) (sym is)
-        (leads_with below joined minimum d n a b own settled.alike plan (λ p nodes. holding_with below p d n a b own settled.readers settled.own))
+    -- at the level the hold serves what is pending at a reduction, and what may come to it
+    serves_level : (p : Dataflow) (w : State T) → p.nodes ≡ plan → AreTold below p w fronts → (m : ℕ) (r : ReducingView T) → Reduces p d m n r → IsTrue (all_beyond below level (pending_of r)) × IsTrue (all_beyond below level (port_frontier below p w m 0))
+    serves_level p w nodes told m r reads =
+        let both = at_level.serves m reads.kind (subst (λ ns. m < length ns) nodes reads.within) (sym (ap (λ ns. node_at ns m) nodes) ∙ reads.node) in (
+          subst (λ (place : Option (Option (ReducingView T))). IsTrue (all_beyond below level (due_in place))) reads.there both.0,
+          all_beyond_later o level (front_of_port fronts m 0) (port_frontier below p w m 0) both.1 (told_before below o p w fronts told m 0 reads.within (omega arith)),
+        )
 
-    pub here_settled : HasOwnHold b → IsDone below b.spine → IsSettledAt plan c below n
+    stays : (p : Dataflow) (w : State T) → p.nodes ≡ plan → AreTold below p w fronts → AreHolding below p d (port_frontier below p w) → AreHolding below p (with_arrangement n b d) (port_frontier below p w)
+    stays p w nodes told =
+        holding_at below p d n a b own (port_frontier below p w) settled.readers (λ m r reads hold at. ⊎_elim
+            (λ same. (hold, same ∙ at, (λ apart. apart), (λ apart. apart)))
+            (λ risen. let both = serves_level p w nodes told m r reads in (record { logical = level; physical = upper_of b.spine }, risen, (λ apart. both.0), (λ apart. both.1))) settled.own)
+
+    pub leads_settled : LeadsOn below joined minimum plan fronts d c
+    leads_settled = subst (LeadsOn below joined minimum plan fronts d) (sym is) (leads_with below joined minimum d n a b own settled.alike o plan fronts stays)
+
+    pub here_settled : IsHeldFrom b 0 level (upper_of b.spine) → IsDone below b.spine → IsSettledAt plan fronts c below n
     here_settled hold done source key within e x there =
         let same : x ≡ b = one_entry c.arrangements n x b there (ap (λ (z : DeskView T). slice_get z.arrangements n) is ∙ b_there) in (
-          subst (HasOwnHold) (sym same) hold,
+          (
+            level,
+            subst (λ (z : ArrangementState T). IsHeldFrom z 0 level (upper_of z.spine)) (sym same) hold,
+            subst (λ (z : DeskView T). IsLevel fronts z.reductions n below plan level) (sym is) at_level,
+          ),
           subst (λ (z : ArrangementState T). IsDone below z.spine) (sym same) done,
         )
 
-    pub others_settled : (m : ℕ) → m ≢ n → IsSettledAt plan d below m → IsSettledAt plan c below m
+    pub others_settled : (m : ℕ) → m ≢ n → IsSettledAt plan fronts d below m → IsSettledAt plan fronts c below m
     others_settled m far x source key within e y there =
-        x source key within e y (sym (ap (λ (z : DeskView T). slice_get z.arrangements m) is ∙ get_set d.arrangements n m (Some b) far) ∙ there)
+        let before = x source key within e y (sym (ap (λ (z : DeskView T). slice_get z.arrangements m) is ∙ get_set d.arrangements n m (Some b) far) ∙ there) in (
+          (before.0.0, before.0.1, subst (λ (z : DeskView T). IsLevel fronts z.reductions m below plan before.0.0) (sym is) before.0.2),
+          before.1,
+        )
 
     -- readers have their holds as before
-    pub followed_settled : MayTidy below joined minimum plan d → ((m : ℕ) → IsFollowed plan d m) → (m : ℕ) → IsFollowed plan c m
-    followed_settled (h, f, x) followed = subst (λ (z : DeskView T). (m : ℕ) → IsFollowed plan z m) (sym is) on
+    pub followed_settled : MayTidy below joined minimum plan fronts d → ((m : ℕ) → IsFollowed plan fronts d m) → (m : ℕ) → IsFollowed plan fronts c m
+    followed_settled may followed = subst (λ (z : DeskView T). (m : ℕ) → IsFollowed plan fronts z m) (sym is) on
       where
-        on : (m : ℕ) → IsFollowed plan (with_arrangement n b d) m
+        on : (m : ℕ) → IsFollowed plan fronts (with_arrangement n b d) m
         on m port source j r y there = by (eqb source n) refl
           where
             r_d : ReadsAt (on_plan plan) d m port source j
             r_d = reads_back (on_plan plan) d n b m port source j r
 
             other : 0 < hold_at port j
-            other = (x.right.own.holding.joins.held m port source j (reads_in x.dataflow plan d m port source j x.nodes r_d)).other
+            other = let x = may.someones in (x.right.own.holding.joins.held m port source j (reads_in x.dataflow plan d m port source j x.nodes r_d)).other
 
-            by : (g : Bool) → eqb source n ≡ g → IsHeldFrom y (hold_at port j) (boundary_at port j)
+            by : (g : Bool) → eqb source n ≡ g → IsHeldFrom y (hold_at port j) (front_of_port fronts m (other_port port)) (boundary_at port j)
             by true g =
                 let here = eqb-true source n g in
                 let same : y ≡ b = one_entry (with_arrangement n b d).arrangements n y b (ap (slice_get (with_arrangement n b d).arrangements) (sym here) ∙ there) b_there in
                 let before = followed m port source j r_d a (ap (slice_get d.arrangements) here ∙ own) in
-                record {
-                  hold = before.hold;
-                  held = ap (λ (z : ArrangementState T). slice_get z.holds (hold_at port j)) same ∙ (settled.readers (hold_at port j) other ∙ before.held);
-                  begins = before.begins;
-                }
+                ap (λ (z : ArrangementState T). slice_get z.holds (hold_at port j)) same ∙ (settled.readers (hold_at port j) other ∙ before)
             by false g = followed m port source j r_d y (sym (get_set d.arrangements n source (Some b) (eqb-false source n g)) ∙ there)
 
-    pub settled_by : {E : Type 0} (res : Result Bool E) → OnOk res (HasOwnHold b) → IfOk res (λ done. done ≡ true → IsDone below b.spine) → IfOk res (λ done. done ≡ true → IsSettledAt plan c below n)
+    pub settled_by : {E : Type 0} (res : Result Bool E) → OnOk res (IsHeldFrom b 0 level (upper_of b.spine)) → IfOk res (λ done. done ≡ true → IsDone below b.spine) → IfOk res (λ done. done ≡ true → IsSettledAt plan fronts c below n)
     settled_by (Ok done) hold merged = λ e. here_settled hold (merged e)
     settled_by (Err e) hold merged = tt
 
-module _ {T : Type 0} (below : T → T → Bool) (minimum : T) (plan : List Node) (d c : DeskView T) (n node : ℕ) (same : node ≡ n) where
+module _ {T : Type 0} (below : T → T → Bool) (minimum : T) (plan : List Node) (fronts : List (List T)) (d c : DeskView T) (n node : ℕ) (same : node ≡ n) where
   -- one arrangement more
-  pub settled_more : ((m : ℕ) → m < n → IsSettledAt plan d below m) → ((m : ℕ) → m ≢ node → IsSettledAt plan d below m → IsSettledAt plan c below m) → IsSettledAt plan c below node → (m : ℕ) → m < n + 1 → IsSettledAt plan c below m
+  pub settled_more : ((m : ℕ) → m < n → IsSettledAt plan fronts d below m) → ((m : ℕ) → m ≢ node → IsSettledAt plan fronts d below m → IsSettledAt plan fronts c below m) → IsSettledAt plan fronts c below node → (m : ℕ) → m < n + 1 → IsSettledAt plan fronts c below m
   settled_more before others here m l = by (eqb m n) refl
     where
-      by : (b : Bool) → eqb m n ≡ b → IsSettledAt plan c below m
-      by true e = subst (IsSettledAt plan c below) (same ∙ sym (eqb-true m n e)) here
+      by : (b : Bool) → eqb m n ≡ b → IsSettledAt plan fronts c below m
+      by true e = subst (IsSettledAt plan fronts c below) (same ∙ sym (eqb-true m n e)) here
       by false e = others m (λ f. eqb-false m n e (f ∙ same)) (before m (let far = eqb-false m n e in omega (arith, l, far)))
 
 -- all arrangements are those of the plan
-pub settled_all : {T : Type 0} (below : T → T → Bool) (minimum : T) (plan : List Node) (c : DeskView T) (n : ℕ) → length plan ≤ n → ((m : ℕ) → m < n → IsSettledAt plan c below m) → (m : ℕ) → IsSettledAt plan c below m
-settled_all below minimum plan c n end all m source key within e a there = all m (omega (arith, end, within)) source key within e a there
+pub settled_all : {T : Type 0} (below : T → T → Bool) (minimum : T) (plan : List Node) (fronts : List (List T)) (c : DeskView T) (n : ℕ) → length plan ≤ n → ((m : ℕ) → m < n → IsSettledAt plan fronts c below m) → (m : ℕ) → IsSettledAt plan fronts c below m
+settled_all below minimum plan fronts c n end all m source key within e a there = all m (omega (arith, end, within)) source key within e a there

@@ -10,21 +10,19 @@ use Rattle.plan.specs.declared.node.Node.{Node}
 use Rattle.trace.specs.Holds.{HoldState}
 use Rattle.trace.specs.Readings.{Insertion, reached}
 use Rattle.histories.specs.Histories.{state_after}
-use Rattle.histories.specs.Histories.Dataflows.{Dataflow, node_of}
+use Rattle.histories.specs.Histories.Dataflows.{Dataflow}
+use Rattle.histories.specs.Histories.Outstanding.{port_frontier}
 use Rattle.histories.specs.Histories.States.{State}
 use Rattle.operator.specs.Arrangements.{AreInTurn, ArrangementState, upper_of}
 use Rattle.operator.specs.Joins.{JoiningView}
 use Rattle.operator.specs.Reductions.{ReducingView, pending_of}
 use Rattle.operator.proofs.TurnLemmas.{firsts}
 use Rattle.operator_laws.specs.Joining.{on_top}
-use Rattle.desk_laws.specs.Own.{AreHolding, AreSharing, DeskView, HasHold, IsHandOn, IsMergedAt, IsSpineAt, KeepsApart, ReadsAt, Reduces, StayHolding, boundary_at, hold_at, other_port, waiting_in}
-use Rattle.desk_laws.specs.declared.hand.Hand.{Hand}
-use Rattle.desk_laws.specs.declared.hand.Hand.TheVariants.{Ready, Sealed}
-use Rattle.desk_laws.proofs.MergedLemmas.{merged_lem, still_waits}
-use Rattle.desk.specs.Desks.{IsRight}
+use Rattle.desk_laws.specs.Own.{AreHolding, AreSharing, DeskView, HasHold, IsMergedAt, IsSpineAt, KeepsApart, ReadsAt, Reduces, boundary_at, hold_at, other_port, waiting_in}
+use Rattle.desk_laws.proofs.MergedLemmas.{tidied_lem}
 use Rattle.desk.specs.Joinings.{IsReading}
 use Rattle.desk.specs.Openings.{on_plan}
-use Rattle.desk.specs.Tidying.{HasMoved, IsAlike, IsFollowedAt, IsHeldFrom, LeadsOn, is_sealed}
+use Rattle.desk.specs.Tidying.{AreTold, HasMoved, IsAlike, IsFollowedAt, IsHeldFrom, LeadsOn, front_of_port}
 use Rattle.desk.proofs.DeskLemmas.{with_arrangement}
 use Rattle.desk.proofs.PlaceLemmas.{get_own, get_set, one_entry}
 
@@ -92,21 +90,15 @@ module _ {T : Type 0} (below : T → T → Bool) (joined : T → T → T) (minim
               arranged = λ start inserted y. record { arrangement = y.arrangement; there = same ∙ y.there; spine = y.spine; begins = y.begins };
             }
 
-    -- no batch in hand says how far the spine has come
-    hand_on : (h : Hand T) → is_sealed h ≡ false → IsHandOn below joined minimum p d h → IsHandOn below joined minimum p c h
-    hand_on (Sealed node batch) e on = absurd (true≢false e)
-    hand_on (Ready node updates) e on = λ plain. still_waits below joined minimum p d c merged_at node (node_of p node) ∙ on plain
-    hand_on other e on = tt
-
-    pub right_on : StayHolding below p d c → (w : State T) (k : ℕ) (h : Hand T) → is_sealed h ≡ false → IsRight below joined minimum p w k d h → IsRight below joined minimum p w k c h
-    right_on stay w k h e x = record {
-      own = merged_lem below joined minimum p d c merged_at w k stay h (hand_on h e x.own.on) x.own;
-      on_plan = record { places = x.on_plan.places; wide = x.on_plan.wide; joins = x.on_plan.joins; hand = x.on_plan.hand };
-    }
-
-  -- the other desk is right for each worker that had the one, if the readers still have their holds
-  pub leads_with : (plan : List Node) → ((p : Dataflow) → p.nodes ≡ plan → StayHolding below p d c) → LeadsOn below joined minimum plan d c
-  leads_with plan stay h e p q nodes es legal k x = right_on p (stay p nodes) (state_after below minimum p es) k h e x
+  -- the other desk is right for each worker that had the one and nothing in hand, if the readers have
+  -- their holds for what may still come
+  pub leads_with : PartialOrderLaws below → (plan : List Node) (fronts : List (List T))
+      → ((p : Dataflow) (w : State T) → p.nodes ≡ plan → AreTold below p w fronts → AreHolding below p d (port_frontier below p w) → AreHolding below p c (port_frontier below p w))
+      → LeadsOn below joined minimum plan fronts d c
+  leads_with o plan fronts stay p q nodes es legal k told x = record {
+    own = tidied_lem below joined minimum p d c (merged_at p) o (state_after below minimum p es) k (stay p (state_after below minimum p es) nodes told) x.own;
+    on_plan = record { places = x.on_plan.places; wide = x.on_plan.wide; joins = x.on_plan.joins; hand = x.on_plan.hand };
+  }
 
 -- ---- a hold that moves
 
@@ -125,7 +117,7 @@ reads_out p plan d n port source j e r =
     subst (λ nodes. ReadsAt (on_plan nodes) d n port source j) e (record { within = r.within; join = r.join; reads = r.reads; there = r.there })
 
 module _ {T : Type 0} (below : T → T → Bool) (o : PartialOrderLaws below) (p : Dataflow) (d : DeskView T) (n port s : ℕ) (j : JoiningView T) (reads : ReadsAt p d n port s j) (ports : ℕ → ℕ → List T) (holding : AreHolding below p d ports) (a b : ArrangementState T) (own : slice_get d.arrangements s ≡ Some (Some a))
-    (moved : HasMoved below (hold_at port j) (boundary_at port j) a b) where
+    (fronts : List (List T)) (moved : HasMoved below (hold_at port j) (front_of_port fronts n (other_port port)) (boundary_at port j) a b) where
   abbrev to : DeskView T
   to = with_arrangement s b d
 
@@ -133,7 +125,7 @@ module _ {T : Type 0} (below : T → T → Bool) (o : PartialOrderLaws below) (p
   sharing = holding.joins
 
   abbrev new_hold : HoldState T
-  new_hold = record moved.hold { physical = boundary_at port j }
+  new_hold = record { logical = front_of_port fronts n (other_port port); physical = boundary_at port j }
 
   b_there : slice_get to.arrangements s ≡ Some (Some b)
   b_there = get_own d.arrangements s (Some b) (Some a) own
@@ -147,32 +139,32 @@ module _ {T : Type 0} (below : T → T → Bool) (o : PartialOrderLaws below) (p
   other_hold number far = ap (λ hs. slice_get hs number) moved.holds ∙ get_set a.holds (hold_at port j) number new_hold far
 
   -- a hold of that number at this arrangement is of this port of this join
-  alone : (m at : ℕ) (i : JoiningView T) → ReadsAt p d m at s i → hold_at at i ≡ hold_at port j → boundary_at at i ≡ boundary_at port j
+  alone : (m at : ℕ) (i : JoiningView T) → ReadsAt p d m at s i → hold_at at i ≡ hold_at port j → (m ≡ n) × (at ≡ port) × (i ≡ j)
   alone m at i r e =
       let same = sharing.apart m at n port s i j r reads e in
-      let is : i ≡ j = one_entry d.joins n i j (ap (slice_get d.joins) (sym same.0) ∙ r.there) reads.there in
-      λ k. boundary_at (same.1 k) (is k)
+      (same.0, same.1, one_entry d.joins n i j (ap (slice_get d.joins) (sym same.0) ∙ r.there) reads.there)
 
-  step : (m at source : ℕ) (i : JoiningView T) (ts : List T) → ReadsAt p d m at source i → HasHold below d source (hold_at at i) (boundary_at at i) ts → (e : Bool) → eqb source s ≡ e → HasHold below to source (hold_at at i) (boundary_at at i) ts
-  step m at source i ts r h true e =
+  step : IsTrue (all_beyond below (front_of_port fronts n (other_port port)) (ports n (other_port port))) → (m at source : ℕ) (i : JoiningView T) → ReadsAt p d m at source i → HasHold below d source (hold_at at i) (boundary_at at i) (ports m (other_port at)) → (e : Bool) → eqb source s ≡ e
+      → HasHold below to source (hold_at at i) (boundary_at at i) (ports m (other_port at))
+  step later m at source i r h true e =
       let here = eqb-true source s e in
       let r_here = subst (λ z. ReadsAt p d m at z i) here r in
       let is : h.arrangement ≡ a = one_entry d.arrangements s h.arrangement a (ap (slice_get d.arrangements) (sym here) ∙ h.there) own in
       let there : slice_get to.arrangements source ≡ Some (Some b) = ap (slice_get to.arrangements) here ∙ b_there in
       by there is r_here (eqb (hold_at at i) (hold_at port j)) refl
     where
-      by : slice_get to.arrangements source ≡ Some (Some b) → h.arrangement ≡ a → ReadsAt p d m at s i → (f : Bool) → eqb (hold_at at i) (hold_at port j) ≡ f → HasHold below to source (hold_at at i) (boundary_at at i) ts
+      by : slice_get to.arrangements source ≡ Some (Some b) → h.arrangement ≡ a → ReadsAt p d m at s i → (f : Bool) → eqb (hold_at at i) (hold_at port j) ≡ f → HasHold below to source (hold_at at i) (boundary_at at i) (ports m (other_port at))
       by there is r_here true f =
           let same = eqb-true (hold_at at i) (hold_at port j) f in
-          let was : h.hold ≡ moved.hold = same_Some h.hold moved.hold (sym h.held ∙ (ap (λ (z : ArrangementState T). slice_get z.holds (hold_at at i)) is ∙ (ap (slice_get a.holds) same ∙ moved.was))) in
+          let who = alone m at i r_here same in
           record {
             arrangement = b;
             there = there;
             other = h.other;
             hold = new_hold;
             held = ap (slice_get b.holds) same ∙ moved_hold;
-            apart = subst (λ (z : HoldState T). IsTrue (all_beyond below z.logical ts)) was h.apart;
-            behind = subst (λ F. IsTrue (all_beyond below (boundary_at port j) F)) (sym (alone m at i r_here same)) (beyond_itself o (boundary_at port j));
+            apart = subst (λ (z : ℕ × ℕ). IsTrue (all_beyond below (front_of_port fronts n (other_port port)) (ports z.0 (other_port z.1)))) (λ k. (sym who.0 k, sym who.1 k)) later;
+            behind = subst (λ F. IsTrue (all_beyond below (boundary_at port j) F)) (λ k. boundary_at (sym who.1 k) (sym who.2 k)) (beyond_itself o (boundary_at port j));
           }
       by there is r_here false f = record {
         arrangement = b;
@@ -183,7 +175,7 @@ module _ {T : Type 0} (below : T → T → Bool) (o : PartialOrderLaws below) (p
         apart = h.apart;
         behind = h.behind;
       }
-  step m at source i ts r h false e = record {
+  step later m at source i r h false e = record {
     arrangement = h.arrangement;
     there = get_set d.arrangements s source (Some b) (eqb-false source s e) ∙ h.there;
     other = h.other;
@@ -214,10 +206,11 @@ module _ {T : Type 0} (below : T → T → Bool) (o : PartialOrderLaws below) (p
     apart = h.apart;
   }
 
-  pub holding_moved : AreHolding below p to ports
-  holding_moved = record {
+  -- all readers have their holds, if the one that moved is for what may come at the join's other port
+  pub holding_moved : IsTrue (all_beyond below (front_of_port fronts n (other_port port)) (ports n (other_port port))) → AreHolding below p to ports
+  holding_moved later = record {
     joins = record {
-      held = λ m at source i r. let y = reads_back p d s b m at source i r in step m at source i (ports m (other_port at)) y (sharing.held m at source i y) (eqb source s) refl;
+      held = λ m at source i r. let y = reads_back p d s b m at source i r in step later m at source i y (sharing.held m at source i y) (eqb source s) refl;
       apart = λ m at m2 at2 source i k r t. sharing.apart m at m2 at2 source i k (reads_back p d s b m at source i r) (reads_back p d s b m2 at2 source k t);
     };
     pending = λ m source r is. serves source (pending_of r) (holding.pending m source r (reduces m source r is)) (eqb source s) refl;
@@ -228,45 +221,40 @@ module _ {T : Type 0} (below : T → T → Bool) (o : PartialOrderLaws below) (p
       reduces m source r is = record { within = is.within; kind = is.kind; node = is.node; there = is.there }
 
   -- a port that was followed still is
-  pub stays_followed : (plan : List Node) → p.nodes ≡ plan → (m at : ℕ) → IsFollowedAt plan d m at → IsFollowedAt plan to m at
+  pub stays_followed : (plan : List Node) → p.nodes ≡ plan → (m at : ℕ) → IsFollowedAt plan fronts d m at → IsFollowedAt plan fronts to m at
   stays_followed plan nodes m at followed source i r e there = by (eqb source s) refl
     where
       r_d : ReadsAt (on_plan plan) d m at source i
       r_d = reads_back (on_plan plan) d s b m at source i r
 
-      by : (f : Bool) → eqb source s ≡ f → IsHeldFrom e (hold_at at i) (boundary_at at i)
+      by : (f : Bool) → eqb source s ≡ f → IsHeldFrom e (hold_at at i) (front_of_port fronts m (other_port at)) (boundary_at at i)
       by true f =
           let here = eqb-true source s f in
           let is : e ≡ b = one_entry to.arrangements s e b (ap (slice_get to.arrangements) (sym here) ∙ there) b_there in
           let before = followed source i r_d a (ap (slice_get d.arrangements) here ∙ own) in
           on here is before (eqb (hold_at at i) (hold_at port j)) refl
         where
-          on : source ≡ s → e ≡ b → IsHeldFrom a (hold_at at i) (boundary_at at i) → (g : Bool) → eqb (hold_at at i) (hold_at port j) ≡ g
-              → IsHeldFrom e (hold_at at i) (boundary_at at i)
+          on : source ≡ s → e ≡ b → IsHeldFrom a (hold_at at i) (front_of_port fronts m (other_port at)) (boundary_at at i) → (g : Bool) → eqb (hold_at at i) (hold_at port j) ≡ g
+              → IsHeldFrom e (hold_at at i) (front_of_port fronts m (other_port at)) (boundary_at at i)
           on here is before true g =
               let same = eqb-true (hold_at at i) (hold_at port j) g in
               let r_here : ReadsAt p d m at s i = subst (λ z. ReadsAt p d m at z i) here (reads_in p plan d m at source i nodes r_d) in
-              record {
-                hold = new_hold;
-                held = ap (λ (z : ArrangementState T). slice_get z.holds (hold_at at i)) is ∙ (ap (slice_get b.holds) same ∙ moved_hold);
-                begins = sym (alone m at i r_here same);
-              }
-          on here is before false g = record {
-            hold = before.hold;
-            held = ap (λ (z : ArrangementState T). slice_get z.holds (hold_at at i)) is ∙ (other_hold (hold_at at i) (eqb-false (hold_at at i) (hold_at port j) g) ∙ before.held);
-            begins = before.begins;
-          }
+              let who = alone m at i r_here same in
+              ap (λ (z : ArrangementState T). slice_get z.holds (hold_at at i)) is
+              ∙ (ap (slice_get b.holds) same ∙ (moved_hold ∙ (λ k. Some (record { logical = front_of_port fronts (sym who.0 k) (other_port (sym who.1 k)); physical = boundary_at (sym who.1 k) (sym who.2 k) }))))
+          on here is before false g =
+              ap (λ (z : ArrangementState T). slice_get z.holds (hold_at at i)) is ∙ (other_hold (hold_at at i) (eqb-false (hold_at at i) (hold_at port j) g) ∙ before)
       by false f = followed source i r_d e (sym (get_set d.arrangements s source (Some b) (eqb-false source s f)) ∙ there)
 
   -- and this one is from now on
-  pub now_followed : (plan : List Node) → p.nodes ≡ plan → IsFollowedAt plan to n port
+  pub now_followed : (plan : List Node) → p.nodes ≡ plan → IsFollowedAt plan fronts to n port
   now_followed plan nodes source i r e there =
       let y = reads_in p plan d n port source i nodes (reads_back (on_plan plan) d s b n port source i r) in
       let is : i ≡ j = one_entry d.joins n i j y.there reads.there in
       let here : source ≡ s = same_some source s (sym y.reads ∙ reads.reads) in
       let mine_now : e ≡ b = one_entry to.arrangements s e b (ap (slice_get to.arrangements) (sym here) ∙ there) b_there in
-      subst (λ z. IsHeldFrom e (hold_at port z) (boundary_at port z)) (sym is)
-      (record { hold = new_hold; held = ap (λ (z : ArrangementState T). slice_get z.holds (hold_at port j)) mine_now ∙ moved_hold; begins = refl })
+      subst (λ (z : JoiningView T). IsHeldFrom e (hold_at port z) (front_of_port fronts n (other_port port)) (boundary_at port z)) (sym is)
+      (ap (λ (z : ArrangementState T). slice_get z.holds (hold_at port j)) mine_now ∙ moved_hold)
     where
       same_some : (x y : ℕ) → Some x ≡ Some y → x ≡ y
       same_some x y e = cc

@@ -1,27 +1,31 @@
 -- What is left when a desk was tidied: where the holds are, and what was merged.
 use Rattle.trace.specs.Holds.{HoldState}
-use Rattle.std.specs.Prelude.{◌≡◌, ℕ, ◌<◌, Bool, true, false, List, Some, length, set, slice_get, Option, ◌^◌, ◌-◌, min}
+use Rattle.std.specs.Prelude.{◌≡◌, ℕ, zero, suc, ◌<◌, Bool, true, eqb, if◌then◌else◌, List, [], ◌++◌, Some, None, length, set, slice_get, Option, ◌+◌, ◌^◌, ◌-◌, ◌⊎◌, min, IsTrue}
 use Rattle.std.specs.declared.cmp.Ordering.{Ordering}
+use Rattle.lattice.specs.Frontiers.{all_beyond, is_beyond}
 use Rattle.plan.specs.Nodes.{node_at}
+use Rattle.plan.specs.declared.node.Kind.{Kind}
 use Rattle.plan.specs.declared.node.Node.{Node}
-use Rattle.plan.specs.declared.node.Node.TheVariants.{Arrange}
+use Rattle.plan.specs.declared.node.Node.TheVariants.{Arrange, Reduce}
 use Rattle.trace.specs.Readings.{Insertion}
 use Rattle.spine.specs.Spines.{IsDone, Stands, stored}
+use Rattle.histories.specs.declared.event.Event.{Event}
+use Rattle.histories.specs.Histories.{IsLegal, state_after}
+use Rattle.histories.specs.Histories.Dataflows.{Dataflow, IsDataflow}
+use Rattle.histories.specs.Histories.Outstanding.{port_frontier}
+use Rattle.histories.specs.Histories.Promises.{changes_in}
+use Rattle.histories.specs.Histories.States.{State}
 use Rattle.operator.specs.Arrangements.{ArrangementState, IsOpen, upper_of}
 use Rattle.operator.specs.Joins.{JoiningView}
-use Rattle.desk_laws.specs.Own.{DeskView, ReadsAt, boundary_at, hold_at}
-use Rattle.desk_laws.specs.declared.hand.Hand.{Hand}
-use Rattle.desk_laws.specs.declared.hand.Hand.TheVariants.{Sealed}
-use Rattle.desk.specs.Desks.{IsSomeones, IsTooLarge, Leads}
+use Rattle.operator.specs.Reductions.{ReducingView}
+use Rattle.shared_board.specs.Large.{HasNoSmallBound}
+use Rattle.desk_laws.specs.Own.{DeskView, ReadsAt, boundary_at, due_in, hold_at, other_port}
+use Rattle.desk_laws.specs.declared.hand.Hand.TheVariants.{Free}
+use Rattle.desk.specs.Desks.{IsRight, IsSomeones}
 use Rattle.desk.specs.Joinings.{IsReading}
 use Rattle.desk.specs.Openings.{on_plan}
 
 module _ {T : Type 0} where
-  -- a batch is in hand
-  abbrev pub is_sealed : Hand T → Bool
-  is_sealed (Sealed node batch) = true
-  is_sealed other = false
-
   -- how many updates the arrangement of an arrange node shows its readers, as far as 64 bits can say
   -- that; none at another node
   abbrev pub kept_in : Option (Option (ArrangementState T)) → ℕ
@@ -32,17 +36,26 @@ module _ {T : Type 0} where
   kept_of (Arrange source key) place = kept_in place
   kept_of other place = 0
 
+  -- ---- the frontiers of ports
+
+  -- the frontier of a port, of a list with two for each node
+  pub front_in : Option (List T) → List T
+  front_in (Some front) = front
+  front_in None = []
+
+  abbrev pub front_of_port : List (List T) → ℕ → ℕ → List T
+  front_of_port fronts n port = front_in (slice_get fronts (n + (n + port)))
+
+  -- the list tells the input frontiers of the ports of all nodes: the same times are beyond
+  abbrev pub AreTold : (T → T → Bool) → Dataflow → State T → List (List T) → Type 0
+  AreTold below p w fronts = (n port : ℕ) → n < length p.nodes → port < 2 → (t : T)
+      → is_beyond below (front_of_port fronts n port) t ≡ is_beyond below (port_frontier below p w n port) t
+
   -- ---- one arrangement
 
-  -- the hold of this number asks for the boundaries from this one on
-  pub record IsHeldFrom (a : ArrangementState T) (number : ℕ) (boundary : List T) : Type 0 where
-    pub hold : HoldState T
-    pub held : slice_get a.holds number ≡ Some hold
-    pub begins : hold.physical ≡ boundary
-
-  -- the arrangement has no boundary for itself but where its spine has come
-  abbrev pub HasOwnHold : ArrangementState T → Type 0
-  HasOwnHold a = IsHeldFrom a 0 (upper_of a.spine)
+  -- the hold of this number is for these times, and asks for the boundaries from this one on
+  abbrev pub IsHeldFrom : ArrangementState T → ℕ → List T → List T → Type 0
+  IsHeldFrom a number logical boundary = slice_get a.holds number ≡ Some (record { logical = logical; physical = boundary })
 
   module _ (below : T → T → Bool) where
     -- the arrangement has the same, whatever was merged and wherever its holds are
@@ -54,61 +67,106 @@ module _ {T : Type 0} where
       pub stands : (h : List (Insertion T)) → Stands below a.spine h → Stands below b.spine h
       pub whole : (h : List (Insertion T)) → IsOpen below a.spine h → IsOpen below b.spine h
 
-    -- the hold of this number is at the boundary, and nothing else has changed
-    pub record HasMoved (number : ℕ) (boundary : List T) (a b : ArrangementState T) : Type 0 where
+    -- the hold of this number is for these times and at this boundary, and nothing else has changed
+    pub record HasMoved (number : ℕ) (logical boundary : List T) (a b : ArrangementState T) : Type 0 where
       pub alike : IsAlike a b
       pub hold : HoldState T
       pub was : slice_get a.holds number ≡ Some hold
-      pub holds : b.holds ≡ set a.holds number (record hold { physical = boundary })
+      pub holds : b.holds ≡ set a.holds number (record { logical = logical; physical = boundary })
 
-    -- the readers' holds have stayed, and the arrangement's own one is for the same times
-    pub record IsSettled (a b : ArrangementState T) : Type 0 where
+    -- the readers' holds have stayed, and the arrangement's own one has moved to this level and to where
+    -- the spine has come, unless it has stayed too
+    pub record IsSettled (level : List T) (a b : ArrangementState T) : Type 0 where
       pub alike : IsAlike a b
       pub readers : (number : ℕ) → 0 < number → slice_get b.holds number ≡ slice_get a.holds number
-      pub own : (hold : HoldState T) → slice_get a.holds 0 ≡ Some hold
-          → (moved : HoldState T) × (slice_get b.holds 0 ≡ Some moved) × (moved.logical ≡ hold.logical)
+      pub own : (slice_get b.holds 0 ≡ slice_get a.holds 0) ⊎ IsHeldFrom b 0 level (upper_of b.spine)
+
+    -- the arrangement's own hold may move to this level
+    abbrev pub MayRise : ArrangementState T → List T → Type 0
+    MayRise a level = (hold : HoldState T) → slice_get a.holds 0 ≡ Some hold → IsTrue (all_beyond below hold.logical level)
 
     module _ (minimum : T) where
-      -- the hold of this number is that of a reader that has come to the boundary
-      pub record MayMove (a : ArrangementState T) (number : ℕ) (boundary : List T) : Type 0 where
+      -- the hold of this number is that of a reader that has come to the boundary, and is not beyond
+      -- these times
+      pub record MayMove (a : ArrangementState T) (number : ℕ) (logical boundary : List T) : Type 0 where
         pub inserted : List (Insertion T)
         pub later : List (Insertion T)
         pub taken : List (Insertion T)
         pub reading : IsReading below minimum a inserted later taken boundary
         pub is : reading.number ≡ number
+        pub onward : IsTrue (all_beyond below reading.hold.logical logical)
+
+  -- ---- the times that reductions need
+
+  module _ (fronts : List (List T)) (reductions : List (Option (ReducingView T))) (source : ℕ) where
+    -- the times at which the reduction of a node has yet to answer, or may have to, if it reads the source
+    due_for : ℕ → Node → List T
+    due_for n (Reduce kind from) = if eqb from source then due_in (slice_get reductions n) ++ front_of_port fronts n 0 else []
+    due_for n other = []
+
+    -- those of the nodes before this one
+    due_before : List Node → ℕ → List T
+    due_before plan zero = []
+    due_before plan (suc n) = due_before plan n ++ due_for n (node_at plan n)
+
+    module _ (below : T → T → Bool) (plan : List Node) where
+      -- beyond the frontier is all that is pending at a reduction which reads the source, and all that
+      -- may come to it
+      abbrev pub ServesReductions : List T → Type 0
+      ServesReductions F = (n : ℕ) (kind : Kind) → n < length plan → node_at plan n ≡ Reduce kind source
+          → IsTrue (all_beyond below F (due_in (slice_get reductions n))) × IsTrue (all_beyond below F (front_of_port fronts n 0))
+
+      -- the latest frontier of which that holds
+      pub record IsLevel (level : List T) : Type 0 where
+        pub serves : ServesReductions level
+        pub latest : (F : List T) → ServesReductions F → IsTrue (all_beyond below F level)
 
   -- ---- a desk
 
-  module _ (below : T → T → Bool) (joined : T → T → T) (minimum : T) (plan : List Node) where
-    -- some worker has this desk, and no batch in hand
-    abbrev pub MayTidy : DeskView T → Type 0
-    MayTidy d = (h : Hand T) × (is_sealed h ≡ false) × IsSomeones below joined minimum plan d h
+  module _ (below : T → T → Bool) (joined : T → T → T) (minimum : T) (plan : List Node) (fronts : List (List T)) where
+    -- some worker has this desk and nothing in hand, and the ports have these frontiers then
+    pub record MayTidy (d : DeskView T) : Type 0 where
+      pub someones : IsSomeones below joined minimum plan d Free
+      pub told : AreTold below someones.dataflow (state_after below minimum someones.dataflow someones.events) fronts
 
-    -- if a worker has the one desk, and no batch in hand, then the other would be right for it, too
+    -- whichever worker has the one desk and nothing in hand, after whatever legal history, when the ports
+    -- have these frontiers: the other desk would be right for it, too
     abbrev pub LeadsOn : DeskView T → DeskView T → Type 0
-    LeadsOn d c = (h : Hand T) → is_sealed h ≡ false → Leads below joined minimum plan d h c h
+    LeadsOn d c = (p : Dataflow) → IsDataflow p → p.nodes ≡ plan → (es : List (Event T)) → IsLegal below minimum p es → (k : ℕ)
+        → AreTold below p (state_after below minimum p es) fronts
+        → IsRight below joined minimum p (state_after below minimum p es) k d Free
+        → IsRight below joined minimum p (state_after below minimum p es) k c Free
 
-    -- if a worker has the desk, and no batch in hand, then some node has no bound below 2^63
+    -- if so, then some node has no bound below 2^63 with the changes that were fed
     abbrev pub IsTooLargeOn : (T → T → Ordering) → DeskView T → Type 0
-    IsTooLargeOn cmp d = (h : Hand T) → is_sealed h ≡ false → IsTooLarge below joined minimum cmp plan d h
+    IsTooLargeOn cmp d = (p : Dataflow) → IsDataflow p → p.nodes ≡ plan → (es : List (Event T)) → IsLegal below minimum p es → (k : ℕ)
+        → AreTold below p (state_after below minimum p es) fronts
+        → IsRight below joined minimum p (state_after below minimum p es) k d Free
+        → HasNoSmallBound below cmp plan (changes_in (state_after below minimum p es))
 
-  module _ (plan : List Node) (d : DeskView T) where
-    -- a join asks at a port for the boundaries from where it has come
+  module _ (plan : List Node) (fronts : List (List T)) (d : DeskView T) where
+    -- the hold of a join at a port is for what may come at its other port, and asks for the boundaries
+    -- from where the join has come
     abbrev pub IsFollowedAt : ℕ → ℕ → Type 0
     IsFollowedAt n port = (source : ℕ) (j : JoiningView T) → ReadsAt (on_plan plan) d n port source j
         → (a : ArrangementState T) → slice_get d.arrangements source ≡ Some (Some a)
-        → IsHeldFrom a (hold_at port j) (boundary_at port j)
+        → IsHeldFrom a (hold_at port j) (front_of_port fronts n (other_port port)) (boundary_at port j)
 
     abbrev pub IsFollowed : ℕ → Type 0
     IsFollowed n = (port : ℕ) → IsFollowedAt n port
 
-    -- the arrangement of a node keeps no boundary for itself, and all is merged there that may be
+    -- the arrangement of a node has for itself no boundary but where its spine has come, and no times
+    -- but those that reductions need
+    abbrev pub HasOwnHold : (T → T → Bool) → ℕ → ArrangementState T → Type 0
+    HasOwnHold below n a = (level : List T) × IsHeldFrom a 0 level (upper_of a.spine) × IsLevel fronts d.reductions n below plan level
+
+    -- so it has, and all is merged there that may be
     abbrev pub IsSettledAt : (T → T → Bool) → ℕ → Type 0
     IsSettledAt below n = (source key : ℕ) → n < length plan → node_at plan n ≡ Arrange source key
         → (a : ArrangementState T) → slice_get d.arrangements n ≡ Some (Some a)
-        → HasOwnHold a × IsDone below a.spine
+        → HasOwnHold below n a × IsDone below a.spine
 
-    -- no reader asks for a boundary that it has left behind, and all is merged that may be
+    -- no hold is for more than a reader needs, and all is merged that may be
     pub record IsTidy (below : T → T → Bool) : Type 0 where
       pub joins : (n : ℕ) → IsFollowed n
       pub settled : (n : ℕ) → IsSettledAt below n

@@ -30,7 +30,7 @@ impl<T: Minimum> Desk<T> {
     }
 
     // The least of the times that are pending at the reduction of a node.
-    fn held_in_reduction(&self, alloc: Global, node: NodeId) -> Result<Vec<T>, Refusal>
+    pub(crate) fn held_in_reduction(&self, alloc: Global, node: NodeId) -> Result<Vec<T>, Refusal>
         ensures held { IfOk result (λ held. IsHeldFor T.below held.items
             (due_in (slice_get self.now.reductions node))) }
         ensures only { IfErr result (λ refused. refused ≡ OutOfMemory) }

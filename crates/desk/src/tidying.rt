@@ -1,11 +1,14 @@
 //! Tidying keeps a desk small. No answer changes by it.
 //!
-//! The hold of each side of a join moves to where the join has come, and the hold that an arrangement
-//! has for itself to where its spine has come. Nobody asks then for the boundaries before, and the
-//! spines may merge across them. A worker that never tidies has spines that keep each boundary at which
-//! a batch ended.
+//! The hold of each side of a join moves to where the join has come, and to the frontier of the join's
+//! other port: what comes there later is paired at later times alone. The hold that an arrangement has
+//! for itself moves to where its spine has come, and to the times that the reductions need which read
+//! it. Nobody asks then for the boundaries and the times before, so the spines may merge across the ones
+//! and advance their updates over the others. A worker that never tidies has spines that keep each
+//! boundary at which a batch ended, and each update apart.
 //!
-//! With a batch in hand nothing is done. Room for it was made in its spine, and a merge may use that.
+//! With a piece in hand nothing is done: a bundle in hand may be of times that the frontier of its port
+//! has passed since, and room for a batch in hand was made in its spine.
 ghost use Rattle.std.specs.Prelude.{◌≡◌, ◌≢◌, ◌<◌, ◌≤◌, ◌^◌, ℕ, Some, List, true, IfOk, IfErr, OnErr, OnOk, length, set, slice_get};
 ghost use Rattle.antichain.specs.Antichains.{IsFrontier};
 ghost use Rattle.update.specs.declared.refusal.Refusal.TheVariants.{OutOfMemory};
@@ -13,17 +16,15 @@ ghost use Rattle.update.specs.Refusals.{IsMemoryOrOverflow};
 ghost use Rattle.update.specs.Updates.{size};
 ghost use Rattle.trace.specs.Readings.{Insertion, all_updates};
 ghost use Rattle.spine.specs.Spines.{IsDone, Stands};
-ghost use Rattle.operator.specs.Arrangements.{ArrangementState};
+ghost use Rattle.operator.specs.Arrangements.{ArrangementState, upper_of};
 ghost use Rattle.operator.specs.Joins.{JoiningView};
-ghost use Rattle.desk_laws.specs.Own.{ReadsAt, boundary_at, hold_at};
-ghost use Rattle.desk_laws.specs.declared.hand.Hand.{Hand};
-ghost use Rattle.desk.specs.Desks.{IsSomeones, IsTooLarge, Leads};
+ghost use Rattle.desk_laws.specs.Own.{ReadsAt, boundary_at, hold_at, other_port};
 ghost use Rattle.desk.specs.Openings.{on_plan};
-ghost use Rattle.desk.specs.Tidying.{HasMoved, HasOwnHold, IsFollowed, IsFollowedAt, IsSettled, IsSettledAt, IsTidy, IsTooLargeOn, LeadsOn, MayMove, MayTidy};
+ghost use Rattle.desk.specs.Tidying.{HasMoved, IsFollowed, IsFollowedAt, IsHeldFrom, IsSettled, IsSettledAt, IsTidy, IsTooLargeOn, LeadsOn, MayMove, MayRise, MayTidy, front_of_port};
 
 use crate::desk::Desk;
+use crate::serving::front_of;
 use antichain::Antichain;
-use desk_laws::Hand;
 use lattice::Minimum;
 use operator::{Arrangement, Joining, antichain_of};
 use plan::{Node, NodeId, Plan};
@@ -51,89 +52,106 @@ fn boundary_on<T: Minimum>(join: &Joining<T>, port: usize) -> &[T]
     }
 }
 
-// Moves a hold of an arrangement to the boundary to which its reader has come. `_start` is not used:
-// generic code with a local antichain needs the type in its signature.
+// The port of a join that is not this one.
+fn other(port: usize) -> usize
+    ensures value { result ≡ other_port port }
+    ensures few { result < 2 }
+{
+    match port {
+        0 => 1,
+        _ => 0,
+    }
+}
+
+// Moves a hold of an arrangement to these times, and to the boundary to which its reader has come.
+// `_start` is not used: generic code with a local antichain needs the type in its signature.
 fn move_hold<T: Minimum>(
     alloc: Global,
     _start: &Antichain<T>,
     arrangement: &mut Arrangement<T>,
     number: usize,
+    logical: &[T],
     boundary: &[T],
 ) -> Result<(), Refusal>
-    requires may { MayMove T.below T.least arrangement.old number boundary.now }
-    requires frontier { IsFrontier T.below T.cmp boundary.now }
-    ensures moved { OnOk result (HasMoved T.below number boundary.now arrangement.old
+    requires may { MayMove T.below T.least arrangement.old number logical.now boundary.now }
+    requires frontiers { IsFrontier T.below T.cmp logical.now
+        × IsFrontier T.below T.cmp boundary.now }
+    ensures moved { OnOk result (HasMoved T.below number logical.now boundary.now arrangement.old
         arrangement.new) }
     ensures same { OnErr result (arrangement.new ≡ arrangement.old) }
     ensures only { IfErr result (λ refused. refused ≡ OutOfMemory) }
 {
     let _spine = arrangement.trace();
-    let logical = antichain_of(alloc, arrangement.logical(number))?;
+    let logical = antichain_of(alloc, logical)?;
     let boundary = antichain_of(alloc, boundary)?;
     arrangement.advance(alloc, number, &logical, &boundary)
 }
 
-// Moves a hold of a node's arrangement to the boundary to which its reader has come.
+// Moves a hold of a node's arrangement to these times, and to where its reader has come.
 fn move_hold_at<T: Minimum>(
     alloc: Global,
     start: &Antichain<T>,
     arrangements: &mut Vec<Option<Arrangement<T>>>,
     source: NodeId,
     number: usize,
+    logical: &[T],
     boundary: &[T],
 ) -> Result<(), Refusal>
     requires may { (a : ArrangementState T)
         × (slice_get arrangements.old.items source ≡ Some (Some a))
-        × MayMove T.below T.least a number boundary.now }
-    requires frontier { IsFrontier T.below T.cmp boundary.now }
+        × MayMove T.below T.least a number logical.now boundary.now }
+    requires frontiers { IsFrontier T.below T.cmp logical.now
+        × IsFrontier T.below T.cmp boundary.now }
     ensures moved { (a : ArrangementState T) → slice_get arrangements.old.items source ≡ Some (Some a)
         → OnOk result ((b : ArrangementState T) × (arrangements.new.items
         ≡ set arrangements.old.items source (Some b))
-        × HasMoved T.below number boundary.now a b) }
+        × HasMoved T.below number logical.now boundary.now a b) }
     ensures same { OnErr result (arrangements.new.items ≡ arrangements.old.items) }
     ensures only { IfErr result (λ refused. refused ≡ OutOfMemory) }
 {
     match &mut arrangements[source.number()] {
-        Some(arrangement) => move_hold(alloc, start, arrangement, number, boundary),
+        Some(arrangement) => move_hold(alloc, start, arrangement, number, logical, boundary),
         None => unreachable!(),
     }
 }
 
-// Moves the hold that an arrangement has for itself to where its spine has come, and lets the spine
-// merge with so much fuel. `_start` is not used, as in `move_hold`.
+// Moves the hold that an arrangement has for itself to this level and to where its spine has come, and
+// lets the spine merge with so much fuel.
 fn settle<T: Minimum>(
     alloc: Global,
-    _start: &Antichain<T>,
     arrangement: &mut Arrangement<T>,
+    level: &Antichain<T>,
     fuel: u64,
 ) -> Result<bool, Refusal>
-    ensures settled { IsSettled T.below arrangement.old arrangement.new }
-    ensures own { OnOk result (HasOwnHold arrangement.new) }
+    requires may { MayRise T.below arrangement.old level.now }
+    ensures settled { IsSettled T.below level.now arrangement.old arrangement.new }
+    ensures own { OnOk result
+        (IsHeldFrom arrangement.new 0 level.now (upper_of arrangement.new.spine)) }
     ensures done { IfOk result (λ done. done ≡ true → IsDone T.below arrangement.new.spine) }
     ensures refused { IfErr result (IsMemoryOrOverflow ((h : List (Insertion T))
         → Stands T.below arrangement.old.spine h → 2 ^ 63 ≤ size (all_updates h))) }
 {
     let _spine = arrangement.trace();
-    let logical = antichain_of(alloc, arrangement.logical(0))?;
     let upper = arrangement.upper(alloc)?;
-    arrangement.acknowledge(alloc, 0, &logical, &upper)?;
+    arrangement.acknowledge(alloc, 0, level, &upper)?;
     arrangement.merge(fuel)
 }
 
 // Settles the arrangement of a node.
 fn settle_at<T: Minimum>(
     alloc: Global,
-    start: &Antichain<T>,
     arrangements: &mut Vec<Option<Arrangement<T>>>,
     node: NodeId,
+    level: &Antichain<T>,
     fuel: u64,
 ) -> Result<bool, Refusal>
-    requires there { (a : ArrangementState T)
-        × (slice_get arrangements.old.items node ≡ Some (Some a)) }
+    requires may { (a : ArrangementState T)
+        × (slice_get arrangements.old.items node ≡ Some (Some a)) × MayRise T.below a level.now }
     ensures settled { (a : ArrangementState T)
         → slice_get arrangements.old.items node ≡ Some (Some a)
         → (b : ArrangementState T) × (arrangements.new.items ≡ set arrangements.old.items node (Some b))
-        × IsSettled T.below a b × OnOk result (HasOwnHold b)
+        × IsSettled T.below level.now a b
+        × OnOk result (IsHeldFrom b 0 level.now (upper_of b.spine))
         × IfOk result (λ done. done ≡ true → IsDone T.below b.spine) }
     ensures refused { (a : ArrangementState T)
         → slice_get arrangements.old.items node ≡ Some (Some a)
@@ -141,29 +159,33 @@ fn settle_at<T: Minimum>(
         → 2 ^ 63 ≤ size (all_updates h))) }
 {
     match &mut arrangements[node.number()] {
-        Some(arrangement) => settle(alloc, start, arrangement, fuel),
+        Some(arrangement) => settle(alloc, arrangement, level, fuel),
         None => unreachable!(),
     }
 }
 
 impl<T: Minimum> Desk<T> {
-    // Moves the hold of a join at a port to where the join has come. If it is refused, then nothing has
-    // changed.
+    // Moves the hold of a join at a port to the frontier of its other port, and to where the join has
+    // come. If it is refused, then nothing has changed.
     fn follow(
         &mut self,
         alloc: Global,
+        fronts: &[Antichain<T>],
         node: NodeId,
         port: usize,
         source: NodeId,
     ) -> Result<(), Refusal>
         requires may { (j : JoiningView T) × (slice_get self.old.joins node ≡ Some (Some j))
             × (a : ArrangementState T) × (slice_get self.old.arrangements source ≡ Some (Some a))
-            × MayMove T.below T.least a (hold_at port j) (boundary_at port j) }
+            × MayMove T.below T.least a (hold_at port j) (front_of_port fronts.now node (other_port port))
+            (boundary_at port j) }
+        requires few { node < 256 }
         ensures moved { (j : JoiningView T) → slice_get self.old.joins node ≡ Some (Some j)
             → (a : ArrangementState T) → slice_get self.old.arrangements source ≡ Some (Some a)
             → OnOk result ((b : ArrangementState T) × (self.new ≡ record self.old {
               arrangements = set self.old.arrangements source (Some b);
-            }) × HasMoved T.below (hold_at port j) (boundary_at port j) a b) }
+            }) × HasMoved T.below (hold_at port j) (front_of_port fronts.now node (other_port port))
+            (boundary_at port j) a b) }
         ensures same { OnErr result (self.new ≡ self.old) }
         ensures only { IfErr result (λ refused. refused ≡ OutOfMemory) }
     {
@@ -174,6 +196,7 @@ impl<T: Minimum> Desk<T> {
                 &mut self.arrangements,
                 source,
                 hold_on(join, port),
+                front_of(fronts, node, other(port)),
                 boundary_on(join, port),
             ),
             None => unreachable!(),
@@ -185,51 +208,63 @@ impl<T: Minimum> Desk<T> {
         &mut self,
         alloc: Global,
         plan: &Plan,
+        fronts: &[Antichain<T>],
         node: NodeId,
         port: usize,
         source: NodeId,
     ) -> Result<(), Refusal>
-        requires may { MayTidy T.below T.joined T.least plan.now self.old }
+        requires may { MayTidy T.below T.joined T.least plan.now fronts.now self.old }
         requires reads { (j : JoiningView T)
             × ReadsAt (on_plan plan.now) self.old node port source j }
-        ensures leads { LeadsOn T.below T.joined T.least plan.now self.old self.new }
-        ensures here { OnOk result (IsFollowedAt plan.now self.new node port) }
-        ensures stays { (n i : ℕ) → IsFollowedAt plan.now self.old n i
-            → IsFollowedAt plan.now self.new n i }
+        ensures leads { LeadsOn T.below T.joined T.least plan.now fronts.now self.old self.new }
+        ensures here { OnOk result (IsFollowedAt plan.now fronts.now self.new node port) }
+        ensures stays { (n i : ℕ) → IsFollowedAt plan.now fronts.now self.old n i
+            → IsFollowedAt plan.now fronts.now self.new n i }
         ensures only { IfErr result (λ refused. refused ≡ OutOfMemory) }
     {
         plan.known();
-        self.follow(alloc, node, port, source)
+        self.follow(alloc, fronts, node, port, source)
     }
 
     // Moves both holds of a node, if it is a join.
-    fn follow_join(&mut self, alloc: Global, plan: &Plan, node: NodeId) -> Result<(), Refusal>
-        requires may { MayTidy T.below T.joined T.least plan.now self.old }
+    fn follow_join(
+        &mut self,
+        alloc: Global,
+        plan: &Plan,
+        fronts: &[Antichain<T>],
+        node: NodeId,
+    ) -> Result<(), Refusal>
+        requires may { MayTidy T.below T.joined T.least plan.now fronts.now self.old }
         requires within { node < length plan.now }
-        ensures leads { LeadsOn T.below T.joined T.least plan.now self.old self.new }
-        ensures here { OnOk result (IsFollowed plan.now self.new node) }
-        ensures stays { (n i : ℕ) → IsFollowedAt plan.now self.old n i
-            → IsFollowedAt plan.now self.new n i }
+        ensures leads { LeadsOn T.below T.joined T.least plan.now fronts.now self.old self.new }
+        ensures here { OnOk result (IsFollowed plan.now fronts.now self.new node) }
+        ensures stays { (n i : ℕ) → IsFollowedAt plan.now fronts.now self.old n i
+            → IsFollowedAt plan.now fronts.now self.new n i }
         ensures only { IfErr result (λ refused. refused ≡ OutOfMemory) }
     {
         match plan.node(node) {
             Node::Join { left, right } => {
-                self.follow_at(alloc, plan, node, 0, *left)?;
-                self.follow_at(alloc, plan, node, 1, *right)
+                self.follow_at(alloc, plan, fronts, node, 0, *left)?;
+                self.follow_at(alloc, plan, fronts, node, 1, *right)
             }
             _ => Ok(()),
         }
     }
 
     // Moves the holds of all joins.
-    fn follow_all(&mut self, alloc: Global, plan: &Plan) -> Result<(), Refusal>
-        requires may { MayTidy T.below T.joined T.least plan.now self.old }
-        ensures leads { LeadsOn T.below T.joined T.least plan.now self.old self.new }
-        ensures followed { OnOk result ((n : ℕ) → IsFollowed plan.now self.new n) }
+    fn follow_all(
+        &mut self,
+        alloc: Global,
+        plan: &Plan,
+        fronts: &[Antichain<T>],
+    ) -> Result<(), Refusal>
+        requires may { MayTidy T.below T.joined T.least plan.now fronts.now self.old }
+        ensures leads { LeadsOn T.below T.joined T.least plan.now fronts.now self.old self.new }
+        ensures followed { OnOk result ((n : ℕ) → IsFollowed plan.now fronts.now self.new n) }
         ensures only { IfErr result (λ refused. refused ≡ OutOfMemory) }
     {
         for n in 0..plan.len() {
-            self.follow_join(alloc, plan, NodeId::new(n))?;
+            self.follow_join(alloc, plan, fronts, NodeId::new(n))?;
         }
         Ok(())
     }
@@ -239,77 +274,88 @@ impl<T: Minimum> Desk<T> {
         &mut self,
         alloc: Global,
         plan: &Plan,
+        fronts: &[Antichain<T>],
         node: NodeId,
         fuel: u64,
     ) -> Result<bool, Refusal>
-        requires may { MayTidy T.below T.joined T.least plan.now self.old }
+        requires may { MayTidy T.below T.joined T.least plan.now fronts.now self.old }
         requires within { node < length plan.now }
-        ensures leads { LeadsOn T.below T.joined T.least plan.now self.old self.new }
+        ensures leads { LeadsOn T.below T.joined T.least plan.now fronts.now self.old self.new }
         ensures settled { IfOk result (λ done. done ≡ true
-            → IsSettledAt plan.now self.new T.below node) }
-        ensures others { (n : ℕ) → n ≢ node → IsSettledAt plan.now self.old T.below n
-            → IsSettledAt plan.now self.new T.below n }
-        ensures followed { ((n : ℕ) → IsFollowed plan.now self.old n)
-            → (n : ℕ) → IsFollowed plan.now self.new n }
+            → IsSettledAt plan.now fronts.now self.new T.below node) }
+        ensures others { (n : ℕ) → n ≢ node → IsSettledAt plan.now fronts.now self.old T.below n
+            → IsSettledAt plan.now fronts.now self.new T.below n }
+        ensures followed { ((n : ℕ) → IsFollowed plan.now fronts.now self.old n)
+            → (n : ℕ) → IsFollowed plan.now fronts.now self.new n }
         ensures refused { IfErr result (IsMemoryOrOverflow
-            (IsTooLargeOn T.below T.joined T.least plan.now T.cmp self.old)) }
+            (IsTooLargeOn T.below T.joined T.least plan.now fronts.now T.cmp self.old)) }
     {
         match plan.node(node) {
             Node::Arrange { .. } => {
-                settle_at(alloc, &self.start, &mut self.arrangements, node, fuel)
+                let level = self.level(alloc, plan, fronts, node)?;
+                settle_at(alloc, &mut self.arrangements, node, &level, fuel)
             }
             _ => Ok(true),
         }
     }
 
     // Settles all arrangements.
-    fn settle_all(&mut self, alloc: Global, plan: &Plan, fuel: u64) -> Result<bool, Refusal>
-        requires may { MayTidy T.below T.joined T.least plan.now self.old }
-        ensures leads { LeadsOn T.below T.joined T.least plan.now self.old self.new }
+    fn settle_all(
+        &mut self,
+        alloc: Global,
+        plan: &Plan,
+        fronts: &[Antichain<T>],
+        fuel: u64,
+    ) -> Result<bool, Refusal>
+        requires may { MayTidy T.below T.joined T.least plan.now fronts.now self.old }
+        ensures leads { LeadsOn T.below T.joined T.least plan.now fronts.now self.old self.new }
         ensures settled { IfOk result (λ done. done ≡ true → (n : ℕ)
-            → IsSettledAt plan.now self.new T.below n) }
-        ensures followed { ((n : ℕ) → IsFollowed plan.now self.old n)
-            → (n : ℕ) → IsFollowed plan.now self.new n }
+            → IsSettledAt plan.now fronts.now self.new T.below n) }
+        ensures followed { ((n : ℕ) → IsFollowed plan.now fronts.now self.old n)
+            → (n : ℕ) → IsFollowed plan.now fronts.now self.new n }
         ensures refused { IfErr result (IsMemoryOrOverflow
-            (IsTooLargeOn T.below T.joined T.least plan.now T.cmp self.old)) }
+            (IsTooLargeOn T.below T.joined T.least plan.now fronts.now T.cmp self.old)) }
     {
         let mut done = true;
         for n in 0..plan.len() {
-            done = self.settle_node(alloc, plan, NodeId::new(n), fuel)? & done;
+            done = self.settle_node(alloc, plan, fronts, NodeId::new(n), fuel)? & done;
         }
         Ok(done)
     }
 
-    /// Moves the hold of each side of a join to where the join has come, and the hold that an
-    /// arrangement has for itself to where its spine has come. Then it lets each spine merge with so
-    /// much fuel ([`Arrangement::merge`]). True only if all that may be merged is. With a batch in hand
-    /// nothing is done, and the answer is false.
+    /// Moves the hold of each side of a join to where the join has come and to the frontier of its other
+    /// port, and the hold that an arrangement has for itself to where its spine has come and to the least
+    /// of the times that the reductions need which read it: those pending, and those of the frontiers of
+    /// their ports. Then it lets each spine merge with so much fuel ([`Arrangement::merge`]). True only
+    /// if all that may be merged is.
     ///
-    /// Whatever the answer, desk and hand are as right as before, so the call may be made at any time,
-    /// and again.
+    /// The worker has nothing in hand. Port `i` of node `n` has the frontier `2 n + i` of the list; no
+    /// node has more than two ports, and of one that it has not any frontier may stand there.
+    ///
+    /// Whatever the answer, the desk is as right as before, so the call may be made at any time, and
+    /// again.
     ///
     /// - [`Refusal::Overflow`] only if some node has no bound below 2^63 with the changes that were
     ///   fed.
     /// - [`Refusal::OutOfMemory`] only if memory was refused.
     ///
-    /// Cost: linear in the plan, and for each arrangement that of [`Arrangement::merge`].
+    /// Cost: linear in the plan for each arrange node, and for each arrangement that of
+    /// [`Arrangement::merge`].
     pub fn tidy(
         &mut self,
         alloc: Global,
         plan: &Plan,
-        hand: &Hand<T>,
+        fronts: &[Antichain<T>],
         fuel: u64,
     ) -> Result<bool, Refusal>
-        requires someones { IsSomeones T.below T.joined T.least plan.now self.old hand.now }
-        ensures leads { Leads T.below T.joined T.least plan.now self.old hand.now self.new hand.now }
-        ensures tidy { IfOk result (λ done. done ≡ true → IsTidy plan.now self.new T.below) }
-        ensures refused { IfErr result (IsMemoryOrOverflow (IsTooLarge T.below T.joined T.least T.cmp
-            plan.now self.old hand.now)) }
+        requires may { MayTidy T.below T.joined T.least plan.now fronts.now self.old }
+        ensures leads { LeadsOn T.below T.joined T.least plan.now fronts.now self.old self.new }
+        ensures tidy { IfOk result
+            (λ done. done ≡ true → IsTidy plan.now fronts.now self.new T.below) }
+        ensures refused { IfErr result (IsMemoryOrOverflow
+            (IsTooLargeOn T.below T.joined T.least plan.now fronts.now T.cmp self.old)) }
     {
-        if let Hand::Sealed { .. } = hand {
-            return Ok(false);
-        }
-        self.follow_all(alloc, plan)?;
-        self.settle_all(alloc, plan, fuel)
+        self.follow_all(alloc, plan, fronts)?;
+        self.settle_all(alloc, plan, fronts, fuel)
     }
 }

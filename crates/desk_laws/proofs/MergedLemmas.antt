@@ -1,13 +1,65 @@
--- What merges on a desk leave of a worker's own.
-use Rattle.std.proofs.Common.{◌≡◌, ℕ, Bool, ◌++◌, sym, ap, ◌∙◌}
+-- What merges on a desk, and holds that move, leave of a worker's own.
+use Rattle.std.proofs.Common.{◌≡◌, ℕ, Bool, true, false, List, IsTrue, ◌++◌, sym, refl, ap, ◌∙◌}
+use Rattle.std.proofs.lemmas.Bool.{false≢true}
+use Rattle.lattice.specs.Order.{PartialOrderLaws}
+use Rattle.lattice.specs.Frontiers.{all_beyond, is_beyond}
+use Rattle.lattice.proofs.FrontierLemmas.{all_beyond_from, all_beyond_later}
 use Rattle.plan.specs.declared.node.Node.{Node}
 use Rattle.plan.specs.declared.node.Node.TheVariants.{Arrange}
+use Rattle.histories.proofs.HistoryLemmas.FlowLemmas.{is_passed, not_beyond}
 use Rattle.histories.specs.Histories.Dataflows.{Dataflow, node_of}
+use Rattle.histories.specs.Histories.Outstanding.{port_frontier}
+use Rattle.histories.specs.Histories.Promises.{NeverGoesBack}
 use Rattle.histories.specs.Histories.States.{State}
-use Rattle.desk_laws.specs.Own.{DeskView, HasCome, IsHandOn, IsMergedAt, IsOwn, Keeps, StayHolding, gathered_in, in_hand_at, waits_on}
+use Rattle.operator.specs.Joins.{JoiningView}
+use Rattle.operator.specs.Reductions.{ReducingView}
+use Rattle.desk_laws.specs.Own.{AreHolding, DeskView, HasCome, IsHandOn, IsMergedAt, IsOwn, Keeps, ReadsAt, Reduces, StayHolding, gathered_in, hold_at, in_hand_at, other_port, waits_on}
 use Rattle.desk_laws.specs.declared.hand.Hand.{Hand}
-use Rattle.desk_laws.specs.declared.hand.Hand.TheVariants.{Ready, Sealed, Taken, Turned}
+use Rattle.desk_laws.specs.declared.hand.Hand.TheVariants.{Free, Ready, Sealed, Taken, Turned}
 use Rattle.desk_laws.proofs.KeptLemmas.{at_each, of_each}
+
+-- ---- how far the ports' frontiers have come
+
+module _ {T : Type 0} (below : T → T → Bool) (o : PartialOrderLaws below) where
+  -- a frontier that has passed what another one has is beyond it
+  pub beyond_reached : (F G : List T) → NeverGoesBack below F G → IsTrue (all_beyond below F G)
+  beyond_reached F G h = all_beyond_from o F G (λ t b. step t b (is_beyond below F t) refl)
+    where
+      step : (t : T) → IsTrue (is_beyond below G t) → (c : Bool) → is_beyond below F t ≡ c → c ≡ true
+      step t b true e = refl
+      step t b false e = absurd (false≢true (sym (not_beyond (is_beyond below G t) (h t (is_passed (is_beyond below F t) e))) ∙ b))
+
+  -- holds that serve what may come beyond these frontiers serve what may come beyond later ones
+  pub holding_later : (p : Dataflow) (d : DeskView T) (ports later : ℕ → ℕ → List T) → ((n port : ℕ) → IsTrue (all_beyond below (ports n port) (later n port)))
+      → AreHolding below p d ports → AreHolding below p d later
+  holding_later p d ports later on x = record {
+    joins = record {
+      held = λ n port source j r.
+          let h = x.joins.held n port source j r in
+          record {
+            arrangement = h.arrangement;
+            there = h.there;
+            other = h.other;
+            hold = h.hold;
+            held = h.held;
+            apart = all_beyond_later o h.hold.logical (ports n (other_port port)) (later n (other_port port)) h.apart (on n (other_port port));
+            behind = h.behind;
+          };
+      apart = x.joins.apart;
+    };
+    pending = x.pending;
+    come = λ n source r is.
+        let h = x.come n source r is in
+        record {
+          arrangement = h.arrangement;
+          there = h.there;
+          hold = h.hold;
+          held = h.held;
+          apart = all_beyond_later o h.hold.logical (ports n 0) (later n 0) h.apart (on n 0);
+        };
+  }
+
+-- ---- another desk that stands for the same
 
 module _ {T : Type 0} (below : T → T → Bool) (joined : T → T → T) (minimum : T) (p : Dataflow) (d c : DeskView T) (merged : (n : ℕ) → IsMergedAt below joined minimum p n d c) where
   pub still_waits : (n : ℕ) (node : Node) → waits_on c n node ≡ waits_on d n node
@@ -23,12 +75,15 @@ module _ {T : Type 0} (below : T → T → Bool) (joined : T → T → T) (minim
   still_come w k keeps (Taken bundle more) x = x
   still_come w k keeps other x = tt
 
-  pub merged_lem : (w : State T) (k : ℕ) → StayHolding below p d c → (h : Hand T) → IsHandOn below joined minimum p c h → IsOwn below joined minimum p w k d h → IsOwn below joined minimum p w k c h
-  merged_lem w k stay h on x = record {
+  -- what is right with the one desk is right with the other, if the readers have their holds there. They
+  -- may be for any frontiers that the ports have reached
+  own_with : (w : State T) (k : ℕ) (h : Hand T) (x : IsOwn below joined minimum p w k d h) (ports : ℕ → ℕ → List T) → ((n port : ℕ) → NeverGoesBack below (ports n port) (port_frontier below p w n port)) → AreHolding below p c ports
+      → HasCome below joined minimum p w k c (record x.keeps { ports = ports }) h → IsHandOn below joined minimum p c h → IsOwn below joined minimum p w k c h
+  own_with w k h x ports reached holding come on = record {
     worker = x.worker;
-    keeps = x.keeps;
-    keeping = x.keeping;
-    laid = of_each below joined minimum p c h x.keeps (λ n l.
+    keeps = record x.keeps { ports = ports };
+    keeping = record { working = x.keeping.working; received = x.keeping.received; given = x.keeping.given; ports = reached };
+    laid = of_each below joined minimum p c h (record x.keeps { ports = ports }) (λ n l.
         let y = at_each below joined minimum p d h x.keeps x.laid n l in
         record {
           waiting = λ r. y.waiting r ∙ ap (λ us. in_hand_at joined p x.keeps.works h n ++ us) (sym (still_waits n (node_of p n)));
@@ -65,7 +120,17 @@ module _ {T : Type 0} (below : T → T → Bool) (joined : T → T → T) (minim
               };
         });
     hand = x.hand;
-    come = still_come w k x.keeps h x.come;
+    come = come;
     on = on;
-    holding = stay x.keeps.ports x.holding;
+    holding = holding;
   }
+
+  pub merged_lem : (w : State T) (k : ℕ) → StayHolding below p d c → (h : Hand T) → IsHandOn below joined minimum p c h → IsOwn below joined minimum p w k d h → IsOwn below joined minimum p w k c h
+  merged_lem w k stay h on x = own_with w k h x x.keeps.ports x.keeping.ports (stay x.keeps.ports x.holding) (still_come w k x.keeps h x.come) on
+
+  -- with nothing in hand the holds may be for the frontiers of the ports as they are
+  pub tidied_lem : PartialOrderLaws below → (w : State T) (k : ℕ) → (AreHolding below p d (port_frontier below p w) → AreHolding below p c (port_frontier below p w))
+      → IsOwn below joined minimum p w k d Free → IsOwn below joined minimum p w k c Free
+  tidied_lem o w k stay x =
+      own_with w k Free x (port_frontier below p w) (λ n port t passed. passed)
+      (stay (holding_later below o p d x.keeps.ports (port_frontier below p w) (λ n port. beyond_reached below o (x.keeps.ports n port) (port_frontier below p w n port) (x.keeping.ports n port)) x.holding)) tt tt

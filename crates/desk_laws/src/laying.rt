@@ -17,15 +17,16 @@ ghost use Rattle.histories.specs.declared.event.Bundle.{Bundle};
 ghost use Rattle.histories.specs.declared.event.Event.{Event};
 ghost use Rattle.histories.specs.Histories.{IsLegal, state_after};
 ghost use Rattle.histories.specs.Histories.Dataflows.{Dataflow, IsDataflow, node_of};
+ghost use Rattle.histories.specs.Histories.Outstanding.{port_frontier};
 ghost use Rattle.histories.specs.Histories.States.{State, times};
 ghost use Rattle.operator_laws.specs.Joining.{on_top};
 ghost use Rattle.operator.specs.Joins.{JoiningView};
 ghost use Rattle.operator.specs.Reductions.{IsPendingAfter, IsReduced, ReducingView, SumsToReceived, pending_of};
 ghost use Rattle.operator.specs.Arrangements.{ArrangementState};
-ghost use Rattle.desk_laws.specs.Own.{DeskView, IsArrangedOn, IsHandOn, IsMergedAt, IsNextBatch, IsNextBoundary, IsOfOneShape, IsOwn, IsSameAt, StayHolding, StayHoldingWith, waits_on};
+ghost use Rattle.desk_laws.specs.Own.{AreHolding, DeskView, IsArrangedOn, IsHandOn, IsMergedAt, IsNextBatch, IsNextBoundary, IsOfOneShape, IsOwn, IsSameAt, StayHolding, StayHoldingWith, waits_on};
 ghost use Rattle.operator_laws.specs.Gathering.{IsSplit};
 ghost use Rattle.desk_laws.specs.declared.hand.Hand.{Hand};
-ghost use Rattle.desk_laws.specs.declared.hand.Hand.TheVariants.{Kept, Ready, Sealed, Taken, Turned};
+ghost use Rattle.desk_laws.specs.declared.hand.Hand.TheVariants.{Free, Kept, Ready, Sealed, Taken, Turned};
 
 use lattice::Minimum;
 
@@ -183,4 +184,16 @@ pub fn merged_is_laid<T: Minimum>()
         → ((n : ℕ) → IsMergedAt T.below T.joined T.least p n d c) → (h : Hand T)
         → IsHandOn T.below T.joined T.least p c h
         → IsOwn T.below T.joined T.least p w k d h → IsOwn T.below T.joined T.least p w k c h }
+{}
+
+/// With nothing in hand, merges and holds that move leave a desk right: each arrangement stands for what
+/// it stood for, and has the same waiting. The holds have to serve what may still come to the ports, by
+/// their frontiers as they are in the state.
+pub fn tidied_is_laid<T: Minimum>()
+    ensures { (p : Dataflow) (w : State T) (k : ℕ) (d c : DeskView T)
+        → (AreHolding T.below p d (port_frontier T.below p w)
+        → AreHolding T.below p c (port_frontier T.below p w))
+        → ((n : ℕ) → IsMergedAt T.below T.joined T.least p n d c)
+        → IsOwn T.below T.joined T.least p w k d Free
+        → IsOwn T.below T.joined T.least p w k c Free }
 {}

@@ -6,7 +6,8 @@
 //! ([`kept_is_laid`] at a linear node, [`kept_is_joined`], [`kept_is_reduced`]; [`ready_is_laid`],
 //! [`found_is_laid`], [`sealed_is_laid`]), and by a give back to `Free` ([`kept_is_held_back`],
 //! [`ready_is_given`], [`sealed_is_given`]). A refusal leaves desk and hand as they are, so any of it may
-//! be tried again. [`merged_is_laid`] is for merges. The functions do nothing: cite their clauses.
+//! be tried again. [`merged_is_laid`] is for merges, and [`tidied_is_laid`] also for holds that move. After
+//! a give [`given_is_beyond`] says what is held. The functions do nothing: cite their clauses.
 #![tactic(auto)]
 
 mod giving;
@@ -15,11 +16,11 @@ mod laying;
 mod output;
 mod taking;
 
-pub use giving::{kept_is_held_back, ready_is_given, sealed_is_given};
+pub use giving::{given_is_beyond, kept_is_held_back, ready_is_given, sealed_is_given};
 pub use hand::Hand;
 pub use laying::{
     found_is_laid, kept_is_joined, kept_is_laid, kept_is_reduced, merged_is_laid, ready_is_laid,
-    sealed_is_laid,
+    sealed_is_laid, tidied_is_laid,
 };
 pub use output::Output;
 pub use taking::{first_is_laid, others_leave_it, taken_is_laid, turned_is_laid};

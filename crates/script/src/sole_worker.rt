@@ -1,7 +1,8 @@
 //! The only worker of a board.
 //!
-//! It steps until there is no piece for it, and then tidies its desk. As the only worker it leaves the
-//! board quiet, if no client changed anything meanwhile. Only a number that is too large stops it
+//! It tidies its desk, and then steps until there is no piece for it. So its holds follow the frontiers
+//! with each call, and what it merges in the steps is advanced up to there. As the only worker it leaves
+//! the board quiet, if no client changed anything meanwhile. Only a number that is too large stops it
 //! before, or want of memory.
 ghost use Rattle.std.specs.Prelude.{◌≡◌, ◌⊎◌, Err, IfErr, IsTrue, OnErr, OnOk};
 ghost use Rattle.lattice.specs.Bitimes.{bitime_below};
@@ -66,9 +67,9 @@ impl<'a, R: Wait> SoleWorker<'a, R> {
         })
     }
 
-    /// Steps until there is no piece. What is too large the worker tells, and then the clients hear of
-    /// it. Refused only with `OutOfMemory`. A worker that was stopped does nothing more, and is refused
-    /// again if it was for want of memory.
+    /// Tidies, and steps until there is no piece. What is too large the worker tells, and then the
+    /// clients hear of it. Refused only with `OutOfMemory`. A worker that was stopped does nothing more,
+    /// and is refused again if it was for want of memory.
     ///
     /// Cost: that of [`Worker::step`] for each piece, and of [`Worker::tidy`] without fuel.
     pub(crate) fn carry_on(&mut self, alloc: Global) -> Result<(), Refusal>
@@ -110,7 +111,7 @@ impl Work {
     }
 }
 
-// The worker goes on until there is no piece for it, and then tidies. If it has failed, it tells that.
+// The worker tidies, and goes on until there is no piece for it. If it has failed, it tells that.
 fn finish<R: Wait>(runtime: &R, alloc: Global, mut worker: BoardWorker) -> Work
     ensures idle { HasPaused bitime_below (make_pair 0 0) result }
 {
@@ -124,15 +125,15 @@ fn finish<R: Wait>(runtime: &R, alloc: Global, mut worker: BoardWorker) -> Work
     }
 }
 
-// Steps until there is no piece, and tidies.
+// Tidies, and steps until there is no piece.
 fn clear<R: Wait>(runtime: &R, alloc: Global, worker: &mut BoardWorker) -> Result<(), Refusal>
     ensures idle { OnOk result (HasNothingToDo bitime_below (make_pair 0 0) worker.new) }
     ensures refused { IfErr result (λ refusal.
         (refusal ≡ OutOfMemory) ⊎ IsTrue worker.new.failed) }
 {
+    worker.tidy(alloc, 0)?;
     for _ in runtime.forever() {
         if let Step::Idle { .. } = worker.step(alloc)? {
-            worker.tidy(alloc, 0)?;
             return Ok(());
         }
     }

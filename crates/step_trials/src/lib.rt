@@ -11,6 +11,8 @@
 #[cfg(test)]
 mod client;
 #[cfg(test)]
+mod kept_tests;
+#[cfg(test)]
 mod players;
 #[cfg(test)]
 mod quiet_tests;

@@ -150,8 +150,11 @@ impl<T: Minimum> Worked<T> {
 /// The client of a board of bitemporal times.
 pub(crate) type BoardClient = Client<Bitime, BitemporalBoards>;
 
+/// A worker of a board of bitemporal times.
+pub(crate) type BoardWorker = Worker<Bitime, BitemporalBoards>;
+
 /// The workers of a board of bitemporal times.
-pub(crate) type Crew = Vec<Worker<Bitime, BitemporalBoards>>;
+pub(crate) type Crew = Vec<BoardWorker>;
 
 impl Worked<Bitime> {
     /// The client finds the view's frontier and changes, and its rows at each of the times.

@@ -4,4 +4,5 @@ pub mod TakenLemmas
 pub mod SentLemmas
 pub mod OutputLemmas
 pub mod GivenLemmas
+pub mod FrontsLemmas
 pub mod WorkerLemmas

@@ -11,10 +11,12 @@ use Rattle.hub.specs.Known.{Known}
 use Rattle.histories.specs.declared.event.Event.TheVariants.{Look}
 use Rattle.histories.specs.Histories.Dataflows.{Dataflow, IsDataflow}
 use Rattle.histories.specs.Histories.{IsLegal, initial_state, state_after}
+use Rattle.histories.specs.Histories.Promises.{changes_in}
 use Rattle.plan.specs.declared.node.Node.{Node}
 use Rattle.shared_board.specs.declared.event.Doing.{Doing}
 use Rattle.shared_board.specs.declared.board.taking.Taken.TheVariants.{Bundled, Turned as turned_piece, Nothing}
 use Rattle.shared_board.specs.Found.{dataflow_of}
+use Rattle.shared_board.specs.Large.{HasNoSmallBound}
 use Rattle.shared_board.specs.Pieces.{IsTakenIn}
 use Rattle.shared_board.specs.Tenures.{Adds, IsActor, IsFirst, events, state_left, terms_for, terms_in}
 use Rattle.desk_laws.specs.Observed.{HoldsBeyondNewest}
@@ -22,6 +24,7 @@ use Rattle.desk_laws.specs.Own.{DeskView, gives_passed, hand_node}
 use Rattle.desk_laws.specs.declared.hand.Hand.{Hand}
 use Rattle.desk_laws.specs.declared.hand.Hand.TheVariants.{Free}
 use Rattle.desk.specs.Desks.{IsRight, IsSomeones, IsTooLarge, Leads}
+use Rattle.desk.specs.Tidying.{AreTold, IsTooLargeOn, LeadsOn, MayTidy}
 use Rattle.steps.specs.Steps.{HasGivenAt, HasLeftLater, HasStopped, HasTaken, HasTriedToGive, HasTriedToTake, IsStep, IsStepRefusal, LooksAtMost}
 use Rattle.steps.specs.declared.step.Step.{Step}
 use Rattle.steps.specs.declared.step.Step.TheVariants.{Took}
@@ -118,8 +121,23 @@ module _ {T : Type 0} (below : T → T → Bool) (joined : T → T → T) (minim
   -- and an overflow has its cause in what the worker has seen
   pub seen_large : (plan : List Node) (k : Known (Doing T)) → IsActor below minimum k → plan ≡ (dataflow_of k).nodes → (d : DeskView T) (h : Hand T) → IsTooLarge below joined minimum cmp plan d h → IsRightOf below joined minimum k d h → HasSeenTooLarge below minimum cmp k
   seen_large plan k actor nodes d h large x =
-      subst (λ p. Rattle.shared_board.specs.Large.HasNoSmallBound below cmp p (Rattle.histories.specs.Histories.Promises.changes_in (state_left below minimum k))) nodes
+      subst (λ p. HasNoSmallBound below cmp p (changes_in (state_left below minimum k))) nodes
       (large (dataflow_of k) actor.dataflow (sym nodes) (events k.seen) actor.legal k.number x)
+
+-- ---- what tidying does
+
+module _ {T : Type 0} (below : T → T → Bool) (joined : T → T → T) (minimum : T) (cmp : T → T → Ordering) (plan : List Node) (k : Known (Doing T)) (actor : IsActor below minimum k) (nodes : plan ≡ (dataflow_of k).nodes) (fronts : List (List T)) (told : AreTold below (dataflow_of k) (state_left below minimum k) fronts) (d : DeskView T) (x : IsRightOf below joined minimum k d Free) where
+  -- a worker that knows the frontiers of its ports may tidy
+  pub may_tidy : MayTidy below joined minimum plan fronts d
+  may_tidy = record { someones = someones below joined minimum cmp plan k actor nodes d Free x; told = told }
+
+  pub tidied : (c : DeskView T) → LeadsOn below joined minimum plan fronts d c → IsRightOf below joined minimum k c Free
+  tidied c leads = leads (dataflow_of k) actor.dataflow (sym nodes) (events k.seen) actor.legal k.number told x
+
+  pub tidy_large : IsTooLargeOn below joined minimum plan fronts cmp d → HasSeenTooLarge below minimum cmp k
+  tidy_large large =
+      subst (λ p. HasNoSmallBound below cmp p (changes_in (state_left below minimum k))) nodes
+      (large (dataflow_of k) actor.dataflow (sym nodes) (events k.seen) actor.legal k.number told x)
 
 -- ---- the answers
 

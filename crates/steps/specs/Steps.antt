@@ -1,6 +1,6 @@
 -- What a step of a worker adds to what it has seen, and what it then has in hand. Each step is one
 -- event, or none.
-use Rattle.std.specs.Prelude.{◌≡◌, ℕ, ◌↔◌, ◌⊎◌, Bool, true, false, List, [], Some, IsTrue}
+use Rattle.std.specs.Prelude.{◌≡◌, ℕ, ◌+◌, ◌<◌, ◌↔◌, ◌⊎◌, Bool, true, false, List, [], Some, IsTrue, slice_get}
 use Rattle.std.specs.declared.cmp.Ordering.{Ordering}
 use Rattle.update.specs.declared.change.Update.{Update}
 use Rattle.update.specs.declared.refusal.Refusal.{Refusal}
@@ -9,6 +9,7 @@ use Rattle.hub.specs.Known.{Known}
 use Rattle.histories.specs.declared.event.Bundle.{Bundle}
 use Rattle.histories.specs.declared.event.Emission.{Emission}
 use Rattle.histories.specs.declared.event.Event.TheVariants.{Give, Look}
+use Rattle.histories.specs.declared.event.Site.{Site}
 use Rattle.histories.specs.Histories.Cuts.{cut}
 use Rattle.histories.specs.Histories.Dataflows.{Dataflow}
 use Rattle.machine.specs.Boards.Pieces.{HasNoPiece}
@@ -24,7 +25,7 @@ use Rattle.desk_laws.specs.Own.{DeskView, gives_passed, hand_node}
 use Rattle.desk_laws.specs.declared.hand.Hand.{Hand}
 use Rattle.desk_laws.specs.declared.hand.Hand.TheVariants.{Free, Taken, Turned, Ready, Sealed}
 use Rattle.desk.specs.Desks.{IsPutAway}
-use Rattle.desk.specs.Tidying.{IsTidy}
+use Rattle.desk.specs.Tidying.{AreTold, IsTidy}
 use Rattle.steps.specs.declared.step.Step.{Step}
 use Rattle.steps.specs.declared.step.Step.TheVariants.{Took, Gave, Idle, Busy}
 use Rattle.steps.specs.Workers.{WorkerView, HasSeenTooLarge}
@@ -35,6 +36,11 @@ use Rattle.steps.specs.Workers.{WorkerView, HasSeenTooLarge}
 abbrev pub gave_or_busy : Bool → Step
 gave_or_busy true = Gave
 gave_or_busy false = Busy
+
+-- two ports for each of so many nodes, in the order of the nodes
+abbrev pub ArePorts : ℕ → List Site → Type 0
+ArePorts nodes ports = (n port : ℕ) → n < nodes → port < 2
+    → (site : Site) × (slice_get ports (n + (n + port)) ≡ Some site) × (site.node ≡ n) × (site.port ≡ port)
 
 module _ {T : Type 0} where
   -- the hand with what was found on the board, and what the step is then
@@ -109,9 +115,11 @@ module _ {T : Type 0} (below : T → T → Bool) (minimum : T) where
 
   -- ---- tidying
 
-  -- the worker asks for no boundary that it has left behind, and all is merged on its desk that may be
+  -- the worker has nothing in hand. On its desk no hold is for more than its reader needs, by the
+  -- frontiers of the ports as the worker has seen them last, and all is merged that may be
   abbrev pub IsTidyFor : WorkerView T → Type 0
-  IsTidyFor w = IsTidy (dataflow_of w.known).nodes w.desk below
+  IsTidyFor w = (w.hand ≡ Free) × (fronts : List (List T)) × AreTold below (dataflow_of w.known) (state_left below minimum w.known) fronts
+      × IsTidy (dataflow_of w.known).nodes fronts w.desk below
 
   -- what each refusal to tidy means
   abbrev pub IsTidyRefusal : (T → T → Ordering) → WorkerView T → WorkerView T → Refusal → Type 0

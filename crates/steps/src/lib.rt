@@ -6,8 +6,8 @@
 //! computes it. With a piece in hand it gives what it computed. So each step is one event, or none.
 //! [`Worker::step_at`] is the same for a schedule that says which piece is taken.
 //!
-//! Between two steps call [`Worker::tidy`] now and then: it is no event, and keeps the desk small.
-//! [`Worker::kept`] tells how many updates an arrange node keeps.
+//! Between two steps call [`Worker::tidy`] now and then: it looks at the board once, changes no answer,
+//! and keeps the desk small. [`Worker::kept`] tells how many updates an arrange node keeps.
 //!
 //! That desk and hand are right for what the worker has seen is the invariant of the type. So a step
 //! may be made at any time, and after any refusal. A worker that met a number which 64 bits cannot say

@@ -1,19 +1,82 @@
-//! Between two steps a worker may tidy its desk. That is no event: nobody else notices, and no answer
-//! changes. A worker that never does keeps in its spines each boundary at which a batch ended.
-ghost use Rattle.std.specs.Prelude.{◌≡◌, Err, true, false, IfErr, IfOk, IsTrue, OnOk};
-ghost use Rattle.update.specs.declared.refusal.Refusal.TheVariants.{Failed};
-ghost use Rattle.steps.specs.Steps.{IsTidyFor, IsTidyRefusal};
+//! Between two steps a worker may tidy its desk. No answer changes by that, and nobody else notices.
+//!
+//! The worker enters the board once, to see how far its ports have come: one look. Then holds move on
+//! its desk, and spines merge. A worker that never tidies keeps in its spines each boundary at which a
+//! batch ended, and each update apart.
+ghost use Rattle.std.specs.Prelude.{◌≡◌, ◌<◌, Err, None, true, false, All, ℕ, IfErr, IfOk, IfSome, IsTrue, OnOk, Some, length, slice_get};
+ghost use Rattle.update.specs.declared.refusal.Refusal.TheVariants.{Failed, OutOfMemory};
+ghost use Rattle.desk.specs.Tidying.{AreTold};
+ghost use Rattle.desk_laws.specs.Own.{DeskView};
+ghost use Rattle.desk_laws.specs.declared.hand.Hand.TheVariants.{Free};
+ghost use Rattle.histories.specs.declared.event.Site.{Site};
+ghost use Rattle.shared_board.specs.Found.{dataflow_of};
+ghost use Rattle.shared_board.specs.Ports.{AreWithin};
+ghost use Rattle.shared_board.specs.Tenures.{state_left};
+ghost use Rattle.steps.specs.Steps.{ArePorts, IsTidyFor, IsTidyRefusal, LooksAtMost};
+ghost use Rattle.steps.specs.Workers.{IsRightOf};
 
 use crate::worker::Worker;
+use antichain::Antichain;
 use lattice::Minimum;
-use shared_board::BoardProtocol;
+use machine::Site;
+use plan::{NodeId, Plan};
+use shared_board::{Actor, BoardProtocol};
 use std::alloc::Global;
 use update::Refusal;
 
+// Two ports for each node, in the order of the nodes. Of a worker they name the first: it is not read.
+pub(crate) fn ports_of(alloc: Global, plan: &Plan) -> Result<Vec<Site>, Refusal>
+    ensures within { IfOk result
+        (λ ports. All (λ (site : Site). site.node < length plan.now) ports.items) }
+    ensures ports { IfOk result (λ ports. ArePorts (length plan.now) ports.items) }
+    ensures only { IfErr result (λ refusal. refusal ≡ OutOfMemory) }
+{
+    let mut ports = Vec::new(alloc);
+    for n in 0..plan.len() {
+        let node = NodeId::new(n);
+        ports.push(Site {
+            node,
+            port: 0,
+            worker: 0,
+        })?;
+        ports.push(Site {
+            node,
+            port: 1,
+            worker: 0,
+        })?;
+    }
+    Ok(ports)
+}
+
+// The frontiers of these ports as they are on the board now, in one look; `None` if another actor has
+// it. They are all ports of the plan, two for each node.
+pub(crate) fn find_fronts<T: Minimum, P: BoardProtocol<T>>(
+    actor: &mut Actor<T, P>,
+    ports: &[Site],
+) -> Result<Option<Vec<Antichain<T>>>, Refusal>
+    requires within { AreWithin (dataflow_of actor.old) ports.now }
+    requires ports { ArePorts (length (dataflow_of actor.old).nodes) ports.now }
+    ensures right { (d : DeskView T) → IsRightOf T.below T.joined T.least actor.old d Free
+        → IsRightOf T.below T.joined T.least actor.new d Free }
+    ensures looked { LooksAtMost actor.old actor.new }
+    ensures told { IfOk result (λ found. IfSome found (λ fronts. AreTold T.below
+        (dataflow_of actor.new) (state_left T.below T.least actor.new) fronts.items)) }
+    ensures only { IfErr result (λ refusal. refusal ≡ OutOfMemory) }
+{
+    let found = actor.try_port_frontiers(ports);
+    actor.known();
+    match found {
+        Some(Ok(fronts)) => Ok(Some(fronts)),
+        Some(Err(refusal)) => Err(refusal),
+        None => Ok(None),
+    }
+}
+
 impl<T: Minimum, P: BoardProtocol<T>> Worker<T, P> {
-    /// Moves the hold of each side of a join to where the join has come, and lets each spine merge with
-    /// so much fuel, one unit for each update that is copied ([`desk::Desk::tidy`]). True only if all
-    /// is merged that may be. With a batch in hand nothing is done, and the answer is false.
+    /// Looks at the board, moves each hold to where its reader has come and to the times that the reader
+    /// still needs, and lets each spine merge with so much fuel, one unit for each update that is copied
+    /// ([`desk::Desk::tidy`]). True only if all is merged that may be. If another actor has the board, or
+    /// with a piece in hand, nothing is done, and the answer is false.
     ///
     /// - [`Refusal::Failed`] only if an earlier call was refused with `Overflow`, and then always.
     /// - [`Refusal::Overflow`] only if, with the changes that the worker has seen, some node has no
@@ -21,9 +84,9 @@ impl<T: Minimum, P: BoardProtocol<T>> Worker<T, P> {
     /// - [`Refusal::OutOfMemory`] only if memory was refused. Some may have been merged, and some holds
     ///   moved.
     ///
-    /// Cost: that of [`desk::Desk::tidy`].
+    /// Cost: that of a question for the input frontier of each port, and that of [`desk::Desk::tidy`].
     pub fn tidy(&mut self, alloc: Global, fuel: u64) -> Result<bool, Refusal>
-        ensures known { self.new.known ≡ self.old.known }
+        ensures known { LooksAtMost self.old.known self.new.known }
         ensures hand { self.new.hand ≡ self.old.hand }
         ensures going { OnOk result (self.new.failed ≡ false) }
         ensures tidy { IfOk result (λ done. done ≡ true → IsTidyFor T.below T.least self.new) }
@@ -34,6 +97,12 @@ impl<T: Minimum, P: BoardProtocol<T>> Worker<T, P> {
         if self.has_failed() {
             return Err(Refusal::Failed);
         }
-        self.tidy_desk(alloc, fuel)
+        if self.node().is_some() {
+            return Ok(false);
+        }
+        match self.find_fronts(alloc)? {
+            Some(fronts) => self.tidy_desk(alloc, fronts.as_slice(), fuel),
+            None => Ok(false),
+        }
     }
 }

@@ -4,23 +4,25 @@
 //! the worker left last. What others do leaves them so, and so does each of the worker's own events,
 //! and what it computes between two of them. Each method here is one of these, and none of them asks
 //! anything of the state.
-ghost use Rattle.std.specs.Prelude.{◌≡◌, ◌<◌, ℕ, Some, None, true, false, IfErr, IfOk, OnOk, IsTrue, slice_get};
+ghost use Rattle.std.specs.Prelude.{◌≡◌, ◌<◌, ℕ, Some, None, true, false, IfErr, IfOk, IfSome, OnOk, IsTrue, slice_get};
 ghost use Rattle.update.specs.Refusals.{IsMemoryOrOverflow};
 ghost use Rattle.update.specs.declared.refusal.Refusal.TheVariants.{OutOfMemory, Overflow};
 ghost use Rattle.histories.specs.declared.event.Event.TheVariants.{Look};
 ghost use Rattle.plan.specs.Nodes.{node_at};
 ghost use Rattle.shared_board.specs.Found.{dataflow_of};
-ghost use Rattle.shared_board.specs.Tenures.{Adds, IsActor, IsFirst, terms_for};
+ghost use Rattle.shared_board.specs.Tenures.{Adds, IsActor, IsFirst, state_left, terms_for};
 ghost use Rattle.desk_laws.specs.Own.{gives_passed, hand_node};
 ghost use Rattle.desk_laws.specs.declared.hand.Hand.TheVariants.{Free};
 ghost use Rattle.desk.specs.Desks.{IsComputed};
-ghost use Rattle.desk.specs.Tidying.{kept_of};
+ghost use Rattle.desk.specs.Tidying.{AreTold, kept_of};
 ghost use Rattle.steps.specs.Steps.{HasLeftLater, HasStopped, HasTriedToGive, HasTriedToTake, IsTidyFor, LooksAtMost};
 ghost use Rattle.steps.specs.Workers.{HasSeenTooLarge, IsRightOf};
 
 use crate::giving::give;
 use crate::step::Step;
 use crate::taking::take_piece;
+use crate::tidying::{find_fronts, ports_of};
+use antichain::Antichain;
 use desk::{Desk, Hand};
 use lattice::Minimum;
 use machine::Routing;
@@ -169,17 +171,41 @@ impl<T: Minimum, P: BoardProtocol<T>> Worker<T, P> {
         Err(refusal)
     }
 
-    // Tidies the desk. With an overflow the worker fails.
-    pub(crate) fn tidy_desk(&mut self, alloc: Global, fuel: u64) -> Result<bool, Refusal>
+    // The frontiers of all ports, two for each node, as they are on the board now; `None` if another
+    // actor has it. With nothing in hand.
+    pub(crate) fn find_fronts(&mut self, alloc: Global) -> Result<Option<Vec<Antichain<T>>>, Refusal>
         requires going { self.old.failed ≡ false }
+        requires free { self.old.hand ≡ Free }
+        ensures known { LooksAtMost self.old.known self.new.known }
+        ensures hand { self.new.hand ≡ Free }
+        ensures going { self.new.failed ≡ false }
+        ensures told { IfOk result (λ found. IfSome found (λ fronts. AreTold T.below
+            (dataflow_of self.new.known) (state_left T.below T.least self.new.known) fronts.items)) }
+        ensures refused { IfErr result (λ refusal. refusal ≡ OutOfMemory) }
+    {
+        let ports = ports_of(alloc, &self.plan)?;
+        find_fronts(&mut self.actor, ports.as_slice())
+    }
+
+    // Tidies the desk, when the ports have these frontiers. With an overflow the worker fails.
+    pub(crate) fn tidy_desk(
+        &mut self,
+        alloc: Global,
+        fronts: &[Antichain<T>],
+        fuel: u64,
+    ) -> Result<bool, Refusal>
+        requires going { self.old.failed ≡ false }
+        requires free { self.old.hand ≡ Free }
+        requires told { AreTold T.below (dataflow_of self.old.known)
+            (state_left T.below T.least self.old.known) fronts.now }
         ensures known { self.new.known ≡ self.old.known }
-        ensures hand { self.new.hand ≡ self.old.hand }
+        ensures hand { self.new.hand ≡ Free }
         ensures going { OnOk result (self.new.failed ≡ false) }
         ensures tidy { IfOk result (λ done. done ≡ true → IsTidyFor T.below T.least self.new) }
         ensures refused { IfErr result (HasStopped T.below T.least T.cmp self.new) }
     {
         self.actor.known();
-        match self.desk.tidy(alloc, &self.plan, &self.hand, fuel) {
+        match self.desk.tidy(alloc, &self.plan, fronts, fuel) {
             Ok(done) => Ok(done),
             Err(refusal) => {
                 self.failed = is_overflow(refusal);

@@ -4,6 +4,6 @@ use Rattle.desk.proofs.desk.Desk.settle_all.Given as goal
 
 -- the arrangements so far are settled, if nothing was left to do there
 abbrev pub invariant-loop-n : goal.invariant-loop-n
-invariant-loop-n g l = LeadsOn g.T.PartialOrder.below g.T.Lattice.joined g.T.Minimum.least l.plan l.fn.self l.self
-    × (l.done ≡ true → (m : ℕ) → m < l.n → IsSettledAt l.plan l.self g.T.PartialOrder.below m)
-    × (((m : ℕ) → IsFollowed l.plan l.fn.self m) → (m : ℕ) → IsFollowed l.plan l.self m)
+invariant-loop-n g l = LeadsOn g.T.PartialOrder.below g.T.Lattice.joined g.T.Minimum.least l.plan l.fronts l.fn.self l.self
+    × (l.done ≡ true → (m : ℕ) → m < l.n → IsSettledAt l.plan l.fronts l.self g.T.PartialOrder.below m)
+    × (((m : ℕ) → IsFollowed l.plan l.fronts l.fn.self m) → (m : ℕ) → IsFollowed l.plan l.fronts l.self m)

@@ -1,7 +1,7 @@
 use Rattle.std.proofs.Common.{rules, ◌≡◌, Some, slice_get, set, sym, ap, subst, ◌∙◌}
 use Rattle.update.specs.Refusals.{IsMemoryOrOverflow}
 use Rattle.desk_laws.specs.Own.{DeskView}
-use Rattle.desk.specs.Tidying.{IsTooLargeOn}
+use Rattle.desk.specs.Tidying.{IsLevel, IsTooLargeOn}
 use Rattle.desk.proofs.ResultLemmas.{if_err_from, memory_or}
 use Rattle.desk.proofs.SettleLemmas.{followed_settled, leads_settled, merge_large, others_settled, settled_by, there_to_settle}
 use Rattle.desk.proofs.desk.Desk.settle_node.Goals as goal
@@ -13,12 +13,16 @@ settle_at-requires g c =
     let below = g.T.PartialOrder.below in
     let joined = g.T.Lattice.joined in
     let least = g.T.Minimum.least in
+    let order = g.met.T.PartialOrder.order in
     let plan = c.args.plan.now in
+    let fronts = c.args.fronts.now in
+    let level = c.in_ok-level-in-Arrange.level in
+    let is_level : IsLevel fronts c.args.self.now.reductions c.args.node below plan level = c.in_ok-level-in-Arrange.ensures.level in
     let n = c.args.node in
     let at = sym c.node.ensures ∙ c.in-Arrange.is in
-    let t = there_to_settle below joined least plan c.args.self.now n c.requires.within c.in-Arrange.source c.in-Arrange.key at c.requires.may in
+    let t = there_to_settle below joined least order plan fronts c.args.self.now n c.requires.within c.in-Arrange.source c.in-Arrange.key at c.requires.may level is_level in
     let own = subst (λ (x : DeskView g.row.T.Denot). slice_get x.arrangements n ≡ Some (Some t.0)) (sym c.self.view_is) t.1 in
-    (search rules, (t.0, own))
+    (search rules, (t.0, own, t.2))
 
 pub returns-in-Arrange-clause-leads : goal.returns-in-Arrange-clause-leads
 returns-in-Arrange-clause-leads g c =
@@ -27,15 +31,19 @@ returns-in-Arrange-clause-leads g c =
     let below = g.T.PartialOrder.below in
     let joined = g.T.Lattice.joined in
     let least = g.T.Minimum.least in
+    let order = g.met.T.PartialOrder.order in
     let plan = c.args.plan.now in
+    let fronts = c.args.fronts.now in
+    let level = c.in_ok-level-in-Arrange.level in
+    let is_level : IsLevel fronts c.args.self.now.reductions c.args.node below plan level = c.in_ok-level-in-Arrange.ensures.level in
     let n = c.args.node in
     let at = sym c.node.ensures ∙ c.in-Arrange.is in
-    let t = there_to_settle below joined least plan c.args.self.now n c.requires.within c.in-Arrange.source c.in-Arrange.key at c.requires.may in
+    let t = there_to_settle below joined least order plan fronts c.args.self.now n c.requires.within c.in-Arrange.source c.in-Arrange.key at c.requires.may level is_level in
     let own = subst (λ (x : DeskView g.row.T.Denot). slice_get x.arrangements n ≡ Some (Some t.0)) (sym c.self.view_is) t.1 in
     let m = c.settle_at.ensures.settled t.0 own in
     let is = (λ i. record d { arrangements = m.1 i }) ∙ ap (λ (z : DeskView g.row.T.Denot). record z { arrangements = set z.arrangements n (Some m.0) }) c.self.view_is in
     let now : DeskView g.row.T.Denot = record d { arrangements = c.settle_at.new.arrangements.items } in
-    leads_settled below joined least plan c.args.self.now n now t.0 m.0 t.1 is m.2
+    leads_settled below joined least order plan fronts c.args.self.now n now level is_level t.0 m.0 t.1 is m.2
 
 pub returns-in-Arrange-clause-settled : goal.returns-in-Arrange-clause-settled
 returns-in-Arrange-clause-settled g c =
@@ -44,15 +52,19 @@ returns-in-Arrange-clause-settled g c =
     let below = g.T.PartialOrder.below in
     let joined = g.T.Lattice.joined in
     let least = g.T.Minimum.least in
+    let order = g.met.T.PartialOrder.order in
     let plan = c.args.plan.now in
+    let fronts = c.args.fronts.now in
+    let level = c.in_ok-level-in-Arrange.level in
+    let is_level : IsLevel fronts c.args.self.now.reductions c.args.node below plan level = c.in_ok-level-in-Arrange.ensures.level in
     let n = c.args.node in
     let at = sym c.node.ensures ∙ c.in-Arrange.is in
-    let t = there_to_settle below joined least plan c.args.self.now n c.requires.within c.in-Arrange.source c.in-Arrange.key at c.requires.may in
+    let t = there_to_settle below joined least order plan fronts c.args.self.now n c.requires.within c.in-Arrange.source c.in-Arrange.key at c.requires.may level is_level in
     let own = subst (λ (x : DeskView g.row.T.Denot). slice_get x.arrangements n ≡ Some (Some t.0)) (sym c.self.view_is) t.1 in
     let m = c.settle_at.ensures.settled t.0 own in
     let is = (λ i. record d { arrangements = m.1 i }) ∙ ap (λ (z : DeskView g.row.T.Denot). record z { arrangements = set z.arrangements n (Some m.0) }) c.self.view_is in
     let now : DeskView g.row.T.Denot = record d { arrangements = c.settle_at.new.arrangements.items } in
-    settled_by below joined least plan c.args.self.now n now t.0 m.0 t.1 is m.2 c.settle_at.result m.3 m.4
+    settled_by below joined least order plan fronts c.args.self.now n now level is_level t.0 m.0 t.1 is m.2 c.settle_at.result m.3 m.4
 
 pub returns-in-Arrange-clause-others : goal.returns-in-Arrange-clause-others
 returns-in-Arrange-clause-others g c =
@@ -61,15 +73,19 @@ returns-in-Arrange-clause-others g c =
     let below = g.T.PartialOrder.below in
     let joined = g.T.Lattice.joined in
     let least = g.T.Minimum.least in
+    let order = g.met.T.PartialOrder.order in
     let plan = c.args.plan.now in
+    let fronts = c.args.fronts.now in
+    let level = c.in_ok-level-in-Arrange.level in
+    let is_level : IsLevel fronts c.args.self.now.reductions c.args.node below plan level = c.in_ok-level-in-Arrange.ensures.level in
     let n = c.args.node in
     let at = sym c.node.ensures ∙ c.in-Arrange.is in
-    let t = there_to_settle below joined least plan c.args.self.now n c.requires.within c.in-Arrange.source c.in-Arrange.key at c.requires.may in
+    let t = there_to_settle below joined least order plan fronts c.args.self.now n c.requires.within c.in-Arrange.source c.in-Arrange.key at c.requires.may level is_level in
     let own = subst (λ (x : DeskView g.row.T.Denot). slice_get x.arrangements n ≡ Some (Some t.0)) (sym c.self.view_is) t.1 in
     let m = c.settle_at.ensures.settled t.0 own in
     let is = (λ i. record d { arrangements = m.1 i }) ∙ ap (λ (z : DeskView g.row.T.Denot). record z { arrangements = set z.arrangements n (Some m.0) }) c.self.view_is in
     let now : DeskView g.row.T.Denot = record d { arrangements = c.settle_at.new.arrangements.items } in
-    others_settled below joined least plan c.args.self.now n now t.0 m.0 t.1 is m.2
+    others_settled below joined least order plan fronts c.args.self.now n now level is_level t.0 m.0 t.1 is m.2
 
 pub returns-in-Arrange-clause-followed : goal.returns-in-Arrange-clause-followed
 returns-in-Arrange-clause-followed g c =
@@ -78,15 +94,19 @@ returns-in-Arrange-clause-followed g c =
     let below = g.T.PartialOrder.below in
     let joined = g.T.Lattice.joined in
     let least = g.T.Minimum.least in
+    let order = g.met.T.PartialOrder.order in
     let plan = c.args.plan.now in
+    let fronts = c.args.fronts.now in
+    let level = c.in_ok-level-in-Arrange.level in
+    let is_level : IsLevel fronts c.args.self.now.reductions c.args.node below plan level = c.in_ok-level-in-Arrange.ensures.level in
     let n = c.args.node in
     let at = sym c.node.ensures ∙ c.in-Arrange.is in
-    let t = there_to_settle below joined least plan c.args.self.now n c.requires.within c.in-Arrange.source c.in-Arrange.key at c.requires.may in
+    let t = there_to_settle below joined least order plan fronts c.args.self.now n c.requires.within c.in-Arrange.source c.in-Arrange.key at c.requires.may level is_level in
     let own = subst (λ (x : DeskView g.row.T.Denot). slice_get x.arrangements n ≡ Some (Some t.0)) (sym c.self.view_is) t.1 in
     let m = c.settle_at.ensures.settled t.0 own in
     let is = (λ i. record d { arrangements = m.1 i }) ∙ ap (λ (z : DeskView g.row.T.Denot). record z { arrangements = set z.arrangements n (Some m.0) }) c.self.view_is in
     let now : DeskView g.row.T.Denot = record d { arrangements = c.settle_at.new.arrangements.items } in
-    followed_settled below joined least plan c.args.self.now n now t.0 m.0 t.1 is m.2 c.requires.may
+    followed_settled below joined least order plan fronts c.args.self.now n now level is_level t.0 m.0 t.1 is m.2 c.requires.may
 
 pub returns-in-Arrange-clause-refused : goal.returns-in-Arrange-clause-refused
 returns-in-Arrange-clause-refused g c =
@@ -95,9 +115,13 @@ returns-in-Arrange-clause-refused g c =
     let below = g.T.PartialOrder.below in
     let joined = g.T.Lattice.joined in
     let least = g.T.Minimum.least in
+    let order = g.met.T.PartialOrder.order in
     let plan = c.args.plan.now in
+    let fronts = c.args.fronts.now in
+    let level = c.in_ok-level-in-Arrange.level in
+    let is_level : IsLevel fronts c.args.self.now.reductions c.args.node below plan level = c.in_ok-level-in-Arrange.ensures.level in
     let n = c.args.node in
     let at = sym c.node.ensures ∙ c.in-Arrange.is in
-    let t = there_to_settle below joined least plan c.args.self.now n c.requires.within c.in-Arrange.source c.in-Arrange.key at c.requires.may in
+    let t = there_to_settle below joined least order plan fronts c.args.self.now n c.requires.within c.in-Arrange.source c.in-Arrange.key at c.requires.may level is_level in
     let own = subst (λ (x : DeskView g.row.T.Denot). slice_get x.arrangements n ≡ Some (Some t.0)) (sym c.self.view_is) t.1 in
-    if_err_from c.settle_at.result _ (IsMemoryOrOverflow (IsTooLargeOn below joined least plan g.T.Ord.cmp c.args.self.now)) (λ e m. memory_or (merge_large below joined least plan c.args.self.now n c.requires.within c.in-Arrange.source c.in-Arrange.key at c.requires.may g.met.T.PartialOrder.order g.T.Ord.cmp t.0 t.1) m) (c.settle_at.ensures.refused t.0 own)
+    if_err_from c.settle_at.result _ (IsMemoryOrOverflow (IsTooLargeOn below joined least plan fronts g.T.Ord.cmp c.args.self.now)) (λ e m. memory_or (merge_large below joined least order plan fronts c.args.self.now n c.requires.within c.in-Arrange.source c.in-Arrange.key at c.requires.may g.T.Ord.cmp t.0 t.1) m) (c.settle_at.ensures.refused t.0 own)

@@ -1,0 +1,88 @@
+-- The frontiers of ports that one look finds.
+use Rattle.std.proofs.Common.{◌≡◌, ◌⊎◌, ℕ, zero, suc, ◌+◌, ◌<◌, Bool, true, false, eqb, List, [], ◌∷◌, ◌++◌, length, Option, Some, None, inl, inr, refl, sym, ap, ◌∙◌, subst, arith}
+use Rattle.std.specs.Prelude.{IfSome}
+use Rattle.std.specs.List.{slice_get}
+use Rattle.std.proofs.lemmas.Bool.{eqb-false, eqb-true}
+use Rattle.lattice.specs.Order.{PartialOrderLaws}
+use Rattle.lattice.specs.Frontiers.{is_beyond}
+use Rattle.hub.specs.Known.{Known}
+use Rattle.histories.specs.declared.event.Event.TheVariants.{Look}
+use Rattle.histories.specs.declared.event.Site.{Site}
+use Rattle.histories.specs.Histories.Dataflows.{Dataflow}
+use Rattle.histories.specs.Histories.Outstanding.{port_frontier}
+use Rattle.histories.specs.Histories.States.{State}
+use Rattle.shared_board.specs.declared.event.Doing.{Doing}
+use Rattle.shared_board.specs.Found.{AreFrontsFound, dataflow_of}
+use Rattle.shared_board.specs.Ports.{AreFrontsOf}
+use Rattle.shared_board.specs.Tenures.{Adds, IsActor, state_left}
+use Rattle.desk.specs.Tidying.{AreTold, front_in}
+use Rattle.steps.specs.Steps.{ArePorts, LooksAtMost}
+use Rattle.steps.proofs.TenureLemmas.{tenure_of}
+
+-- ---- a list of two ports for each node
+
+-- two places more
+get_before : {A : Type 0} (xs : List A) (a b : A) (i : ℕ) → i < length xs → slice_get ((xs ++ a ∷ []) ++ b ∷ []) i ≡ slice_get xs i
+get_before [] a b i l = absurd (omega (arith, l))
+get_before (x ∷ xs) a b zero l = refl
+get_before (x ∷ xs) a b (suc i) l = get_before xs a b i (omega (arith, l))
+
+get_first : {A : Type 0} (xs : List A) (a b : A) → slice_get ((xs ++ a ∷ []) ++ b ∷ []) (length xs) ≡ Some a
+get_first [] a b = refl
+get_first (x ∷ xs) a b = get_first xs a b
+
+get_second : {A : Type 0} (xs : List A) (a b : A) → slice_get ((xs ++ a ∷ []) ++ b ∷ []) (suc (length xs)) ≡ Some b
+get_second [] a b = refl
+get_second (x ∷ xs) a b = get_second xs a b
+
+pub two_longer : {A : Type 0} (xs : List A) (a b : A) → length ((xs ++ a ∷ []) ++ b ∷ []) ≡ suc (suc (length xs))
+two_longer [] a b = refl
+two_longer (x ∷ xs) a b = ap suc (two_longer xs a b)
+
+-- the two ports of one node more
+pub ports_next : (n : ℕ) (ports : List Site) (a b : Site) → length ports ≡ n + n → ArePorts n ports → a.node ≡ n → a.port ≡ 0 → b.node ≡ n → b.port ≡ 1 → ArePorts (n + 1) ((ports ++ a ∷ []) ++ b ∷ [])
+ports_next n ports a b len before an ap0 bn bp m port l few = by (eqb m n) refl
+  where
+    last : (k : ℕ) → k < 2 → m ≡ n → port ≡ k → (site : Site) × (slice_get ((ports ++ a ∷ []) ++ b ∷ []) (m + (m + port)) ≡ Some site) × (site.node ≡ m) × (site.port ≡ port)
+    last zero f e p = (
+      a,
+      ap (slice_get ((ports ++ a ∷ []) ++ b ∷ [])) (omega (arith, e, p, len)) ∙ get_first ports a b,
+      an ∙ sym e,
+      ap0 ∙ sym p,
+    )
+    last (suc zero) f e p = (
+      b,
+      ap (slice_get ((ports ++ a ∷ []) ++ b ∷ [])) (omega (arith, e, p, len)) ∙ get_second ports a b,
+      bn ∙ sym e,
+      bp ∙ sym p,
+    )
+    last (suc (suc k)) f e p = absurd (omega (arith, f))
+
+    by : (e : Bool) → eqb m n ≡ e → (site : Site) × (slice_get ((ports ++ a ∷ []) ++ b ∷ []) (m + (m + port)) ≡ Some site) × (site.node ≡ m) × (site.port ≡ port)
+    by true e = last port few (eqb-true m n e) refl
+    by false e =
+        let less : m < n = let far = eqb-false m n e in omega (arith, l, far) in
+        let s = before m port less few in
+        (s.0, get_before ports a b (m + (m + port)) (omega (arith, less, few, len)) ∙ s.1, s.2, s.3)
+
+-- ---- what one look finds
+
+-- the list tells the frontiers of all ports
+told_from : {T : Type 0} (below : T → T → Bool) (p : Dataflow) (w : State T) (ports : List Site) (fronts : List (List T)) → ArePorts (length p.nodes) ports → AreFrontsOf below p w ports fronts → AreTold below p w fronts
+told_from {T} below p w ports fronts are found n port within few t =
+    let site = are n port within few in
+    let front = found (n + (n + port)) site.0 site.1 in
+    ap (λ F. is_beyond below (front_in F) t) front.1
+    ∙ (front.2 t ∙ (λ i. is_beyond below (port_frontier below p w (site.2 i) (site.3 i)) t))
+
+module _ {T : Type 0} (below : T → T → Bool) (joined : T → T → T) (minimum : T) (o : PartialOrderLaws below) (old new : Known (Doing T)) (after : IsActor below minimum new) where
+  -- and a look leaves the state as it found it
+  pub told_found : Adds old (Look old.number) new → (ports : List Site) (fronts : List (List T)) → ArePorts (length (dataflow_of old).nodes) ports → AreFrontsFound below minimum old new ports fronts → AreTold below (dataflow_of new) (state_left below minimum new) fronts
+  told_found adds ports fronts are found =
+      let t = tenure_of below joined minimum o old (Look old.number) new after adds in
+      subst (λ (y : Dataflow × State T). AreTold below y.0 y.1 fronts) (λ i. (sym t.same_flow i, sym t.left i)) (told_from below (dataflow_of old) _ ports fronts are found)
+
+-- whether or not the board was there
+pub looks_found : {T : Type 0} (old new : Known (Doing T)) {A : Type 0} (found : Option A) → IfSome found (λ a. Adds old (Look old.number) new) → (found ≡ None → new ≡ old) → LooksAtMost old new
+looks_found old new (Some a) looked busy = inr looked
+looks_found old new None looked busy = inl (busy refl)
