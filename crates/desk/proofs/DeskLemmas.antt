@@ -150,8 +150,8 @@ module _ {T : Type 0} (below : T → T → Bool) (p : Dataflow) (d : DeskView T)
   -- arrangement's own one still serves the reductions
   pub holding_at : (ports : ℕ → ℕ → List T) → ((number : ℕ) → 0 < number → slice_get b.holds number ≡ slice_get a.holds number)
       → ((m : ℕ) (r : ReducingView T) → Reduces p d m n r → (hold : HoldState T) → slice_get a.holds 0 ≡ Some hold → (moved : HoldState T) × (slice_get b.holds 0 ≡ Some moved)
-          × (IsTrue (all_beyond below hold.logical (pending_of r)) → IsTrue (all_beyond below moved.logical (pending_of r)))
-          × (IsTrue (all_beyond below hold.logical (ports m 0)) → IsTrue (all_beyond below moved.logical (ports m 0))))
+      × (IsTrue (all_beyond below hold.logical (pending_of r)) → IsTrue (all_beyond below moved.logical (pending_of r)))
+      × (IsTrue (all_beyond below hold.logical (ports m 0)) → IsTrue (all_beyond below moved.logical (ports m 0))))
       → AreHolding below p d ports → AreHolding below p (with_arrangement n b d) ports
   holding_at ports same own x = record {
     joins = record {
@@ -210,12 +210,12 @@ module _ {T : Type 0} (below : T → T → Bool) (p : Dataflow) (d : DeskView T)
       → ((hold : HoldState T) → slice_get a.holds 0 ≡ Some hold → (moved : HoldState T) × (slice_get b.holds 0 ≡ Some moved) × (moved.logical ≡ hold.logical)) → StayHolding below p d (with_arrangement n b d)
   holding_with same own ports x =
       holding_at ports same (λ m r is hold at.
-          let z = own hold at in (
-            z.0,
-            z.1,
-            (λ apart. subst (λ F. IsTrue (all_beyond below F (pending_of r))) (sym z.2) apart),
-            (λ apart. subst (λ F. IsTrue (all_beyond below F (ports m 0))) (sym z.2) apart),
-          )) x
+      let z = own hold at in (
+        z.0,
+        z.1,
+        (λ apart. subst (λ F. IsTrue (all_beyond below F (pending_of r))) (sym z.2) apart),
+        (λ apart. subst (λ F. IsTrue (all_beyond below F (ports m 0))) (sym z.2) apart),
+      )) x
 
   -- in particular if all of them have
   pub holding_same : b.holds ≡ a.holds → StayHolding below p d (with_arrangement n b d)

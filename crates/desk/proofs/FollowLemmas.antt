@@ -167,8 +167,8 @@ module _ {T : Type 0} (below : T → T → Bool) (joined : T → T → T) (minim
       leads_moved : LeadsOn below joined minimum plan fronts d (with_arrangement s b d)
       leads_moved =
           leads_with below joined minimum d s a b own moved.alike o plan fronts (λ p w nodes told holding.
-              let r = reads_in p plan d n port s reads.0 nodes reads.1 in
-              holding_moved below o p d n port s reads.0 r (port_frontier below p w) holding a b own fronts moved (told_before below o p w fronts told n (other_port port) r.within (other_few port)))
+          let r = reads_in p plan d n port s reads.0 nodes reads.1 in
+          holding_moved below o p d n port s reads.0 r (port_frontier below p w) holding a b own fronts moved (told_before below o p w fronts told n (other_port port) r.within (other_few port)))
 
       here_moved : IsFollowedAt plan fronts (with_arrangement s b d) n port
       here_moved =

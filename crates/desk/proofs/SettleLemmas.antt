@@ -119,7 +119,7 @@ module _ {T : Type 0} (below : T → T → Bool) (joined : T → T → T) (minim
         let now = port_frontier below p w m 0 in (
           subst (λ (place : Option (Option (ReducingView T))). IsTrue (all_beyond below hold.logical (due_in place))) (sym lies.there) (mine a own hold at (pending_of lies.reduction) pends),
           all_beyond_later o hold.logical was (front_of_port fronts m 0) (mine a own hold at was comes)
-          (all_beyond_later o was now (front_of_port fronts m 0) (beyond_reached below o was now (x.right.own.keeping.ports m 0)) (told_after below o p w fronts may.told m 0 l_in (omega arith))),
+              (all_beyond_later o was now (front_of_port fronts m 0) (beyond_reached below o was now (x.right.own.keeping.ports m 0)) (told_after below o p w fronts may.told m 0 l_in (omega arith))),
         )
       where
         -- there is but one hold of a number
@@ -165,8 +165,8 @@ module _ {T : Type 0} (below : T → T → Bool) (joined : T → T → T) (minim
     stays : (p : Dataflow) (w : State T) → p.nodes ≡ plan → AreTold below p w fronts → AreHolding below p d (port_frontier below p w) → AreHolding below p (with_arrangement n b d) (port_frontier below p w)
     stays p w nodes told =
         holding_at below p d n a b own (port_frontier below p w) settled.readers (λ m r reads hold at. ⊎_elim
-            (λ same. (hold, same ∙ at, (λ apart. apart), (λ apart. apart)))
-            (λ risen. let both = serves_level p w nodes told m r reads in (record { logical = level; physical = upper_of b.spine }, risen, (λ apart. both.0), (λ apart. both.1))) settled.own)
+        (λ same. (hold, same ∙ at, (λ apart. apart), (λ apart. apart)))
+        (λ risen. let both = serves_level p w nodes told m r reads in (record { logical = level; physical = upper_of b.spine }, risen, (λ apart. both.0), (λ apart. both.1))) settled.own)
 
     pub leads_settled : LeadsOn below joined minimum plan fronts d c
     leads_settled = subst (LeadsOn below joined minimum plan fronts d) (sym is) (leads_with below joined minimum d n a b own settled.alike o plan fronts stays)

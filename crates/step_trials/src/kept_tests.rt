@@ -113,7 +113,9 @@ fn a_join_keeps_apart_what_its_other_side_may_need(rt: HostRuntime) -> Result<()
     assert!(rt; worker.tidy(alloc, u64::MAX)?);
     assert_eq!(rt; worker.kept(on_right), 1);
     assert_eq!(rt; worker.kept(on_left), 1);
-    let rows = client.read(&rt, NodeId::new(5), at((99, 0)))?.to_string(alloc)?;
+    let rows = client
+        .read(&rt, NodeId::new(5), at((99, 0)))?
+        .to_string(alloc)?;
     assert_eq!(rt; rows.as_str(), "10000 1 5 6\n");
     Ok(())
 }

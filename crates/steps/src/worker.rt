@@ -173,7 +173,10 @@ impl<T: Minimum, P: BoardProtocol<T>> Worker<T, P> {
 
     // The frontiers of all ports, two for each node, as they are on the board now; `None` if another
     // actor has it. With nothing in hand.
-    pub(crate) fn find_fronts(&mut self, alloc: Global) -> Result<Option<Vec<Antichain<T>>>, Refusal>
+    pub(crate) fn find_fronts(
+        &mut self,
+        alloc: Global,
+    ) -> Result<Option<Vec<Antichain<T>>>, Refusal>
         requires going { self.old.failed ≡ false }
         requires free { self.old.hand ≡ Free }
         ensures known { LooksAtMost self.old.known self.new.known }
