@@ -1,5 +1,6 @@
 -- The frontiers of ports, as a worker was told them: what is beyond the one is beyond the other.
-use Rattle.std.proofs.Common.{◌≡◌, ℕ, zero, suc, ◌<◌, Bool, List, length, IsTrue, sym, ◌∙◌, arith}
+use Rattle.std.proofs.Common.{◌≡◌, ℕ, zero, suc, ◌+◌, ◌<◌, ◌≤◌, Bool, List, [], ◌∷◌, length, get_or, None, IsTrue, refl, sym, ap, ◌∙◌, arith}
+use Rattle.std.specs.List.{slice_get}
 use Rattle.lattice.specs.Order.{PartialOrderLaws}
 use Rattle.lattice.specs.Frontiers.{all_beyond}
 use Rattle.lattice.proofs.FrontierLemmas.{all_beyond_from}
@@ -7,7 +8,8 @@ use Rattle.histories.specs.Histories.Dataflows.{Dataflow}
 use Rattle.histories.specs.Histories.Outstanding.{port_frontier}
 use Rattle.histories.specs.Histories.States.{State}
 use Rattle.desk_laws.specs.Own.{other_port}
-use Rattle.desk.specs.Tidying.{AreTold, front_of_port}
+use Rattle.desk.specs.Tidying.{AreTold, front_in, front_of_port}
+use Rattle.desk.proofs.PlaceLemmas.{read_at}
 
 -- the other port of a join is one of two
 pub other_few : (port : ℕ) → other_port port < 2
@@ -20,3 +22,17 @@ module _ {T : Type 0} (below : T → T → Bool) (o : PartialOrderLaws below) (p
 
   pub told_before : IsTrue (all_beyond below (front_of_port fronts n port) (port_frontier below p w n port))
   told_before = all_beyond_from o (front_of_port fronts n port) (port_frontier below p w n port) (λ t b. told n port within few t ∙ b)
+
+-- ---- a list with two frontiers for each node
+
+none_behind : {A : Type 0} (xs : List A) (i : ℕ) → length xs ≤ i → slice_get xs i ≡ None
+none_behind [] i l = refl
+none_behind (x ∷ xs) zero l = absurd (omega (arith, l))
+none_behind (x ∷ xs) (suc i) l = none_behind xs i (omega (arith, l))
+
+module _ {T : Type 0} (fronts : List (List T)) (n port i : ℕ) (same : i ≡ n + (n + port)) where
+  pub front_read : (F : List T) → i < length fronts → F ≡ get_or fronts i F → F ≡ front_of_port fronts n port
+  front_read F l e = sym (ap front_in (ap (slice_get fronts) (sym same) ∙ read_at fronts i i F refl l e))
+
+  pub front_none : length fronts ≤ i → [] ≡ front_of_port fronts n port
+  front_none l = sym (ap front_in (ap (slice_get fronts) (sym same) ∙ none_behind fronts i l))

@@ -1,7 +1,7 @@
 -- The level up to which an arrangement serves the reductions that read it.
-use Rattle.std.proofs.Common.{◌≡◌, ℕ, zero, suc, ◌+◌, ◌<◌, ◌≤◌, Bool, true, false, ◌||◌, eqb, cond, List, [], ◌++◌, length, Option, IsTrue, refl, sym, ap, ◌∙◌, subst, arith}
-use Rattle.std.specs.List.{list_all, slice_get}
-use Rattle.std.proofs.lemmas.Bool.{and_from, eqb-false, eqb-true, ne_eqb, or_left, or_right}
+use Rattle.std.proofs.Common.{◌≡◌, ℕ, zero, suc, ◌+◌, ◌<◌, ◌≤◌, Bool, true, false, not, ◌||◌, eqb, cond, List, [], ◌++◌, length, Option, IsTrue, refl, sym, ap, ◌∙◌, subst, arith, true≢false}
+use Rattle.std.specs.List.{slice_get}
+use Rattle.std.proofs.lemmas.Bool.{and_from, eq-eqb, eqb-false, eqb-true, ne_eqb, or_left, or_right}
 use Rattle.std.proofs.lemmas.List.Folds.{list_all-append, list_any-append}
 use Rattle.lattice.specs.Order.{PartialOrderLaws}
 use Rattle.lattice.specs.Frontiers.{all_beyond, is_beyond}
@@ -23,6 +23,21 @@ both_ways true b f g = sym (f refl)
 both_ways false true f g = g refl
 both_ways false false f g = refl
 
+-- what the test of a node's source says
+pub same_source : (from source : ℕ) (b : Bool) → b ≡ not (eqb from source) → b ≡ false → from ≡ source
+same_source from source b is e = eqb-true from source (by (eqb from source) (sym is ∙ e))
+  where
+    by : (c : Bool) → not c ≡ false → c ≡ true
+    by true f = refl
+    by false f = absurd (true≢false f)
+
+pub other_source : (from source : ℕ) (b : Bool) → b ≡ not (eqb from source) → b ≡ true → eqb from source ≡ false
+other_source from source b is e = by (eqb from source) (sym is ∙ e)
+  where
+    by : (c : Bool) → not c ≡ true → c ≡ false
+    by true f = absurd (true≢false (sym f))
+    by false f = refl
+
 or_none : (b : Bool) → b ≡ (b || false)
 or_none true = refl
 or_none false = refl
@@ -43,15 +58,16 @@ module _ {T : Type 0} (below : T → T → Bool) (fronts : List (List T)) (reduc
   none_due n other far = refl
 
   some_due : (n : ℕ) (node : Node) (kind : Kind) → node ≡ Reduce kind source → due n node ≡ due_in (slice_get reductions n) ++ front_of_port fronts n 0
-  some_due n node kind e = ap (due n) e ∙ ap (λ b. cond b (due_in (slice_get reductions n) ++ front_of_port fronts n 0) []) (same source)
-    where
-      same : (k : ℕ) → eqb k k ≡ true
-      same zero = refl
-      same (suc k) = same k
+  some_due n node kind e = ap (due n) e ∙ ap (λ b. cond b (due_in (slice_get reductions n) ++ front_of_port fronts n 0) []) (eq-eqb source source refl)
 
   pub nothing_put : (n : ℕ) (node : Node) (L : List T) → ((kind : Kind) (from : ℕ) → node ≡ Reduce kind from → from ≡ source → ⊥)
       → (t : T) → is_beyond below L t ≡ (is_beyond below L t || is_beyond below (due n node) t)
   nothing_put n node L far t = or_none (is_beyond below L t) ∙ ap (λ F. is_beyond below L t || is_beyond below F t) (sym (none_due n node far))
+
+  pub other_put : (n : ℕ) (node : Node) (kind : Kind) (from : ℕ) → node ≡ Reduce kind from → eqb from source ≡ false → (L : List T) → (t : T) → is_beyond below L t ≡ (is_beyond below L t || is_beyond below (due n node) t)
+  other_put n node kind from e far L t =
+      or_none (is_beyond below L t)
+      ∙ ap (λ F. is_beyond below L t || is_beyond below F t) (sym (ap (due n) e ∙ ap (λ b. cond b (due_in (slice_get reductions n) ++ front_of_port fronts n 0) []) far))
 
   -- what is held stands for what is pending
   held_same : PartialOrderLaws below → (held ts : List T) → IsHeldFor below held ts → (t : T) → is_beyond below held t ≡ is_beyond below ts t
@@ -76,10 +92,16 @@ module _ {T : Type 0} (below : T → T → Bool) (fronts : List (List T)) (reduc
     abbrev before : ℕ → List T
     before = due_before fronts reductions source plan
 
+    -- before the first node there are none
+    pub none_before : (t : T) → is_beyond below [] t ≡ is_beyond below (before 0) t
+    unfolding due_before
+    none_before t = refl
+
     -- one node more
     pub due_next : (n node : ℕ) → node ≡ n → (L M : List T) → ((t : T) → is_beyond below L t ≡ is_beyond below (before n) t)
         → ((t : T) → is_beyond below M t ≡ (is_beyond below L t || is_beyond below (due node (node_at plan node)) t))
         → (t : T) → is_beyond below M t ≡ is_beyond below (before (n + 1)) t
+    unfolding due_before
     due_next n node same L M so_far more t =
         more t
         ∙ ((λ i. so_far t i || is_beyond below (due (same i) (node_at plan (same i))) t)
@@ -87,12 +109,13 @@ module _ {T : Type 0} (below : T → T → Bool) (fronts : List (List T)) (reduc
 
     -- the times of a node are among those of all
     among : (n m : ℕ) → n < m → (t : T) → is_beyond below (due n (node_at plan n)) t ≡ true → is_beyond below (before m) t ≡ true
+    unfolding due_before
     among n zero l t b = absurd (omega (arith, l))
-    among n (suc m) l t b = list_any-append (λ f. below f t) (before m) (due m (node_at plan m)) ∙ by (eqb n m) refl
+    among n (suc m) l t b = list_any-append (λ f. below f t) (before m) (due m (node_at plan m)) ∙ by (λ k. among n m k t b) (eqb n m) refl
       where
-        by : (e : Bool) → eqb n m ≡ e → (is_beyond below (before m) t || is_beyond below (due m (node_at plan m)) t) ≡ true
-        by true e = or_right (is_beyond below (before m) t) _ (subst (λ k. is_beyond below (due k (node_at plan k)) t ≡ true) (eqb-true n m e) b)
-        by false e = or_left _ _ (among n m (let far = eqb-false n m e in omega (arith, l, far)) t b)
+        by : (n < m → is_beyond below (before m) t ≡ true) → (e : Bool) → eqb n m ≡ e → (is_beyond below (before m) t || is_beyond below (due m (node_at plan m)) t) ≡ true
+        by older true e = or_right (is_beyond below (before m) t) _ (subst (λ k. is_beyond below (due k (node_at plan k)) t ≡ true) (eqb-true n m e) b)
+        by older false e = or_left _ _ (older (let far = eqb-false n m e in omega (arith, l, far)))
 
     -- what serves the reductions has all of them beyond it
     served : (F : List T) → ServesReductions fronts reductions source below plan F → (n : ℕ) → n < length plan → (node : Node) → node_at plan n ≡ node → IsTrue (all_beyond below F (due n node))
@@ -106,6 +129,7 @@ module _ {T : Type 0} (below : T → T → Bool) (fronts : List (List T)) (reduc
     served F h n l other e = refl
 
     all_served : (F : List T) → ServesReductions fronts reductions source below plan F → (m : ℕ) → m ≤ length plan → IsTrue (all_beyond below F (before m))
+    unfolding due_before
     all_served F h zero l = refl
     all_served F h (suc m) l =
         list_all-append (is_beyond below F) (before m) (due m (node_at plan m))

@@ -22,7 +22,6 @@ use Rattle.histories.specs.Histories.Outstanding.{port_frontier}
 use Rattle.histories.specs.Histories.Promises.{changes_in}
 use Rattle.histories.specs.Histories.States.{State}
 use Rattle.operator.specs.Arrangements.{ArrangementState, IsArrangement, IsOpen, upper_of}
-use Rattle.operator.specs.Joins.{JoiningView}
 use Rattle.operator.specs.Reductions.{ReducingView, pending_of}
 use Rattle.operator_laws.specs.Working.{IsWorkingAt}
 use Rattle.shared_board.specs.Large.{HasNoSmallBound}

@@ -1,6 +1,6 @@
 -- What is left when a desk was tidied: where the holds are, and what was merged.
 use Rattle.trace.specs.Holds.{HoldState}
-use Rattle.std.specs.Prelude.{◌≡◌, ℕ, zero, suc, ◌<◌, Bool, true, eqb, if◌then◌else◌, List, [], ◌++◌, Some, None, length, set, slice_get, Option, ◌+◌, ◌^◌, ◌-◌, ◌⊎◌, min, IsTrue}
+use Rattle.std.specs.Prelude.{◌≡◌, ℕ, zero, suc, ◌<◌, Bool, eqb, if◌then◌else◌, List, [], ◌++◌, Some, None, length, set, slice_get, Option, ◌+◌, ◌^◌, ◌-◌, ◌⊎◌, min, IsTrue}
 use Rattle.std.specs.declared.cmp.Ordering.{Ordering}
 use Rattle.lattice.specs.Frontiers.{all_beyond, is_beyond}
 use Rattle.plan.specs.Nodes.{node_at}
@@ -39,7 +39,7 @@ module _ {T : Type 0} where
   -- ---- the frontiers of ports
 
   -- the frontier of a port, of a list with two for each node
-  pub front_in : Option (List T) → List T
+  abbrev pub front_in : Option (List T) → List T
   front_in (Some front) = front
   front_in None = []
 
@@ -100,12 +100,12 @@ module _ {T : Type 0} where
 
   module _ (fronts : List (List T)) (reductions : List (Option (ReducingView T))) (source : ℕ) where
     -- the times at which the reduction of a node has yet to answer, or may have to, if it reads the source
-    due_for : ℕ → Node → List T
+    abbrev pub due_for : ℕ → Node → List T
     due_for n (Reduce kind from) = if eqb from source then due_in (slice_get reductions n) ++ front_of_port fronts n 0 else []
     due_for n other = []
 
     -- those of the nodes before this one
-    due_before : List Node → ℕ → List T
+    unfoldable pub due_before : List Node → ℕ → List T
     due_before plan zero = []
     due_before plan (suc n) = due_before plan n ++ due_for n (node_at plan n)
 

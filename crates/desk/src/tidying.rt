@@ -290,13 +290,11 @@ impl<T: Minimum> Desk<T> {
         ensures refused { IfErr result (IsMemoryOrOverflow
             (IsTooLargeOn T.below T.joined T.least plan.now fronts.now T.cmp self.old)) }
     {
-        match plan.node(node) {
-            Node::Arrange { .. } => {
-                let level = self.level(alloc, plan, fronts, node)?;
-                settle_at(alloc, &mut self.arrangements, node, &level, fuel)
-            }
-            _ => Ok(true),
-        }
+        let Node::Arrange { .. } = plan.node(node) else {
+            return Ok(true);
+        };
+        let level = self.level(alloc, plan, fronts, node)?;
+        settle_at(alloc, &mut self.arrangements, node, &level, fuel)
     }
 
     // Settles all arrangements.

@@ -11,9 +11,7 @@ use Rattle.histories.specs.Histories.Dataflows.{Dataflow, node_of}
 use Rattle.histories.specs.Histories.Outstanding.{port_frontier}
 use Rattle.histories.specs.Histories.Promises.{NeverGoesBack}
 use Rattle.histories.specs.Histories.States.{State}
-use Rattle.operator.specs.Joins.{JoiningView}
-use Rattle.operator.specs.Reductions.{ReducingView}
-use Rattle.desk_laws.specs.Own.{AreHolding, DeskView, HasCome, IsHandOn, IsMergedAt, IsOwn, Keeps, ReadsAt, Reduces, StayHolding, gathered_in, hold_at, in_hand_at, other_port, waits_on}
+use Rattle.desk_laws.specs.Own.{AreHolding, DeskView, HasCome, IsHandOn, IsMergedAt, IsOwn, Keeps, StayHolding, gathered_in, in_hand_at, other_port, waits_on}
 use Rattle.desk_laws.specs.declared.hand.Hand.{Hand}
 use Rattle.desk_laws.specs.declared.hand.Hand.TheVariants.{Free, Ready, Sealed, Taken, Turned}
 use Rattle.desk_laws.proofs.KeptLemmas.{at_each, of_each}

@@ -7,7 +7,7 @@ use Rattle.desk.proofs.tidying.move_hold.Goals as goal
 pub advance-requires : goal.advance-requires
 advance-requires g c =
     let may = may_advance g.T.PartialOrder.below g.T.Minimum.least g.met.T.PartialOrder.order c.args.arrangement.now c.args.number c.args.logical.now c.args.boundary.now c.in_ok-logical.logical c.in_ok-boundary.boundary c.in_ok-logical.ensures.is c.in_ok-boundary.ensures.is c.trace-spine.ensures.known c.requires.may in
-    (search rules, may)
+    (search rules, (may.0, (may.1, (may.2, (may.3, may.4)))))
 
 pub returns-clause-moved : goal.returns-clause-moved
 returns-clause-moved g c =

@@ -4,7 +4,7 @@ use Rattle.desk.proofs.SettleLemmas.{is_settled, own_settled}
 use Rattle.desk.proofs.tidying.settle.Goals as goal
 
 pub acknowledge-requires : goal.acknowledge-requires
-acknowledge-requires g c = (search rules, (c.trace-spine.ensures.known.own, c.requires.may, c.in_ok-upper.ensures.is))
+acknowledge-requires g c = (search rules, (c.trace-spine.ensures.known.own, (c.requires.may, c.in_ok-upper.ensures.is)))
 
 pub returns-clause-settled : goal.returns-clause-settled
 returns-clause-settled g c =

@@ -1,11 +1,18 @@
-use Rattle.std.proofs.Common.{rules, ◌≡◌, ℕ, List, Some, slice_get, set, sym, ap, subst, ◌∙◌}
+use Rattle.std.proofs.Common.{rules, arith, ◌≡◌, ℕ, List, Some, slice_get, set, sym, ap, subst, ◌∙◌}
 use Rattle.std.proofs.lemmas.Option.{none-some, same_Some}
 use Rattle.antichain.specs.Antichains.{IsFrontier}
 use Rattle.desk_laws.specs.Own.{DeskView, boundary_at, hold_at, other_port}
 use Rattle.desk.specs.Tidying.{HasMoved, MayMove, front_of_port}
-use Rattle.desk.proofs.PlaceLemmas.{found_at, some_same}
+use Rattle.desk.proofs.PlaceLemmas.{found_at, get_inside, some_same}
 use Rattle.desk.proofs.ResultLemmas.{on_err_by, on_ok_by}
 use Rattle.desk.proofs.desk.Desk.follow.Goals as goal
+
+pub index-requires : goal.index-requires
+index-requires g c =
+    let r = c.requires.may in
+    let there = subst (λ (x : DeskView g.row.T.Denot). slice_get x.joins c.args.node ≡ Some (Some r.0)) (sym c.self.view_is) r.1 in
+    let within = get_inside c.self.inside.joins.items c.args.node (Some r.0) there in
+    omega (arith, within, c.number.ensures, c.self.inside.joins.ok.0)
 
 pub move_hold_at-requires : goal.move_hold_at-requires
 move_hold_at-requires g c =

@@ -6,8 +6,11 @@ pub follow_join-requires : goal.follow_join-requires
 follow_join-requires g c = (
   search rules,
   (
-    may_then g.T.PartialOrder.below g.T.Lattice.joined g.T.Minimum.least c.args.plan.now c.args.fronts.now c.args.self.now c.loop-n.self c.loop-n.invariant.0 c.requires.may,
-    omega (arith, c.loop-n-test.true, c.new.ensures, c.len-n-end.ensures.len),
+    search rules,
+    (
+      may_then g.T.PartialOrder.below g.T.Lattice.joined g.T.Minimum.least c.args.plan.now c.args.fronts.now c.args.self.now c.loop-n.self c.loop-n.invariant.0 c.requires.may,
+      omega (arith, c.loop-n-test.true, c.new.ensures, c.len-n-end.ensures.len),
+    ),
   ),
 )
 

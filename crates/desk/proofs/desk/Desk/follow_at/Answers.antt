@@ -3,13 +3,18 @@ use Rattle.desk.proofs.FollowLemmas.{here_followed, leads_followed, still_follow
 use Rattle.desk.proofs.desk.Desk.follow_at.Goals as goal
 
 pub follow-requires : goal.follow-requires
-follow-requires g c = (
-  search rules,
-  (
-    there_to_follow g.T.PartialOrder.below g.T.Lattice.joined g.T.Minimum.least c.args.plan.now c.args.fronts.now g.met.T.PartialOrder.order c.args.self.now c.args.node c.args.port c.args.source c.requires.may c.requires.reads,
-    (let few = c.known.ensures.few in let within = c.requires.reads.1.within in omega (arith, few, within)),
-  ),
-)
+follow-requires g c =
+    let few = c.known.ensures.few in
+    let within = c.requires.reads.1.within in (
+      search rules,
+      (
+        search rules,
+        (
+          there_to_follow g.T.PartialOrder.below g.T.Lattice.joined g.T.Minimum.least c.args.plan.now c.args.fronts.now g.met.T.PartialOrder.order c.args.self.now c.args.node c.args.port c.args.source c.requires.may c.requires.reads,
+          omega (arith, few, within),
+        ),
+      ),
+    )
 
 pub returns-clause-leads : goal.returns-clause-leads
 returns-clause-leads g c =

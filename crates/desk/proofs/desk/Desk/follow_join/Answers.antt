@@ -6,8 +6,13 @@ use Rattle.desk.proofs.desk.Desk.follow_join.Goals as goal
 
 pub follow_at-requires : goal.follow_at-requires
 follow_at-requires g c =
-    let at = sym c.node.ensures ∙ c.in-Join.is in
-    (search rules, (c.requires.may, reads_left g.T.PartialOrder.below g.T.Lattice.joined g.T.Minimum.least c.args.plan.now c.args.fronts.now c.args.self.now c.args.node c.requires.within c.requires.may c.in-Join.left c.in-Join.right at))
+    let at = sym c.node.ensures ∙ c.in-Join.is in (
+      search rules,
+      (
+        search rules,
+        (c.requires.may, reads_left g.T.PartialOrder.below g.T.Lattice.joined g.T.Minimum.least c.args.plan.now c.args.fronts.now c.args.self.now c.args.node c.requires.within c.requires.may c.in-Join.left c.in-Join.right at),
+      ),
+    )
 
 pub follow_at-requires-in-Join : goal.follow_at-requires-in-Join
 follow_at-requires-in-Join g c =
@@ -18,7 +23,7 @@ follow_at-requires-in-Join g c =
     let fronts = c.args.fronts.now in
     let at = sym c.node.ensures ∙ c.in-Join.is in
     let may : MayTidy below joined least plan fronts c.follow_at.new.self = may_then below joined least plan fronts c.args.self.now c.follow_at.new.self c.follow_at.ensures.leads c.requires.may in
-    (search rules, (may, reads_right below joined least plan fronts c.follow_at.new.self c.args.node c.requires.within may c.in-Join.left c.in-Join.right at))
+    (search rules, (search rules, (may, reads_right below joined least plan fronts c.follow_at.new.self c.args.node c.requires.within may c.in-Join.left c.in-Join.right at)))
 
 pub returns-in_ok-follow_at-in-Join-clause-leads : goal.returns-in_ok-follow_at-in-Join-clause-leads
 returns-in_ok-follow_at-in-Join-clause-leads g c =

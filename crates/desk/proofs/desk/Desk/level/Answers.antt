@@ -1,6 +1,10 @@
-use Rattle.std.proofs.Common.{arith}
-use Rattle.desk.proofs.ServingLemmas.{due_next, is_level}
+use Rattle.std.proofs.Common.{arith, ap, ◌∙◌}
+use Rattle.lattice.specs.Frontiers.{is_beyond}
+use Rattle.desk.proofs.ServingLemmas.{due_next, is_level, none_before}
 use Rattle.desk.proofs.desk.Desk.level.Goals as goal
+
+pub loop-n-init : goal.loop-n-init
+loop-n-init g c t = ap (λ F. is_beyond g.T.PartialOrder.below F t) c.new-level.ensures ∙ none_before g.T.PartialOrder.below c.args.fronts.now c.args.self.now.reductions c.args.source c.args.plan.now t
 
 pub loop-n-preserved : goal.loop-n-preserved
 loop-n-preserved g c =

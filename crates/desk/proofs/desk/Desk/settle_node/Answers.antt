@@ -16,16 +16,16 @@ settle_at-requires g c =
     let order = g.met.T.PartialOrder.order in
     let plan = c.args.plan.now in
     let fronts = c.args.fronts.now in
-    let level = c.in_ok-level-in-Arrange.level in
-    let is_level : IsLevel fronts c.args.self.now.reductions c.args.node below plan level = c.in_ok-level-in-Arrange.ensures.level in
+    let level = c.in_ok-level.level in
+    let is_level : IsLevel fronts c.args.self.now.reductions c.args.node below plan level = c.in_ok-level.ensures.level in
     let n = c.args.node in
     let at = sym c.node.ensures ∙ c.in-Arrange.is in
     let t = there_to_settle below joined least order plan fronts c.args.self.now n c.requires.within c.in-Arrange.source c.in-Arrange.key at c.requires.may level is_level in
     let own = subst (λ (x : DeskView g.row.T.Denot). slice_get x.arrangements n ≡ Some (Some t.0)) (sym c.self.view_is) t.1 in
     (search rules, (t.0, own, t.2))
 
-pub returns-in-Arrange-clause-leads : goal.returns-in-Arrange-clause-leads
-returns-in-Arrange-clause-leads g c =
+pub returns-clause-leads : goal.returns-clause-leads
+returns-clause-leads g c =
     let inside = c.self.inside in
     let d : DeskView g.row.T.Denot = record { gathered = inside.gathered.items; arrangements = inside.arrangements.items; joins = inside.joins.items; reductions = inside.reductions.items } in
     let below = g.T.PartialOrder.below in
@@ -34,8 +34,8 @@ returns-in-Arrange-clause-leads g c =
     let order = g.met.T.PartialOrder.order in
     let plan = c.args.plan.now in
     let fronts = c.args.fronts.now in
-    let level = c.in_ok-level-in-Arrange.level in
-    let is_level : IsLevel fronts c.args.self.now.reductions c.args.node below plan level = c.in_ok-level-in-Arrange.ensures.level in
+    let level = c.in_ok-level.level in
+    let is_level : IsLevel fronts c.args.self.now.reductions c.args.node below plan level = c.in_ok-level.ensures.level in
     let n = c.args.node in
     let at = sym c.node.ensures ∙ c.in-Arrange.is in
     let t = there_to_settle below joined least order plan fronts c.args.self.now n c.requires.within c.in-Arrange.source c.in-Arrange.key at c.requires.may level is_level in
@@ -45,8 +45,8 @@ returns-in-Arrange-clause-leads g c =
     let now : DeskView g.row.T.Denot = record d { arrangements = c.settle_at.new.arrangements.items } in
     leads_settled below joined least order plan fronts c.args.self.now n now level is_level t.0 m.0 t.1 is m.2
 
-pub returns-in-Arrange-clause-settled : goal.returns-in-Arrange-clause-settled
-returns-in-Arrange-clause-settled g c =
+pub returns-clause-settled : goal.returns-clause-settled
+returns-clause-settled g c =
     let inside = c.self.inside in
     let d : DeskView g.row.T.Denot = record { gathered = inside.gathered.items; arrangements = inside.arrangements.items; joins = inside.joins.items; reductions = inside.reductions.items } in
     let below = g.T.PartialOrder.below in
@@ -55,8 +55,8 @@ returns-in-Arrange-clause-settled g c =
     let order = g.met.T.PartialOrder.order in
     let plan = c.args.plan.now in
     let fronts = c.args.fronts.now in
-    let level = c.in_ok-level-in-Arrange.level in
-    let is_level : IsLevel fronts c.args.self.now.reductions c.args.node below plan level = c.in_ok-level-in-Arrange.ensures.level in
+    let level = c.in_ok-level.level in
+    let is_level : IsLevel fronts c.args.self.now.reductions c.args.node below plan level = c.in_ok-level.ensures.level in
     let n = c.args.node in
     let at = sym c.node.ensures ∙ c.in-Arrange.is in
     let t = there_to_settle below joined least order plan fronts c.args.self.now n c.requires.within c.in-Arrange.source c.in-Arrange.key at c.requires.may level is_level in
@@ -66,8 +66,8 @@ returns-in-Arrange-clause-settled g c =
     let now : DeskView g.row.T.Denot = record d { arrangements = c.settle_at.new.arrangements.items } in
     settled_by below joined least order plan fronts c.args.self.now n now level is_level t.0 m.0 t.1 is m.2 c.settle_at.result m.3 m.4
 
-pub returns-in-Arrange-clause-others : goal.returns-in-Arrange-clause-others
-returns-in-Arrange-clause-others g c =
+pub returns-clause-others : goal.returns-clause-others
+returns-clause-others g c =
     let inside = c.self.inside in
     let d : DeskView g.row.T.Denot = record { gathered = inside.gathered.items; arrangements = inside.arrangements.items; joins = inside.joins.items; reductions = inside.reductions.items } in
     let below = g.T.PartialOrder.below in
@@ -76,8 +76,8 @@ returns-in-Arrange-clause-others g c =
     let order = g.met.T.PartialOrder.order in
     let plan = c.args.plan.now in
     let fronts = c.args.fronts.now in
-    let level = c.in_ok-level-in-Arrange.level in
-    let is_level : IsLevel fronts c.args.self.now.reductions c.args.node below plan level = c.in_ok-level-in-Arrange.ensures.level in
+    let level = c.in_ok-level.level in
+    let is_level : IsLevel fronts c.args.self.now.reductions c.args.node below plan level = c.in_ok-level.ensures.level in
     let n = c.args.node in
     let at = sym c.node.ensures ∙ c.in-Arrange.is in
     let t = there_to_settle below joined least order plan fronts c.args.self.now n c.requires.within c.in-Arrange.source c.in-Arrange.key at c.requires.may level is_level in
@@ -87,8 +87,8 @@ returns-in-Arrange-clause-others g c =
     let now : DeskView g.row.T.Denot = record d { arrangements = c.settle_at.new.arrangements.items } in
     others_settled below joined least order plan fronts c.args.self.now n now level is_level t.0 m.0 t.1 is m.2
 
-pub returns-in-Arrange-clause-followed : goal.returns-in-Arrange-clause-followed
-returns-in-Arrange-clause-followed g c =
+pub returns-clause-followed : goal.returns-clause-followed
+returns-clause-followed g c =
     let inside = c.self.inside in
     let d : DeskView g.row.T.Denot = record { gathered = inside.gathered.items; arrangements = inside.arrangements.items; joins = inside.joins.items; reductions = inside.reductions.items } in
     let below = g.T.PartialOrder.below in
@@ -97,8 +97,8 @@ returns-in-Arrange-clause-followed g c =
     let order = g.met.T.PartialOrder.order in
     let plan = c.args.plan.now in
     let fronts = c.args.fronts.now in
-    let level = c.in_ok-level-in-Arrange.level in
-    let is_level : IsLevel fronts c.args.self.now.reductions c.args.node below plan level = c.in_ok-level-in-Arrange.ensures.level in
+    let level = c.in_ok-level.level in
+    let is_level : IsLevel fronts c.args.self.now.reductions c.args.node below plan level = c.in_ok-level.ensures.level in
     let n = c.args.node in
     let at = sym c.node.ensures ∙ c.in-Arrange.is in
     let t = there_to_settle below joined least order plan fronts c.args.self.now n c.requires.within c.in-Arrange.source c.in-Arrange.key at c.requires.may level is_level in
@@ -108,8 +108,8 @@ returns-in-Arrange-clause-followed g c =
     let now : DeskView g.row.T.Denot = record d { arrangements = c.settle_at.new.arrangements.items } in
     followed_settled below joined least order plan fronts c.args.self.now n now level is_level t.0 m.0 t.1 is m.2 c.requires.may
 
-pub returns-in-Arrange-clause-refused : goal.returns-in-Arrange-clause-refused
-returns-in-Arrange-clause-refused g c =
+pub returns-clause-refused : goal.returns-clause-refused
+returns-clause-refused g c =
     let inside = c.self.inside in
     let d : DeskView g.row.T.Denot = record { gathered = inside.gathered.items; arrangements = inside.arrangements.items; joins = inside.joins.items; reductions = inside.reductions.items } in
     let below = g.T.PartialOrder.below in
@@ -118,8 +118,8 @@ returns-in-Arrange-clause-refused g c =
     let order = g.met.T.PartialOrder.order in
     let plan = c.args.plan.now in
     let fronts = c.args.fronts.now in
-    let level = c.in_ok-level-in-Arrange.level in
-    let is_level : IsLevel fronts c.args.self.now.reductions c.args.node below plan level = c.in_ok-level-in-Arrange.ensures.level in
+    let level = c.in_ok-level.level in
+    let is_level : IsLevel fronts c.args.self.now.reductions c.args.node below plan level = c.in_ok-level.ensures.level in
     let n = c.args.node in
     let at = sym c.node.ensures ∙ c.in-Arrange.is in
     let t = there_to_settle below joined least order plan fronts c.args.self.now n c.requires.within c.in-Arrange.source c.in-Arrange.key at c.requires.may level is_level in

@@ -8,7 +8,7 @@ use Rattle.desk.proofs.desk.Desk.tidy.Goals as goal
 
 pub settle_all-requires : goal.settle_all-requires
 settle_all-requires g c =
-    (search rules, may_then g.T.PartialOrder.below g.T.Lattice.joined g.T.Minimum.least c.args.plan.now c.args.fronts.now c.args.self.now c.follow_all.new.self c.follow_all.ensures.leads c.requires.may)
+    (search rules, (search rules, may_then g.T.PartialOrder.below g.T.Lattice.joined g.T.Minimum.least c.args.plan.now c.args.fronts.now c.args.self.now c.follow_all.new.self c.follow_all.ensures.leads c.requires.may))
 
 pub returns-in_err-follow_all : goal.returns-in_err-follow_all
 returns-in_err-follow_all g c =
