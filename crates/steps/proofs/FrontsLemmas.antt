@@ -1,5 +1,5 @@
 -- The frontiers of ports that one look finds.
-use Rattle.std.proofs.Common.{◌≡◌, ◌⊎◌, ℕ, zero, suc, ◌+◌, ◌<◌, Bool, true, false, eqb, List, [], ◌∷◌, ◌++◌, length, Option, Some, None, inl, inr, refl, sym, ap, ◌∙◌, subst, arith}
+use Rattle.std.proofs.Common.{◌≡◌, ℕ, zero, suc, ◌+◌, ◌<◌, Bool, true, false, eqb, List, [], ◌∷◌, ◌++◌, length, Option, Some, None, inl, inr, refl, sym, ap, ◌∙◌, subst, arith}
 use Rattle.std.specs.Prelude.{IfSome}
 use Rattle.std.specs.List.{slice_get}
 use Rattle.std.proofs.lemmas.Bool.{eqb-false, eqb-true}
@@ -14,7 +14,7 @@ use Rattle.histories.specs.Histories.States.{State}
 use Rattle.shared_board.specs.declared.event.Doing.{Doing}
 use Rattle.shared_board.specs.Found.{AreFrontsFound, dataflow_of}
 use Rattle.shared_board.specs.Ports.{AreFrontsOf}
-use Rattle.shared_board.specs.Tenures.{Adds, IsActor, state_left}
+use Rattle.shared_board.specs.Tenures.{Adds, IsActor, state_found, state_left}
 use Rattle.desk.specs.Tidying.{AreTold, front_in}
 use Rattle.steps.specs.Steps.{ArePorts, LooksAtMost}
 use Rattle.steps.proofs.TenureLemmas.{tenure_of}
@@ -80,7 +80,7 @@ module _ {T : Type 0} (below : T → T → Bool) (joined : T → T → T) (minim
   pub told_found : Adds old (Look old.number) new → (ports : List Site) (fronts : List (List T)) → ArePorts (length (dataflow_of old).nodes) ports → AreFrontsFound below minimum old new ports fronts → AreTold below (dataflow_of new) (state_left below minimum new) fronts
   told_found adds ports fronts are found =
       let t = tenure_of below joined minimum o old (Look old.number) new after adds in
-      subst (λ (y : Dataflow × State T). AreTold below y.0 y.1 fronts) (λ i. (sym t.same_flow i, sym t.left i)) (told_from below (dataflow_of old) _ ports fronts are found)
+      subst (λ (y : Dataflow × State T). AreTold below y.0 y.1 fronts) (λ i. (sym t.same_flow i, sym t.left i)) (told_from below (dataflow_of old) (state_found below minimum new) ports fronts are found)
 
 -- whether or not the board was there
 pub looks_found : {T : Type 0} (old new : Known (Doing T)) {A : Type 0} (found : Option A) → IfSome found (λ a. Adds old (Look old.number) new) → (found ≡ None → new ≡ old) → LooksAtMost old new

@@ -10,7 +10,7 @@ use Rattle.update.specs.declared.refusal.Refusal.TheVariants.{OutOfMemory}
 use Rattle.hub.specs.Known.{Known}
 use Rattle.histories.specs.declared.event.Event.TheVariants.{Look}
 use Rattle.histories.specs.Histories.Dataflows.{Dataflow, IsDataflow}
-use Rattle.histories.specs.Histories.{IsLegal, initial_state, state_after}
+use Rattle.histories.specs.Histories.{initial_state}
 use Rattle.histories.specs.Histories.Promises.{changes_in}
 use Rattle.plan.specs.declared.node.Node.{Node}
 use Rattle.shared_board.specs.declared.event.Doing.{Doing}
@@ -129,6 +129,7 @@ module _ {T : Type 0} (below : T → T → Bool) (joined : T → T → T) (minim
 module _ {T : Type 0} (below : T → T → Bool) (joined : T → T → T) (minimum : T) (cmp : T → T → Ordering) (plan : List Node) (k : Known (Doing T)) (actor : IsActor below minimum k) (nodes : plan ≡ (dataflow_of k).nodes) (fronts : List (List T)) (told : AreTold below (dataflow_of k) (state_left below minimum k) fronts) (d : DeskView T) (x : IsRightOf below joined minimum k d Free) where
   -- a worker that knows the frontiers of its ports may tidy
   pub may_tidy : MayTidy below joined minimum plan fronts d
+  unfolding someones
   may_tidy = record { someones = someones below joined minimum cmp plan k actor nodes d Free x; told = told }
 
   pub tidied : (c : DeskView T) → LeadsOn below joined minimum plan fronts d c → IsRightOf below joined minimum k c Free

@@ -11,11 +11,11 @@ use Rattle.steps.proofs.worker.Worker.find_fronts.Goals as goal
 pub find_fronts-requires : goal.find_fronts-requires
 find_fronts-requires g c =
     let nodes = c.self.invariant.nodes in
-    let ports = c.in_ok-ports.ports.items in (
+    let same = c.as_slice.ensures.value in (
       search rules,
       (
-        subst (λ (ns : List Node). All (λ (site : Site). site.node < length ns) ports) nodes c.in_ok-ports.ensures.within,
-        subst (λ (ns : List Node). ArePorts (length ns) ports) nodes c.in_ok-ports.ensures.ports,
+        subst (λ (x : List Node × List Site). All (λ (site : Site). site.node < length x.0) x.1) (λ i. (nodes i, sym same i)) c.in_ok-ports.ensures.within,
+        subst (λ (x : List Node × List Site). ArePorts (length x.0) x.1) (λ i. (nodes i, sym same i)) c.in_ok-ports.ensures.ports,
       ),
     )
 

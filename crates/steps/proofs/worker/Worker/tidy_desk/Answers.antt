@@ -17,7 +17,7 @@ tidy-requires g c =
     let goes : inside.failed ≡ false = ap (λ (w : WorkerView g.row.T.Denot). w.failed) c.self.view_is ∙ c.requires.going in
     let free : inside.hand ≡ Free = ap (λ (w : WorkerView g.row.T.Denot). w.hand) c.self.view_is ∙ c.requires.free in
     let told : AreTold below (dataflow_of inside.actor) (state_left below least inside.actor) c.args.fronts.now = subst (λ (w : WorkerView g.row.T.Denot). AreTold below (dataflow_of w.known) (state_left below least w.known) c.args.fronts.now) (sym c.self.view_is) c.requires.told in
-    (search rules, may_tidy below joined least g.T.Ord.cmp inside.plan inside.actor c.known.ensures c.self.invariant.nodes c.args.fronts.now told inside.desk (subst (IsRightOf below joined least inside.actor inside.desk) free (c.self.invariant.right goes)))
+    (search rules, (search rules, may_tidy below joined least g.T.Ord.cmp inside.plan inside.actor c.known.ensures c.self.invariant.nodes c.args.fronts.now told inside.desk (subst (IsRightOf below joined least inside.actor inside.desk) free (c.self.invariant.right goes))))
 
 pub invariant_of-self : goal.invariant_of-self
 invariant_of-self g c =
@@ -57,13 +57,13 @@ invariant_of-self-in-Err g c =
     c.in-Err.ensures.refused
 
 pub returns-in-Ok-clause-tidy : goal.returns-in-Ok-clause-tidy
-returns-in-Ok-clause-tidy g c yes =
+returns-in-Ok-clause-tidy g c whole =
     let below = g.T.PartialOrder.below in
     let least = g.T.Minimum.least in
     let inside = c.self.inside in
     let free : inside.hand ≡ Free = ap (λ (w : WorkerView g.row.T.Denot). w.hand) c.self.view_is ∙ c.requires.free in
     let told : AreTold below (dataflow_of inside.actor) (state_left below least inside.actor) c.args.fronts.now = subst (λ (w : WorkerView g.row.T.Denot). AreTold below (dataflow_of w.known) (state_left below least w.known) c.args.fronts.now) (sym c.self.view_is) c.requires.told in
-    (free, c.args.fronts.now, told, subst (λ (nodes : List Node). IsTidy nodes c.args.fronts.now c.tidy.new.self below) c.self.invariant.nodes (c.in-Ok.ensures.tidy yes))
+    (free, c.args.fronts.now, told, subst (λ (nodes : List Node). IsTidy nodes c.args.fronts.now c.tidy.new.self below) c.self.invariant.nodes (c.in-Ok.ensures.tidy whole))
 
 pub returns-in-Err-clause-refused : goal.returns-in-Err-clause-refused
 returns-in-Err-clause-refused g c =
