@@ -1,18 +1,51 @@
 -- Reading what a view captured: the update at a position, and the copies of those that are at or
 -- before a time.
-use Rattle.std.proofs.Common.{◌≡◌, ℕ, zero, suc, ◌+◌, ◌<◌, ◌≤◌, Bool, true, false, cond, not, List, [], ◌∷◌, ◌++◌, length, take, drop, get_or, slice_get, Some, IsSomeAnd, map, refl, sym, ap, ◌∙◌, subst, add-one, append_assoc, length-take-le, arith}
-use Rattle.std.specs.List.{filter}
+use Rattle.std.proofs.Common.{◌-◌, ℤ, pos, ◌+ℤ◌, Option, None, IsTrue, ap₂, append-nil, ◌≡◌, ℕ, zero, suc, ◌+◌, ◌<◌, ◌≤◌, Bool, true, false, cond, not, List, [], ◌∷◌, ◌++◌, length, take, drop, get_or, slice_get, Some, IsSomeAnd, map, refl, sym, ap, ◌∙◌, subst, add-one, length-take-le, take_all, arith}
+use Rattle.std.specs.List.{filter, flat_map}
 use Rattle.std.proofs.lemmas.Int.{ints}
-use Rattle.std.proofs.lemmas.List.{length-append, drop-append-le, take-append-drop}
+use Rattle.std.proofs.lemmas.List.{length_push, length-append, map-append, drop-append-le, take-append-drop}
+use Rattle.std.proofs.lemmas.List.Concat.{flat_map-append}
 use Rattle.std.proofs.lemmas.List.Elements.{filter-append}
-use Rattle.update.specs.Bags.{Entry, Alike, count_of}
+use Rattle.update.specs.Bags.{Entry, Alike, count_of, entry_of, same_row}
 use Rattle.update.specs.Updates.{as_of, entry}
 use Rattle.update.specs.declared.change.Update.{Update}
 use Rattle.plan.specs.Ancestors.{numbers_below}
-use Rattle.plan.proofs.CountLemmas.{count_of-append}
+use Rattle.plan.proofs.CountLemmas.{count_of-append, row_same}
 use Rattle.views.specs.Views.{update_at, is_later_at, later_below, IsReadOf}
-use Rattle.views.proofs.ViewLemmas.{take_position, later_there, filter_again}
+use Rattle.views.proofs.ViewLemmas.{take_position, later_there}
 use Rattle.views.proofs.SumLemmas.{sum_at-append}
+
+-- the element at the place of the last one
+last_there : {X : Type 0} (xs : List X) (x : X) → slice_get (xs ++ x ∷ []) (length xs) ≡ Some x
+last_there [] x = refl
+last_there (y ∷ xs) x = last_there xs x
+
+-- what leaves a list at its end is its last element
+pub last_left : {X : Type 0} (all rest : List X) (x : X) → all ≡ rest ++ x ∷ [] → slice_get all (length all - 1) ≡ Some x
+last_left all rest x e =
+    let long = ap length e ∙ length_push rest x in
+    ap₂ slice_get e (omega (arith, long)) ∙ last_there rest x
+
+out : {X : Type 0} → Option X → X → X
+out (Some x) d = x
+out None d = d
+
+-- equal options have equal values
+pub some_same : {X : Type 0} (x y : X) → Some x ≡ Some y → x ≡ y
+unfolding out
+some_same x y e = ap (λ o. out o x) e
+
+both : (b : Bool) (m n s : ℤ) → s ≡ m +ℤ n → cond b s (pos 0) ≡ cond b m (pos 0) +ℤ cond b n (pos 0)
+both true m n s e = e
+both false m n s e = refl
+
+-- no number counts for no row
+pub none_count : (own row : List ℤ) → pos 0 ≡ cond (same_row own row) (pos 0) (pos 0)
+none_count own row = same (same_row own row)
+  where
+    same : (b : Bool) → pos 0 ≡ cond b (pos 0) (pos 0)
+    same true = refl
+    same false = refl
 
 module _ {T : Type 0} where
   -- at a position before the end there is one update
@@ -21,19 +54,80 @@ module _ {T : Type 0} where
   found_at (u ∷ us) zero l = (u, refl, refl, refl)
   found_at (u ∷ us) (suc k) l = found_at us k (omega (arith, l))
 
-  -- the copies with those of one more position
-  pub copies_more : (p : Update T → Bool) (us : List (Update T)) (n k : ℕ) (old mid new : List (Update T)) → n ≤ k → k < length us → mid ≡ old ++ filter p (drop n (take k us)) → new ≡ mid ++ filter p (update_at us k) → new ≡ old ++ filter p (drop n (take (k + 1) us))
-  copies_more p us n k old mid new l h m e =
+  -- what the last update and a difference sum to takes the place of the update
+  pub added_up : (rest ys : List (Update T)) (x : Update T) (diff sum : ℤ) → sum ≡ x.diff +ℤ diff → ((row : List ℤ) → count_of (map entry ys) row ≡ cond (same_row x.row row) sum (pos 0))
+      → Alike (map entry (rest ++ ys)) (map entry (rest ++ x ∷ []) ++ entry_of x.row diff ∷ [])
+  added_up rest ys x diff sum e same row =
+      let new = ap (λ es. count_of es row) (map-append entry rest ys) ∙ count_of-append (map entry rest) (map entry ys) row in
+      let old = ap (λ es. count_of es row) (map-append entry rest (x ∷ [])) ∙ count_of-append (map entry rest) (entry x ∷ []) row in
+      let whole = count_of-append (map entry (rest ++ x ∷ [])) (entry_of x.row diff ∷ []) row in
+      let parts = both (same_row x.row row) x.diff diff sum e in
+      let now = same row in
+      omega (arith, ints, new, old, whole, parts, now)
+
+  -- rows that compare as equal are equal
+  pub same_rows : (o : Option (Update T)) (b : Bool) (row : List ℤ) → IsSomeAnd o (λ u. b ≡ same_row u.row row) → IsTrue b → IsSomeAnd o (λ u. u.row ≡ row)
+  same_rows None b row e h = e
+  same_rows (Some u) b row e h = row_same u.row row (sym e ∙ h)
+
+  -- an update of a row and a difference, in another form
+  pub of_row : (o : Option (Update T)) (row : List ℤ) (diff : ℤ) (xs ys : List Entry) → IsSomeAnd o (λ u. u.row ≡ row) → IsSomeAnd o (λ u. diff ≡ u.diff) → Alike xs (ys ++ entry_of row diff ∷ []) → IsSomeAnd o (λ u. Alike xs (ys ++ entry u ∷ []))
+  of_row None row diff xs ys own its same = own
+  of_row (Some u) row diff xs ys own its same = λ r. same r ∙ ap₂ (λ w d. count_of (ys ++ entry_of w d ∷ []) r) (sym own) its
+
+  -- what holds of the last one, of whichever it is
+  pub of_last : (o : Option (Update T)) {P : Update T → Type 0} {Q : Type 0} → IsSomeAnd o P → ((u : Update T) → o ≡ Some u → P u → Q) → Q
+  of_last None p f = absurd p
+  of_last (Some u) p f = f u refl p
+
+  -- an update alone counts for its row
+  pub one_counts : (y : Update T) (row : List ℤ) → count_of (map entry (y ∷ [])) row ≡ cond (same_row y.row row) y.diff (pos 0)
+  one_counts y row = omega (arith, ints)
+
+-- what is like one of two parts takes its place
+pub alike_before : (xs ys more all : List Entry) → Alike xs ys → Alike all (xs ++ more) → Alike all (ys ++ more)
+alike_before xs ys more all h e row =
+    let one = count_of-append xs more row in
+    let other = count_of-append ys more row in
+    let same = h row in
+    e row ∙ omega (arith, ints, one, other, same)
+
+pub alike_behind : (xs ys more all : List Entry) → Alike xs ys → Alike all (more ++ xs) → Alike all (more ++ ys)
+alike_behind xs ys more all h e row =
+    let one = count_of-append more xs row in
+    let other = count_of-append more ys row in
+    let same = h row in
+    e row ∙ omega (arith, ints, one, other, same)
+
+module _ {T : Type 0} (below : T → T → Bool) (t : T) where
+  -- what is added up, with one more position
+  pub sums_more : (us : List (Update T)) (n k : ℕ) (old mid new : List Entry) → n ≤ k → k < length us → Alike mid (old ++ as_of below t (drop n (take k us))) → Alike new (mid ++ as_of below t (update_at us k))
+      → Alike new (old ++ as_of below t (drop n (take (k + 1) us)))
+  sums_more us n k old mid new l h m e row =
       let long = length-take-le k us (omega (arith, h)) in
       let more : take (k + 1) us ≡ take k us ++ update_at us k = rw add-one (take_position us k) in
-      let rest : filter p (drop n (take (k + 1) us)) ≡ filter p (drop n (take k us)) ++ filter p (update_at us k) =
-      ap (λ vs. filter p (drop n vs)) more
-      ∙ ap (filter p) (drop-append-le n (take k us) (update_at us k) (omega (arith, l, long)))
-      ∙ filter-append p (drop n (take k us)) (update_at us k) in
-      e
-      ∙ ap (λ ys. ys ++ filter p (update_at us k)) m
-      ∙ append_assoc old (filter p (drop n (take k us))) (filter p (update_at us k))
-      ∙ ap (λ ys. old ++ ys) (sym rest)
+      let part : drop n (take (k + 1) us) ≡ drop n (take k us) ++ update_at us k = ap (drop n) more ∙ drop-append-le n (take k us) (update_at us k) (omega (arith, l, long)) in
+      let whole = ap (λ vs. count_of (as_of below t vs) row) part ∙ sum_at-append below t (drop n (take k us)) (update_at us k) row in
+      let before = m row ∙ count_of-append old (as_of below t (drop n (take k us))) row in
+      let now = e row ∙ count_of-append mid (as_of below t (update_at us k)) row in
+      let then = count_of-append old (as_of below t (drop n (take (k + 1) us))) row in
+      omega (arith, ints, whole, before, now, then)
+
+  -- all that came in, added to what counts nothing, is the sum
+  pub all_came : (us : List (Update T)) (none old new : List Entry) (n : ℕ) → n ≡ length us → Alike none [] → old ≡ [] → Alike new (old ++ as_of below t (drop 0 (take n us))) → Alike (none ++ new) (as_of below t us)
+  all_came us none old new n e z o h row =
+      let both = count_of-append none new row in
+      let nothing = z row in
+      let came = h row ∙ ap (λ es. count_of (es ++ as_of below t (take n us)) row) o ∙ ap (λ vs. count_of (as_of below t vs) row) (ap (λ k. take k us) e ∙ take_all (length us) us (omega arith)) in
+      omega (arith, ints, both, nothing, came)
+
+  -- what is added up at some positions, with one more
+  pub sums_of_more : (us : List (Update T)) (ks : List ℕ) (k : ℕ) (mid new : List Entry) → Alike mid (flat_map (λ j. as_of below t (update_at us j)) ks) → Alike new (mid ++ as_of below t (update_at us k))
+      → Alike new (flat_map (λ j. as_of below t (update_at us j)) (ks ++ k ∷ []))
+  sums_of_more us ks k mid new m e row =
+      let here = as_of below t (update_at us k) in
+      let all = flat_map-append (λ j. as_of below t (update_at us j)) ks (k ∷ []) ∙ ap (λ es. flat_map (λ j. as_of below t (update_at us j)) ks ++ es) (append-nil here) in
+      alike_before mid (flat_map (λ j. as_of below t (update_at us j)) ks) here new m e row ∙ ap (λ es. count_of es row) (sym all)
 
 module _ {T : Type 0} (below : T → T → Bool) (t : T) (us : List (Update T)) (k : ℕ) (l : k < length us) (s : T) (time : IsSomeAnd (slice_get us k) (λ u. s ≡ u.time)) (b : Bool) (test : b ≡ below s t) where
   abbrev here : (u : Update T) × (update_at us k ≡ u ∷ []) × (slice_get us k ≡ Some u) × (u ≡ get_or us k u)
@@ -46,22 +140,24 @@ module _ {T : Type 0} (below : T → T → Bool) (t : T) (us : List (Update T)) 
   pub later_found : not b ≡ is_later_at below t us k
   later_found = sym (later_there below t us k here.0 b here.1 tested)
 
-  -- if it is, then nothing is copied
-  pub no_copy : b ≡ false → filter (λ u. below u.time t) (update_at us k) ≡ []
-  no_copy e = ap (filter (λ u. below u.time t)) here.1 ∙ ap (λ c. cond c (here.0 ∷ []) []) (tested ∙ e)
+  -- if it is, then nothing is added up
+  pub no_copy : b ≡ false → as_of below t (update_at us k) ≡ []
+  no_copy e = ap (as_of below t) here.1 ∙ ap (λ c. map entry (cond c (here.0 ∷ []) [])) (tested ∙ e)
 
-  -- if it is not, then it is copied
-  pub one_copy : b ≡ true → (copy : Update T) → IsSomeAnd (slice_get us k) (λ u. copy ≡ u) → filter (λ u. below u.time t) (update_at us k) ≡ copy ∷ []
-  one_copy e copy same =
-      ap (filter (λ u. below u.time t)) here.1
-      ∙ ap (λ c. cond c (here.0 ∷ []) []) (tested ∙ e)
-      ∙ ap (λ u. u ∷ []) (sym (subst (λ o. IsSomeAnd o (λ u. copy ≡ u)) here.2 same))
+  -- if it is not, then the update is
+  pub added_one : b ≡ true → (xs ys : List Entry) → IsSomeAnd (slice_get us k) (λ u. Alike xs (ys ++ entry u ∷ [])) → Alike xs (ys ++ as_of below t (update_at us k))
+  added_one e xs ys same row =
+      let found = ap (as_of below t) here.1 ∙ ap (λ c. map entry (cond c (here.0 ∷ []) [])) (tested ∙ e) in
+      subst (λ o. IsSomeAnd o (λ u. Alike xs (ys ++ entry u ∷ []))) here.2 same row ∙ ap (λ es. count_of (ys ++ es) row) (sym found)
+
+  -- so is a copy of it
+  pub added_copy : b ≡ true → (old new : List (Update T)) (copy : Update T) → new ≡ old ++ copy ∷ [] → IsSomeAnd (slice_get us k) (λ u. copy ≡ u) → Alike (map entry new) (map entry old ++ as_of below t (update_at us k))
+  added_copy e old new copy pushed same row =
+      let found = ap (as_of below t) here.1 ∙ ap (λ c. map entry (cond c (here.0 ∷ []) [])) (tested ∙ e) in
+      let own = subst (λ o. IsSomeAnd o (λ u. copy ≡ u)) here.2 same in
+      ap (λ us. count_of us row) (ap (map entry) pushed ∙ map-append entry old (copy ∷ []) ∙ ap (λ u. map entry old ++ entry u ∷ []) own ∙ ap (λ es. map entry old ++ es) (sym found))
 
 module _ {T : Type 0} (below : T → T → Bool) (t : T) where
-  -- the updates at or before a time have the sum that all have there
-  pub sum_of_copies : (us copies : List (Update T)) → copies ≡ filter (λ u. below u.time t) us → as_of below t copies ≡ as_of below t us
-  sum_of_copies us copies e = ap (as_of below t) e ∙ ap (map entry) (filter_again (λ u. below u.time t) (λ u. below u.time t) (λ u h. h) us)
-
   one_few : (b : Bool) (k : ℕ) → length (cond b (k ∷ []) []) ≤ 1
   one_few true k = omega arith
   one_few false k = omega arith

@@ -188,13 +188,17 @@ module _ {T : Type 0} (below : T → T → Bool) where
         step false e true f ih = rw f (omega (arith, ints, ih))
         step false e false f ih = rw f ih
 
+    each_sum : (us : List (Update T)) (ks : List ℕ) → flat_map (λ k. as_of below t (update_at us k)) ks ≡ map entry (flat_map (λ k. arrived (update_at us k)) ks)
+    each_sum us [] = refl
+    each_sum us (k ∷ ks) = ap (λ es. as_of below t (update_at us k) ++ es) (each_sum us ks) ∙ sym (map-append entry (arrived (update_at us k)) (flat_map (λ j. arrived (update_at us j)) ks))
+
     -- the bag of the earlier read, with all that came in, is the sum at the later time
-    pub read_onward : (us came : List (Update T)) (bag : List Entry) (n : ℕ) (ks : List ℕ) → IsReadOf below us s bag n ks
-        → came ≡ flat_map (λ k. arrived (update_at us k)) ks ++ arrived (drop n us) → Alike (bag ++ map entry came) (as_of below t us)
+    pub read_onward : (us : List (Update T)) (came bag : List Entry) (n : ℕ) (ks : List ℕ) → IsReadOf below us s bag n ks
+        → Alike came (flat_map (λ k. as_of below t (update_at us k)) ks ++ as_of below t (drop n us)) → Alike (bag ++ came) (as_of below t us)
     read_onward us came bag n ks r e row =
-        let there : came ≡ arrived (unknown (take n us)) ++ arrived (drop n us) = e ∙ ap (λ vs. vs ++ arrived (drop n us)) (ap (flat_map (λ k. arrived (update_at us k))) r.rest ∙ all_come_in us n) in
-        let split = count_of-append bag (map entry came) row in
-        let parts = ap (λ vs. count_of (map entry vs) row) there ∙ ap (λ es. count_of es row) (map-append entry (arrived (unknown (take n us))) (arrived (drop n us))) ∙ count_of-append (map entry (arrived (unknown (take n us)))) (as_of below t (drop n us)) row in
+        let known = each_sum us ks ∙ ap (map entry) (ap (flat_map (λ k. arrived (update_at us k))) r.rest ∙ all_come_in us n) in
+        let split = count_of-append bag came row in
+        let parts = e row ∙ ap (λ es. count_of (es ++ as_of below t (drop n us)) row) known ∙ count_of-append (map entry (arrived (unknown (take n us)))) (as_of below t (drop n us)) row in
         let first = both_parts (take n us) row in
         let same = r.sum row in
         let whole = ap (λ vs. count_of (as_of below t vs) row) (sym (take-append-drop n us)) ∙ sum_at-append below t (take n us) (drop n us) row in

@@ -9,10 +9,10 @@
 //! those positions and at what was captured since. It adds the updates that are now at or before its
 //! time to the bag. So a read after each change costs as much as the bag is long, however much was
 //! captured. A read at any other time sums anew. Each read becomes the last one.
-ghost use Rattle.std.specs.Prelude.{◌≡◌, ◌≤◌, ◌<◌, ◌⊎◌, ◌++◌, List, [], IfErr, IfOk, OnErr, OnOk, IsTrue, length, take, drop};
+ghost use Rattle.std.specs.Prelude.{◌≡◌, ◌≤◌, ◌<◌, ◌⊎◌, ◌-◌, ◌++◌, ◌∷◌, List, [], Some, IfErr, IfOk, OnErr, OnOk, IsSomeAnd, IsTrue, false, length, map, take, drop, slice_get};
 ghost use Rattle.std.specs.List.{All, filter, flat_map};
-ghost use Rattle.update.specs.Bags.{Alike, IsBag};
-ghost use Rattle.update.specs.Updates.{as_of};
+ghost use Rattle.update.specs.Bags.{Alike, IsBag, entry_of};
+ghost use Rattle.update.specs.Updates.{as_of, entry};
 ghost use Rattle.update.specs.declared.change.Update.{Update};
 ghost use Rattle.update.specs.declared.refusal.Refusal.TheVariants.{OutOfMemory, Overflow};
 ghost use Rattle.views.specs.Views.{update_at, is_later_at, later_below, IsReadOf, IsSumRefusal};
@@ -21,7 +21,7 @@ use columns::Columns;
 use lattice::Minimum;
 use std::alloc::Global;
 use std::ops::Range;
-use update::{Bag, Entries, Refusal, Update, sum_at};
+use update::{Bag, Entries, Refusal, Update};
 
 // A read that starts from nothing adds up at least so many updates at a time: so many are sorted in
 // the cache. A read that goes on asks for room for so many at once.
@@ -167,7 +167,8 @@ fn sum_captured<T: Minimum>(
 {
     let mut arrived = Vec::with_capacity(alloc, room)?;
     push_arrived(&mut arrived, captured, 0..captured.len(), &t)?;
-    let bag = sum_at(alloc, arrived.as_slice(), t)?;
+    let none = Entries::new(alloc).into_bag()?;
+    let bag = none.with(&arrived)?;
     Ok(bag)
 }
 
@@ -198,7 +199,8 @@ pub(crate) fn read_on<T: Minimum>(
     })
 }
 
-// Copies the updates at or before a time that are missing from the bag of an earlier read.
+// Copies the updates at or before a time that are missing from the bag of an earlier read. Neighbours
+// with the same row become one.
 fn arrived_since<T: Minimum>(
     alloc: Global,
     captured: &Columns<T>,
@@ -207,10 +209,9 @@ fn arrived_since<T: Minimum>(
 ) -> Result<Vec<Update<T>>, Refusal>
     requires { IsReadOf T.below captured.now
         last.now.time last.now.bag last.now.known last.now.later.items }
-    ensures arrived { IfOk result (λ arrived. arrived.items
-        ≡ flat_map (λ k. filter (λ u. T.below u.time t.now) (update_at captured.now k))
-        last.now.later.items
-        ++ filter (λ u. T.below u.time t.now) (drop last.now.known captured.now)) }
+    ensures arrived { IfOk result (λ arrived. Alike (map entry arrived.items)
+        (flat_map (λ k. as_of T.below t.now (update_at captured.now k)) last.now.later.items
+        ++ as_of T.below t.now (drop last.now.known captured.now))) }
     ensures refused { IfErr result (λ refusal. refusal ≡ OutOfMemory) }
 {
     let mut arrived = arrived_at(alloc, captured, &last.later, t)?;
@@ -239,7 +240,8 @@ fn later_since<T: Minimum>(
     Ok(later)
 }
 
-// Copies the updates at these positions that are at or before a time.
+// Copies the updates at these positions that are at or before a time. Neighbours with the same row
+// become one.
 fn arrived_at<T: Minimum>(
     alloc: Global,
     captured: &Columns<T>,
@@ -247,9 +249,8 @@ fn arrived_at<T: Minimum>(
     t: &T,
 ) -> Result<Vec<Update<T>>, Refusal>
     requires { All (λ k. k < length captured.now) positions.now }
-    ensures arrived { IfOk result (λ arrived. arrived.items
-        ≡ flat_map (λ k. filter (λ u. T.below u.time t.now) (update_at captured.now k))
-        positions.now) }
+    ensures arrived { IfOk result (λ arrived. Alike (map entry arrived.items)
+        (flat_map (λ k. as_of T.below t.now (update_at captured.now k)) positions.now)) }
     ensures refused { IfErr result (λ refusal. refusal ≡ OutOfMemory) }
 {
     let mut arrived = Vec::new(alloc);
@@ -260,7 +261,8 @@ fn arrived_at<T: Minimum>(
     Ok(arrived)
 }
 
-// Appends copies of the updates of a part that are at or before a time.
+// Appends copies of the updates of a part that are at or before a time. Neighbours with the same row
+// become one.
 fn push_arrived<T: Minimum>(
     arrived: &mut Vec<Update<T>>,
     captured: &Columns<T>,
@@ -269,8 +271,8 @@ fn push_arrived<T: Minimum>(
 ) -> Result<(), Refusal>
     requires ordered { part.start ≤ part.end }
     requires within { part.end ≤ length captured.now }
-    ensures more { OnOk result (arrived.new.items ≡ arrived.old.items
-        ++ filter (λ u. T.below u.time t.now) (drop part.start (take part.end captured.now))) }
+    ensures more { OnOk result (Alike (map entry arrived.new.items) (map entry arrived.old.items
+        ++ as_of T.below t.now (drop part.start (take part.end captured.now)))) }
     ensures refused { IfErr result (λ refusal. refusal ≡ OutOfMemory) }
 {
     let mut run = 0;
@@ -280,8 +282,9 @@ fn push_arrived<T: Minimum>(
     Ok(())
 }
 
-// Appends a copy of the update at a position if it is at or before a time. The search for its run
-// begins at `near`. Returns where the next search begins.
+// Appends a copy of the update at a position if it is at or before a time. If the last one has the same
+// row, then it is added to that. The search for its run begins at `near`. Returns where the next
+// search begins.
 fn push_if_arrived<T: Minimum>(
     arrived: &mut Vec<Update<T>>,
     captured: &Columns<T>,
@@ -290,16 +293,78 @@ fn push_if_arrived<T: Minimum>(
     t: &T,
 ) -> Result<usize, Refusal>
     requires { position < length captured.now }
-    ensures more { OnOk result (arrived.new.items ≡ arrived.old.items
-        ++ filter (λ u. T.below u.time t.now) (update_at captured.now position)) }
+    ensures more { OnOk result (Alike (map entry arrived.new.items) (map entry arrived.old.items
+        ++ as_of T.below t.now (update_at captured.now position))) }
     ensures refused { IfErr result (λ refusal. refusal ≡ OutOfMemory) }
 {
     if !captured.time(position).less_equal(t) {
         return Ok(near);
     }
     let run = captured.run_near(position, near);
+    if is_added(arrived, captured, position, run) {
+        return Ok(run);
+    }
     arrived.push(captured.copy(position, run))?;
     Ok(run)
+}
+
+// Adds the update at a position to the last of these, if that has its row and the sum of the
+// differences is a 64-bit number. The answer is whether it was added; if not, then nothing has changed.
+fn is_added<T: Minimum>(
+    arrived: &mut Vec<Update<T>>,
+    captured: &Columns<T>,
+    position: usize,
+    run: usize,
+) -> bool
+    requires { position < length captured.now }
+    ensures added { IsTrue result → IsSomeAnd (slice_get captured.now position) (λ u.
+        Alike (map entry arrived.new.items) (map entry arrived.old.items ++ entry u ∷ [])) }
+    ensures same { result ≡ false → arrived.new.items ≡ arrived.old.items }
+{
+    if !has_row_of_last(arrived.as_slice(), captured, position, run) {
+        return false;
+    }
+    add_to_last(arrived, captured.diff(position))
+}
+
+// Whether the update at a position has the row of the last of these.
+fn has_row_of_last<T: Minimum>(
+    arrived: &[Update<T>],
+    captured: &Columns<T>,
+    position: usize,
+    run: usize,
+) -> bool
+    requires { position < length captured.now }
+    ensures { IsTrue result → IsSomeAnd (slice_get arrived.now (length arrived.now - 1)) (λ last.
+        IsSomeAnd (slice_get captured.now position) (λ u. u.row ≡ last.row)) }
+{
+    match arrived.last() {
+        Some(last) => captured.has_row(position, run, last.row.columns()),
+        None => false,
+    }
+}
+
+// Adds to the difference of the last update, if the sum is a 64-bit number. An update whose
+// difference would be 0 goes. The answer is whether it was added; if not, then nothing has changed.
+fn add_to_last<T: Minimum>(arrived: &mut Vec<Update<T>>, diff: i64) -> bool
+    ensures added { IsTrue result → (last : Update T)
+        → slice_get arrived.old.items (length arrived.old.items - 1) ≡ Some last
+        → Alike (map entry arrived.new.items)
+        (map entry arrived.old.items ++ entry_of last.row diff ∷ []) }
+    ensures same { result ≡ false → arrived.new.items ≡ arrived.old.items }
+{
+    let Some(mut last) = arrived.pop() else {
+        return false;
+    };
+    let Some(sum) = last.diff.checked_add(diff) else {
+        arrived.push_reserved(last);
+        return false;
+    };
+    if sum != 0 {
+        last.diff = sum;
+        arrived.push_reserved(last);
+    }
+    true
 }
 
 // Whether the update at a position is not at or before a time.

@@ -10,7 +10,7 @@ pub returns-clause-sum : goal.returns-clause-sum
 returns-clause-sum g c row =
     let last = c.args.last.now in
     let us = c.args.captured.now in
-    let whole = read_onward g.T.PartialOrder.below g.met.T.PartialOrder.order last.time c.args.t c.requires.onward us c.in_ok-arrived.arrived.items last.bag last.known last.later.items c.requires.last c.in_ok-arrived.ensures.arrived in
+    let whole = read_onward g.T.PartialOrder.below g.met.T.PartialOrder.order last.time c.args.t c.requires.onward us (map entry c.in_ok-arrived.arrived.items) last.bag last.known last.later.items c.requires.last c.in_ok-arrived.ensures.arrived in
     let seen = subst (λ came. Alike c.in_ok-bag.bag (last.bag ++ map entry came)) c.deref.ensures.value c.in_ok-bag.ensures.sum in
     seen row ∙ whole row
 
@@ -23,7 +23,7 @@ pub returns-in_err-bag-clause-refused : goal.returns-in_err-bag-clause-refused
 returns-in_err-bag-clause-refused g c =
     let last = c.args.last.now in
     let us = c.args.captured.now in
-    let whole = read_onward g.T.PartialOrder.below g.met.T.PartialOrder.order last.time c.args.t c.requires.onward us c.in_ok-arrived.arrived.items last.bag last.known last.later.items c.requires.last c.in_ok-arrived.ensures.arrived in
+    let whole = read_onward g.T.PartialOrder.below g.met.T.PartialOrder.order last.time c.args.t c.requires.onward us (map entry c.in_ok-arrived.arrived.items) last.bag last.known last.later.items c.requires.last c.in_ok-arrived.ensures.arrived in
     let seen = subst (λ came. Alike (last.bag ++ map entry came) (as_of g.T.PartialOrder.below c.args.t us)) (sym c.deref.ensures.value) whole in
     let got = err_from_is_err_and c.from_residual-in_err-bag.result c.from_residual-in_err-bag.ensures.1 in
     rw got.1
