@@ -9,6 +9,11 @@
 //! and the state that it left. The laws of sharing say which events of other actors do not matter.
 //! All of this holds for any number of workers and clients. A worker computes between two tenures,
 //! without the board (crates `operator` and `desk`).
+//!
+//! A worker calls `try_take_piece`, `try_give` and `try_port_frontiers`. They do not wait: if another
+//! actor has the board, then they answer that it is busy, and nothing has happened. A client calls
+//! `feed`, `advance`, `close` and `allow`, and reads by `frontier`, `read` and `changes`. These wait
+//! for their turn.
 #![tactic(auto)]
 
 mod actor;

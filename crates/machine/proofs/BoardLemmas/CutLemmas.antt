@@ -1,17 +1,56 @@
 -- Cutting an emission: the list that the last bundle has, the stamp of a list, and the bundles along
 -- the last edge behind those along the others.
-use Rattle.std.proofs.Common.{◌≡◌, ℕ, zero, suc, ◌<◌, ◌≤◌, true, List, [], ◌∷◌, ◌++◌, length, take, get_or, Result, Ok, Err, sym, refl, ap, ◌∙◌, subst, append-nil, append_assoc, arith}
+use Rattle.std.proofs.Common.{◌≡◌, ℕ, zero, suc, ◌<◌, ◌≤◌, Bool, true, false, cond, eqb, Option, Some, None, List, [], ◌∷◌, ◌++◌, length, take, get_or, Result, Ok, Err, sym, refl, ap, ◌∙◌, subst, append-nil, append_assoc, arith}
 use Rattle.std.specs.Prelude.{IfOk}
 use Rattle.std.specs.List.{flat_map}
 use Rattle.plan.specs.Edges.{edges_from, leads_from}
 use Rattle.plan.specs.declared.edges.Edge.{Edge}
 use Rattle.plan.specs.declared.node.Node.{Node}
+use Rattle.update.specs.declared.change.Update.{Update}
+use Rattle.plan.specs.Ancestors.{numbers_below}
+use Rattle.plan.specs.Nodes.{arranged_by}
+use Rattle.histories.specs.declared.event.Emission.{Emission}
+use Rattle.histories.specs.Histories.Cuts.{bundled, cut, cut_along}
+use Rattle.histories.specs.Histories.Dataflows.{Dataflow, node_of, source_of}
+use Rattle.histories.specs.Histories.Shares.{part, share, share_from}
+use Rattle.histories.specs.Histories.States.{place}
 use Rattle.machine.proofs.BoardLemmas.RoutingLemmas.{leading}
 
 -- what follows from a fact of an answer is a fact of the answer
 pub if_ok : {T E : Type 0} (r : Result T E) (P Q : T → Type 0) → ((x : T) → P x → Q x) → IfOk r P → IfOk r Q
 if_ok (Ok x) P Q f h = f x h
 if_ok (Err e) P Q f h = tt
+
+-- what the updates of nobody share is nothing
+module _ {T : Type 0} (below : T → T → Bool) (p : Dataflow) (g : Emission T) (none : g.updates ≡ []) where
+  if_nothing : (b : Bool) → cond b [] [] ≡ ([] : List (Update T))
+  if_nothing true = refl
+  if_nothing false = refl
+
+  part_nothing : (columns : Option ℕ) (giver worker : ℕ) → part p columns giver worker [] ≡ ([] : List (Update T))
+  part_nothing None giver worker = if_nothing (eqb giver worker)
+  part_nothing (Some columns) giver worker = refl
+
+  share_nothing : (source columns : Option ℕ) (worker : ℕ) → share_from p source columns worker g ≡ []
+  share_nothing None columns worker = refl
+  share_nothing (Some source) columns worker =
+      ap (λ us. cond (eqb g.node source) (part p columns g.worker worker us) []) none
+      ∙ ap (λ us. cond (eqb g.node source) us []) (part_nothing columns g.worker worker)
+      ∙ if_nothing (eqb g.node source)
+
+  along_nothing : (edge : Edge) (ks : List ℕ) → flat_map (λ k. bundled below (place edge.reader edge.port k) (share p (place edge.reader edge.port k) g)) ks ≡ []
+  along_nothing edge [] = refl
+  along_nothing edge (k ∷ ks) =
+      ap (λ us. bundled below (place edge.reader edge.port k) us ++ flat_map (λ j. bundled below (place edge.reader edge.port j) (share p (place edge.reader edge.port j) g)) ks) (share_nothing (source_of p edge.reader edge.port) (arranged_by (node_of p edge.reader)) k)
+      ∙ along_nothing edge ks
+
+  -- no bundle is cut of no updates
+  nothing_cut : (edges : List Edge) → flat_map (cut_along below p g) edges ≡ []
+  nothing_cut [] = refl
+  nothing_cut (edge ∷ edges) = ap (λ bs. bs ++ flat_map (cut_along below p g) edges) (along_nothing edge (numbers_below p.workers)) ∙ nothing_cut edges
+
+  pub cut_nothing : [] ≡ cut below p g
+  cut_nothing = sym (nothing_cut (edges_from p.nodes g.node))
 
 -- the edges among the first ones lead from the node, too
 pub leading_first : (nodes : List Node) (n count i : ℕ) (edge : Edge) (edges : List Edge) → edges ≡ take count (edges_from nodes n) → count ≤ length (edges_from nodes n) → i < length edges → edge ≡ get_or edges i edge → leads_from nodes n edge ≡ true
