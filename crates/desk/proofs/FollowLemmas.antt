@@ -4,11 +4,11 @@ use Rattle.std.specs.Prelude.{Result, Ok, Err}
 use Rattle.std.specs.Result.{OnErr, OnOk}
 use Rattle.std.specs.List.{slice_get}
 use Rattle.std.specs.declared.cmp.Ordering.{Ordering}
-use Rattle.std.proofs.lemmas.Bool.{eqb-true, eqb-false}
+use Rattle.std.proofs.lemmas.Bool.{eqb-true, eqb-false, or_left}
 use Rattle.lattice.specs.Order.{PartialOrderLaws}
 use Rattle.lattice.specs.Frontiers.{all_beyond}
 use Rattle.lattice.proofs.FrontierLemmas.{all_beyond_later}
-use Rattle.plan.specs.Nodes.{is_join, is_linear, key_width, node_at, sources}
+use Rattle.plan.specs.Nodes.{is_join, is_linear, is_reduction, key_width, node_at, sources}
 use Rattle.plan.specs.declared.node.Node.{Node}
 use Rattle.plan.specs.declared.node.Node.TheVariants.{Join}
 use Rattle.plan.proofs.KeyLemmas.{source_arranged}
@@ -69,7 +69,7 @@ module _ {T : Type 0} (below : T → T → Bool) (joined : T → T → T) (minim
       let was = x.own.keeps.ports n other in
       let is = port_frontier below p w n other in
       all_beyond_later o L was (front_of_port fronts n other) apart
-      (all_beyond_later o was is (front_of_port fronts n other) (beyond_reached below o was is (x.own.keeping.ports n other)) (told_after below o p w fronts told n other r.within (other_few port)))
+      (all_beyond_later o was is (front_of_port fronts n other) (beyond_reached below o was is (x.own.keeping.ports n other)) (told_after below o p w fronts told n other r.within (other_few port) (or_left (is_join (node_of p n)) (is_reduction (node_of p n)) r.join)))
 
   -- its hold may move to where it has come
   may_move : (l rr : ℕ) → node_of p n ≡ Join l rr → (all taken later : List (Insertion T)) → IsTakenBefore Free n port all taken → works.inserted s ≡ on_top later all → boundary_at port j ≡ reached (minimum ∷ []) taken
@@ -168,7 +168,7 @@ module _ {T : Type 0} (below : T → T → Bool) (joined : T → T → T) (minim
       leads_moved =
           leads_with below joined minimum d s a b own moved.alike o plan fronts (λ p w nodes told holding.
           let r = reads_in p plan d n port s reads.0 nodes reads.1 in
-          holding_moved below o p d n port s reads.0 r (port_frontier below p w) holding a b own fronts moved (told_before below o p w fronts told n (other_port port) r.within (other_few port)))
+          holding_moved below o p d n port s reads.0 r (port_frontier below p w) holding a b own fronts moved (told_before below o p w fronts told n (other_port port) r.within (other_few port) (or_left (is_join (node_of p n)) (is_reduction (node_of p n)) r.join)))
 
       here_moved : IsFollowedAt plan fronts (with_arrangement s b d) n port
       here_moved =

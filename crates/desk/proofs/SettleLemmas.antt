@@ -4,13 +4,13 @@ use Rattle.std.specs.Prelude.{Result, Ok, Err}
 use Rattle.std.specs.Result.{IfOk, OnOk}
 use Rattle.std.specs.List.{Contains, slice_get}
 use Rattle.std.specs.declared.cmp.Ordering.{Ordering}
-use Rattle.std.proofs.lemmas.Bool.{eqb-true, eqb-false}
+use Rattle.std.proofs.lemmas.Bool.{eqb-true, eqb-false, or_right}
 use Rattle.std.proofs.lemmas.Option.{same_Some, slice_get_within}
 use Rattle.lattice.specs.Order.{PartialOrderLaws}
 use Rattle.lattice.specs.Frontiers.{all_beyond}
 use Rattle.lattice.proofs.FrontierLemmas.{all_beyond_later}
 use Rattle.update.specs.Updates.{size}
-use Rattle.plan.specs.Nodes.{node_at}
+use Rattle.plan.specs.Nodes.{is_join, is_reduction, node_at}
 use Rattle.plan.specs.declared.node.Node.{Node}
 use Rattle.plan.specs.declared.node.Node.TheVariants.{Arrange, Reduce}
 use Rattle.trace.specs.Holds.{HoldState}
@@ -118,7 +118,7 @@ module _ {T : Type 0} (below : T → T → Bool) (joined : T → T → T) (minim
         let now = port_frontier below p w m 0 in (
           subst (λ (place : Option (Option (ReducingView T))). IsTrue (all_beyond below hold.logical (due_in place))) (sym lies.there) (mine a own hold at (pending_of lies.reduction) pends),
           all_beyond_later o hold.logical was (front_of_port fronts m 0) (mine a own hold at was comes)
-              (all_beyond_later o was now (front_of_port fronts m 0) (beyond_reached below o was now (x.right.own.keeping.ports m 0)) (told_after below o p w fronts may.told m 0 l_in (omega arith))),
+              (all_beyond_later o was now (front_of_port fronts m 0) (beyond_reached below o was now (x.right.own.keeping.ports m 0)) (told_after below o p w fronts may.told m 0 l_in (omega arith) (or_right (is_join (node_of p m)) (is_reduction (node_of p m)) (ap is_reduction node)))),
         )
       where
         -- there is but one hold of a number
@@ -158,7 +158,7 @@ module _ {T : Type 0} (below : T → T → Bool) (joined : T → T → T) (minim
     serves_level p w nodes told m r reads =
         let both = at_level.serves m reads.kind (subst (λ ns. m < length ns) nodes reads.within) (sym (ap (λ ns. node_at ns m) nodes) ∙ reads.node) in (
           subst (λ (place : Option (Option (ReducingView T))). IsTrue (all_beyond below level (due_in place))) reads.there both.0,
-          all_beyond_later o level (front_of_port fronts m 0) (port_frontier below p w m 0) both.1 (told_before below o p w fronts told m 0 reads.within (omega arith)),
+          all_beyond_later o level (front_of_port fronts m 0) (port_frontier below p w m 0) both.1 (told_before below o p w fronts told m 0 reads.within (omega arith) (or_right (is_join (node_of p m)) (is_reduction (node_of p m)) (ap is_reduction reads.node))),
         )
 
     stays : (p : Dataflow) (w : State T) → p.nodes ≡ plan → AreTold below p w fronts → AreHolding below p d (port_frontier below p w) → AreHolding below p (with_arrangement n b d) (port_frontier below p w)

@@ -1,9 +1,9 @@
 -- What is left when a desk was tidied: where the holds are, and what was merged.
 use Rattle.trace.specs.Holds.{HoldState}
-use Rattle.std.specs.Prelude.{◌≡◌, ℕ, zero, suc, ◌<◌, Bool, eqb, if◌then◌else◌, List, [], ◌++◌, Some, None, length, set, slice_get, Option, ◌+◌, ◌^◌, ◌-◌, ◌⊎◌, min, IsTrue}
+use Rattle.std.specs.Prelude.{◌≡◌, ℕ, zero, suc, ◌<◌, Bool, eqb, if◌then◌else◌, List, [], ◌++◌, Some, None, length, set, slice_get, Option, ◌+◌, ◌^◌, ◌-◌, ◌⊎◌, ◌||◌, min, IsTrue}
 use Rattle.std.specs.declared.cmp.Ordering.{Ordering}
 use Rattle.lattice.specs.Frontiers.{all_beyond, is_beyond}
-use Rattle.plan.specs.Nodes.{node_at}
+use Rattle.plan.specs.Nodes.{is_join, is_reduction, node_at}
 use Rattle.plan.specs.declared.node.Kind.{Kind}
 use Rattle.plan.specs.declared.node.Node.{Node}
 use Rattle.plan.specs.declared.node.Node.TheVariants.{Arrange, Reduce}
@@ -11,7 +11,7 @@ use Rattle.trace.specs.Readings.{Insertion}
 use Rattle.spine.specs.Spines.{IsDone, Stands, stored}
 use Rattle.histories.specs.declared.event.Event.{Event}
 use Rattle.histories.specs.Histories.{IsLegal, state_after}
-use Rattle.histories.specs.Histories.Dataflows.{Dataflow, IsDataflow}
+use Rattle.histories.specs.Histories.Dataflows.{Dataflow, IsDataflow, node_of}
 use Rattle.histories.specs.Histories.Outstanding.{port_frontier}
 use Rattle.histories.specs.Histories.Promises.{changes_in}
 use Rattle.histories.specs.Histories.States.{State}
@@ -24,6 +24,11 @@ use Rattle.desk_laws.specs.declared.hand.Hand.TheVariants.{Free}
 use Rattle.desk.specs.Desks.{IsRight, IsSomeones}
 use Rattle.desk.specs.Joinings.{IsReading}
 use Rattle.desk.specs.Openings.{on_plan}
+
+-- the node has a hold at a source's arrangement: a join has, and that which an arrangement has for itself
+-- serves the reductions that read it
+abbrev pub holds_elsewhere : Node → Bool
+holds_elsewhere node = is_join node || is_reduction node
 
 module _ {T : Type 0} where
   -- how many updates the arrangement of an arrange node shows its readers, as far as 64 bits can say
@@ -46,9 +51,10 @@ module _ {T : Type 0} where
   abbrev pub front_of_port : List (List T) → ℕ → ℕ → List T
   front_of_port fronts n port = front_in (slice_get fronts (n + (n + port)))
 
-  -- the list tells the input frontiers of the ports of all nodes: the same times are beyond
+  -- the list tells the input frontiers of the ports of all nodes that have a hold: the same times are
+  -- beyond
   abbrev pub AreTold : (T → T → Bool) → Dataflow → State T → List (List T) → Type 0
-  AreTold below p w fronts = (n port : ℕ) → n < length p.nodes → port < 2 → (t : T)
+  AreTold below p w fronts = (n port : ℕ) → n < length p.nodes → port < 2 → IsTrue (holds_elsewhere (node_of p n)) → (t : T)
       → is_beyond below (front_of_port fronts n port) t ≡ is_beyond below (port_frontier below p w n port) t
 
   -- ---- one arrangement

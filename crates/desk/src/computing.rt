@@ -19,6 +19,16 @@ use update::Refusal;
 // it at once.
 const MAX_GATHERED: usize = 1 << 20;
 
+// Whether all that the board is not needed for was done already.
+fn is_computed<T: Minimum>(hand: &Hand<T>) -> bool
+    ensures { IsTrue result → IsComputed hand.now }
+{
+    match hand {
+        Hand::Taken { .. } | Hand::Turned { .. } => false,
+        _ => true,
+    }
+}
+
 // Takes this in hand.
 fn take_in_hand<T: Minimum>(hand: &mut Hand<T>, next: Hand<T>)
     ensures { hand.new ≡ next }
@@ -117,6 +127,9 @@ impl<T: Minimum> Desk<T> {
         ensures refused { IfErr result (IsMemoryOrOverflow (IsTooLarge T.below T.joined T.least T.cmp
             plan.now self.old hand.old)) }
     {
+        if is_computed(hand) {
+            return self.settle(alloc, plan, hand);
+        }
         self.begin(alloc, plan, hand)?;
         self.settle(alloc, plan, hand)
     }

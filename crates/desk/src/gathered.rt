@@ -268,7 +268,8 @@ impl<T: Minimum> Gathered<T> {
         }
     }
 
-    // The least of the times. Refused only if memory for them was refused.
+    // The least of the times. Refused only if memory for them was refused. The list has room for one
+    // time more: its holder may take another bundle at the node, and holds the stamp of that, too.
     pub(crate) fn held(&self, alloc: Global) -> Result<Vec<T>, Refusal>
         ensures covers { IfOk result (λ held. IsTrue
             (all_beyond T.below held.items (times self.now))) }
@@ -276,6 +277,8 @@ impl<T: Minimum> Gathered<T> {
             (all_beyond T.below (times self.now) held.items)) }
         ensures only { IfErr result (λ refused. refused ≡ OutOfMemory) }
     {
-        Ok(Vec::from_slice(alloc, self.front.as_slice())?)
+        let mut held = Vec::with_capacity(alloc, self.front.len().saturating_add(1))?;
+        held.extend_from_slice(self.front.as_slice())?;
+        Ok(held)
     }
 }

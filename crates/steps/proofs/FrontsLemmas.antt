@@ -1,10 +1,12 @@
 -- The frontiers of ports that one look finds.
 use Rattle.std.proofs.Common.{◌≡◌, ℕ, zero, suc, ◌+◌, ◌<◌, Bool, true, false, eqb, List, [], ◌∷◌, ◌++◌, length, Option, Some, None, inl, inr, refl, sym, ap, ◌∙◌, subst, arith}
-use Rattle.std.specs.Prelude.{IfSome}
+use Rattle.std.specs.Prelude.{IfSome, IsTrue}
 use Rattle.std.specs.List.{slice_get}
 use Rattle.std.proofs.lemmas.Bool.{eqb-false, eqb-true}
 use Rattle.lattice.specs.Order.{PartialOrderLaws}
 use Rattle.lattice.specs.Frontiers.{is_beyond}
+use Rattle.plan.specs.Nodes.{node_at}
+use Rattle.plan.specs.declared.node.Node.{Node}
 use Rattle.hub.specs.Known.{Known}
 use Rattle.histories.specs.declared.event.Event.TheVariants.{Look}
 use Rattle.histories.specs.declared.event.Site.{Site}
@@ -15,7 +17,7 @@ use Rattle.shared_board.specs.declared.event.Doing.{Doing}
 use Rattle.shared_board.specs.Found.{AreFrontsFound, dataflow_of}
 use Rattle.shared_board.specs.Ports.{AreFrontsOf}
 use Rattle.shared_board.specs.Tenures.{Adds, IsActor, state_found, state_left}
-use Rattle.desk.specs.Tidying.{AreTold, front_in}
+use Rattle.desk.specs.Tidying.{AreTold, front_in, holds_elsewhere}
 use Rattle.steps.specs.Steps.{ArePorts, LooksAtMost}
 use Rattle.steps.proofs.TenureLemmas.{tenure_of}
 
@@ -40,25 +42,28 @@ two_longer [] a b = refl
 two_longer (x ∷ xs) a b = ap suc (two_longer xs a b)
 
 -- the two ports of one node more
-pub ports_next : (n : ℕ) (ports : List Site) (a b : Site) → length ports ≡ n + n → ArePorts n ports → a.node ≡ n → a.port ≡ 0 → b.node ≡ n → b.port ≡ 1 → ArePorts (n + 1) ((ports ++ a ∷ []) ++ b ∷ [])
-ports_next n ports a b len before an ap0 bn bp m port l few = by (eqb m n) refl
+pub ports_next : (plan : List Node) (n : ℕ) (ports : List Site) (a b : Site) → length ports ≡ n + n → ArePorts plan n ports → (IsTrue (holds_elsewhere (node_at plan n)) → a.node ≡ n) → a.port ≡ 0 → b.node ≡ a.node → b.port ≡ 1 → ArePorts plan (n + 1) ((ports ++ a ∷ []) ++ b ∷ [])
+ports_next plan n ports a b len before an ap0 bn bp m port l few = by (eqb m n) refl
   where
-    last : (k : ℕ) → k < 2 → m ≡ n → port ≡ k → (site : Site) × (slice_get ((ports ++ a ∷ []) ++ b ∷ []) (m + (m + port)) ≡ Some site) × (site.node ≡ m) × (site.port ≡ port)
+    own : m ≡ n → IsTrue (holds_elsewhere (node_at plan m)) → a.node ≡ m
+    own e holds = an (subst (λ k. IsTrue (holds_elsewhere (node_at plan k))) e holds) ∙ sym e
+
+    last : (k : ℕ) → k < 2 → m ≡ n → port ≡ k → (site : Site) × (slice_get ((ports ++ a ∷ []) ++ b ∷ []) (m + (m + port)) ≡ Some site) × (IsTrue (holds_elsewhere (node_at plan m)) → site.node ≡ m) × (site.port ≡ port)
     last zero f e p = (
       a,
       ap (slice_get ((ports ++ a ∷ []) ++ b ∷ [])) (omega (arith, e, p, len)) ∙ get_first ports a b,
-      an ∙ sym e,
+      own e,
       ap0 ∙ sym p,
     )
     last (suc zero) f e p = (
       b,
       ap (slice_get ((ports ++ a ∷ []) ++ b ∷ [])) (omega (arith, e, p, len)) ∙ get_second ports a b,
-      bn ∙ sym e,
+      (λ holds. bn ∙ own e holds),
       bp ∙ sym p,
     )
     last (suc (suc k)) f e p = absurd (omega (arith, f))
 
-    by : (e : Bool) → eqb m n ≡ e → (site : Site) × (slice_get ((ports ++ a ∷ []) ++ b ∷ []) (m + (m + port)) ≡ Some site) × (site.node ≡ m) × (site.port ≡ port)
+    by : (e : Bool) → eqb m n ≡ e → (site : Site) × (slice_get ((ports ++ a ∷ []) ++ b ∷ []) (m + (m + port)) ≡ Some site) × (IsTrue (holds_elsewhere (node_at plan m)) → site.node ≡ m) × (site.port ≡ port)
     by true e = last port few (eqb-true m n e) refl
     by false e =
         let less : m < n = let far = eqb-false m n e in omega (arith, l, far) in
@@ -67,17 +72,17 @@ ports_next n ports a b len before an ap0 bn bp m port l few = by (eqb m n) refl
 
 -- ---- what one look finds
 
--- the list tells the frontiers of all ports
-told_from : {T : Type 0} (below : T → T → Bool) (p : Dataflow) (w : State T) (ports : List Site) (fronts : List (List T)) → ArePorts (length p.nodes) ports → AreFrontsOf below p w ports fronts → AreTold below p w fronts
-told_from {T} below p w ports fronts are found n port within few t =
+-- the list tells the frontiers of the ports of all nodes that have a hold
+told_from : {T : Type 0} (below : T → T → Bool) (p : Dataflow) (w : State T) (ports : List Site) (fronts : List (List T)) → ArePorts p.nodes (length p.nodes) ports → AreFrontsOf below p w ports fronts → AreTold below p w fronts
+told_from {T} below p w ports fronts are found n port within few holds t =
     let site = are n port within few in
     let front = found (n + (n + port)) site.0 site.1 in
     ap (λ F. is_beyond below (front_in F) t) front.1
-    ∙ (front.2 t ∙ (λ i. is_beyond below (port_frontier below p w (site.2 i) (site.3 i)) t))
+    ∙ (front.2 t ∙ (λ i. is_beyond below (port_frontier below p w (site.2 holds i) (site.3 i)) t))
 
 module _ {T : Type 0} (below : T → T → Bool) (joined : T → T → T) (minimum : T) (o : PartialOrderLaws below) (old new : Known (Doing T)) (after : IsActor below minimum new) where
   -- and a look leaves the state as it found it
-  pub told_found : Adds old (Look old.number) new → (ports : List Site) (fronts : List (List T)) → ArePorts (length (dataflow_of old).nodes) ports → AreFrontsFound below minimum old new ports fronts → AreTold below (dataflow_of new) (state_left below minimum new) fronts
+  pub told_found : Adds old (Look old.number) new → (ports : List Site) (fronts : List (List T)) → ArePorts (dataflow_of old).nodes (length (dataflow_of old).nodes) ports → AreFrontsFound below minimum old new ports fronts → AreTold below (dataflow_of new) (state_left below minimum new) fronts
   told_found adds ports fronts are found =
       let t = tenure_of below joined minimum o old (Look old.number) new after adds in
       subst (λ (y : Dataflow × State T). AreTold below y.0 y.1 fronts) (λ i. (sym t.same_flow i, sym t.left i)) (told_from below (dataflow_of old) (state_found below minimum new) ports fronts are found)

@@ -5,6 +5,8 @@ use Rattle.std.specs.declared.cmp.Ordering.{Ordering}
 use Rattle.update.specs.declared.change.Update.{Update}
 use Rattle.update.specs.declared.refusal.Refusal.{Refusal}
 use Rattle.update.specs.declared.refusal.Refusal.TheVariants.{OutOfMemory, Overflow, Failed}
+use Rattle.plan.specs.Nodes.{node_at}
+use Rattle.plan.specs.declared.node.Node.{Node}
 use Rattle.hub.specs.Known.{Known}
 use Rattle.histories.specs.declared.event.Bundle.{Bundle}
 use Rattle.histories.specs.declared.event.Emission.{Emission}
@@ -25,7 +27,7 @@ use Rattle.desk_laws.specs.Own.{DeskView, gives_passed, hand_node}
 use Rattle.desk_laws.specs.declared.hand.Hand.{Hand}
 use Rattle.desk_laws.specs.declared.hand.Hand.TheVariants.{Free, Taken, Turned, Ready, Sealed}
 use Rattle.desk.specs.Desks.{IsPutAway}
-use Rattle.desk.specs.Tidying.{AreTold, IsTidy}
+use Rattle.desk.specs.Tidying.{AreTold, IsTidy, holds_elsewhere}
 use Rattle.steps.specs.declared.step.Step.{Step}
 use Rattle.steps.specs.declared.step.Step.TheVariants.{Took, Gave, Idle, Busy}
 use Rattle.steps.specs.Workers.{WorkerView, HasSeenTooLarge}
@@ -37,10 +39,11 @@ abbrev pub gave_or_busy : Bool → Step
 gave_or_busy true = Gave
 gave_or_busy false = Busy
 
--- two ports for each of so many nodes, in the order of the nodes
-abbrev pub ArePorts : ℕ → List Site → Type 0
-ArePorts nodes ports = (n port : ℕ) → n < nodes → port < 2
-    → (site : Site) × (slice_get ports (n + (n + port)) ≡ Some site) × (site.node ≡ n) × (site.port ≡ port)
+-- two ports for each of the first nodes of a plan, in their order: its own, if it has a hold at a source's
+-- arrangement
+abbrev pub ArePorts : List Node → ℕ → List Site → Type 0
+ArePorts plan nodes ports = (n port : ℕ) → n < nodes → port < 2
+    → (site : Site) × (slice_get ports (n + (n + port)) ≡ Some site) × (IsTrue (holds_elsewhere (node_at plan n)) → site.node ≡ n) × (site.port ≡ port)
 
 module _ {T : Type 0} where
   -- the hand with what was found on the board, and what the step is then

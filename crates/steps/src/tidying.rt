@@ -5,7 +5,8 @@
 //! batch ended, and each update apart.
 ghost use Rattle.std.specs.Prelude.{◌≡◌, ◌<◌, Err, None, true, false, All, ℕ, IfErr, IfOk, IfSome, IsTrue, OnOk, Some, length, slice_get};
 ghost use Rattle.update.specs.declared.refusal.Refusal.TheVariants.{Failed, OutOfMemory};
-ghost use Rattle.desk.specs.Tidying.{AreTold};
+ghost use Rattle.plan.specs.Nodes.{node_at};
+ghost use Rattle.desk.specs.Tidying.{AreTold, holds_elsewhere};
 ghost use Rattle.desk_laws.specs.Own.{DeskView};
 ghost use Rattle.desk_laws.specs.declared.hand.Hand.TheVariants.{Free};
 ghost use Rattle.histories.specs.declared.event.Site.{Site};
@@ -19,21 +20,36 @@ use crate::worker::Worker;
 use antichain::Antichain;
 use lattice::Minimum;
 use machine::Site;
-use plan::{NodeId, Plan};
+use plan::{Node, NodeId, Plan};
 use shared_board::{Actor, BoardProtocol};
 use std::alloc::Global;
 use update::Refusal;
+
+// The node whose ports are asked about where the list has those of this one. A node that is neither a
+// join nor a reduction has no hold, so what its ports answer is not read. For it that is the last node:
+// each question makes the board keep the node's frontiers up to date from then on, and a plan mostly
+// ends with a view, whose frontier its readers ask about anyway.
+fn asked(plan: &Plan, node: NodeId) -> NodeId
+    requires { node < length plan.now }
+    ensures within { result < length plan.now }
+    ensures own { IsTrue (holds_elsewhere (node_at plan.now node)) → result ≡ node }
+{
+    match plan.node(node) {
+        Node::Join { .. } | Node::Reduce { .. } => node,
+        _ => NodeId::new(plan.len() - 1),
+    }
+}
 
 // Two ports for each node, in the order of the nodes. Of a worker they name the first: it is not read.
 pub(crate) fn ports_of(alloc: Global, plan: &Plan) -> Result<Vec<Site>, Refusal>
     ensures within { IfOk result
         (λ ports. All (λ (site : Site). site.node < length plan.now) ports.items) }
-    ensures ports { IfOk result (λ ports. ArePorts (length plan.now) ports.items) }
+    ensures ports { IfOk result (λ ports. ArePorts plan.now (length plan.now) ports.items) }
     ensures only { IfErr result (λ refusal. refusal ≡ OutOfMemory) }
 {
     let mut ports = Vec::new(alloc);
     for n in 0..plan.len() {
-        let node = NodeId::new(n);
+        let node = asked(plan, NodeId::new(n));
         ports.push(Site {
             node,
             port: 0,
@@ -55,7 +71,8 @@ pub(crate) fn find_fronts<T: Minimum, P: BoardProtocol<T>>(
     ports: &[Site],
 ) -> Result<Option<Vec<Antichain<T>>>, Refusal>
     requires within { AreWithin (dataflow_of actor.old) ports.now }
-    requires ports { ArePorts (length (dataflow_of actor.old).nodes) ports.now }
+    requires ports { ArePorts (dataflow_of actor.old).nodes
+        (length (dataflow_of actor.old).nodes) ports.now }
     ensures right { (d : DeskView T) → IsRightOf T.below T.joined T.least actor.old d Free
         → IsRightOf T.below T.joined T.least actor.new d Free }
     ensures looked { LooksAtMost actor.old actor.new }
@@ -84,7 +101,9 @@ impl<T: Minimum, P: BoardProtocol<T>> Worker<T, P> {
     /// - [`Refusal::OutOfMemory`] only if memory was refused. Some may have been merged, and some holds
     ///   moved.
     ///
-    /// Cost: that of a question for the input frontier of each port, and that of [`desk::Desk::tidy`].
+    /// Cost: that of a question for the input frontier of each port of a join or a reduction, and that of
+    /// [`desk::Desk::tidy`]. The board then keeps the frontiers of these nodes, and of the last one, so
+    /// each event above them costs a comparison for each of them more.
     pub fn tidy(&mut self, alloc: Global, fuel: u64) -> Result<bool, Refusal>
         ensures known { LooksAtMost self.old.known self.new.known }
         ensures hand { self.new.hand ≡ self.old.hand }

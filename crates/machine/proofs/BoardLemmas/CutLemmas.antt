@@ -23,20 +23,17 @@ if_ok (Err e) P Q f h = tt
 
 -- what the updates of nobody share is nothing
 module _ {T : Type 0} (below : T → T → Bool) (p : Dataflow) (g : Emission T) (none : g.updates ≡ []) where
-  if_nothing : (b : Bool) → cond b [] [] ≡ ([] : List (Update T))
-  if_nothing true = refl
-  if_nothing false = refl
+  if_nothing : (b : Bool) (us : List (Update T)) → us ≡ [] → cond b us [] ≡ []
+  if_nothing true us e = e
+  if_nothing false us e = refl
 
-  part_nothing : (columns : Option ℕ) (giver worker : ℕ) → part p columns giver worker [] ≡ ([] : List (Update T))
-  part_nothing None giver worker = if_nothing (eqb giver worker)
-  part_nothing (Some columns) giver worker = refl
+  part_nothing : (columns : Option ℕ) (giver worker : ℕ) (us : List (Update T)) → us ≡ [] → part p columns giver worker us ≡ []
+  part_nothing None giver worker us e = if_nothing (eqb giver worker) us e
+  part_nothing (Some columns) giver worker us e = ap (part p (Some columns) giver worker) e
 
   share_nothing : (source columns : Option ℕ) (worker : ℕ) → share_from p source columns worker g ≡ []
   share_nothing None columns worker = refl
-  share_nothing (Some source) columns worker =
-      ap (λ us. cond (eqb g.node source) (part p columns g.worker worker us) []) none
-      ∙ ap (λ us. cond (eqb g.node source) us []) (part_nothing columns g.worker worker)
-      ∙ if_nothing (eqb g.node source)
+  share_nothing (Some source) columns worker = if_nothing (eqb g.node source) (part p columns g.worker worker g.updates) (part_nothing columns g.worker worker g.updates none)
 
   along_nothing : (edge : Edge) (ks : List ℕ) → flat_map (λ k. bundled below (place edge.reader edge.port k) (share p (place edge.reader edge.port k) g)) ks ≡ []
   along_nothing edge [] = refl

@@ -15,7 +15,7 @@ find_fronts-requires g c =
       search rules,
       (
         subst (λ (x : List Node × List Site). All (λ (site : Site). site.node < length x.0) x.1) (λ i. (nodes i, sym same i)) c.in_ok-ports.ensures.within,
-        subst (λ (x : List Node × List Site). ArePorts (length x.0) x.1) (λ i. (nodes i, sym same i)) c.in_ok-ports.ensures.ports,
+        subst (λ (x : List Node × List Site). ArePorts x.0 (length x.0) x.1) (λ i. (nodes i, sym same i)) c.in_ok-ports.ensures.ports,
       ),
     )
 

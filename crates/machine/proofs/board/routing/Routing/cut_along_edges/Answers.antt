@@ -1,7 +1,7 @@
 use Rattle.std.proofs.Common.{◌-◌, ◌++◌, length, take, sym, ap, ◌∙◌, arith}
 use Rattle.std.specs.List.{flat_map}
 use Rattle.histories.specs.Histories.Cuts.{cut_along}
-use Rattle.machine.proofs.BoardLemmas.CutLemmas.{if_ok, last_behind}
+use Rattle.machine.proofs.BoardLemmas.CutLemmas.{cut_nothing, if_ok, last_behind}
 use Rattle.machine.proofs.BoardLemmas.RoutingLemmas.{leading}
 use Rattle.machine.proofs.board.routing.Routing.cut_along_edges.Goals as goal
 
@@ -22,3 +22,6 @@ returns-clause-cut g c =
     ∙ ap (λ bs. bs ++ along last) (c.in-Ok.ensures.cut ∙ ap (λ es. flat_map along (take n es)) (sym c.edges_from-edges.ensures))
     ∙ whole
     ∙ ap (flat_map along) c.edges_from-edges.ensures) c.cut_along_last.ensures.cut
+
+pub returns-then-len-eq0-clause-cut : goal.returns-then-len-eq0-clause-cut
+returns-then-len-eq0-clause-cut g c = ?
