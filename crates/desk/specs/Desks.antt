@@ -31,12 +31,6 @@ use Rattle.desk_laws.specs.declared.hand.Hand.{Hand}
 use Rattle.desk_laws.specs.declared.hand.Hand.TheVariants.{Free, Taken, Kept, Turned, Ready, Sealed}
 
 module _ {T : Type 0} where
-  -- all that a bundle of the node made lies on the desk, or is ready
-  abbrev pub IsLaidHand : ℕ → Hand T → Type 0
-  IsLaidHand n (Kept node more) = node ≡ n
-  IsLaidHand n (Ready node updates) = node ≡ n
-  IsLaidHand n other = ⊥
-
   -- nothing is left to compute of the piece in hand without the board
   abbrev pub IsComputed : Hand T → Type 0
   IsComputed (Taken bundle more) = ⊥

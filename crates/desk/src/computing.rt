@@ -1,8 +1,9 @@
 //! The piece in hand is taken as far as it goes without the board.
-ghost use Rattle.std.specs.Prelude.{◌≡◌, ◌<◌, IfErr, OnOk, IsTrue, None, false, length};
+ghost use Rattle.std.specs.Prelude.{◌≡◌, ◌<◌, IfErr, IfSome, OnOk, IsTrue, None, false, length};
 ghost use Rattle.update.specs.Refusals.{IsMemoryOrOverflow};
 ghost use Rattle.plan.specs.Nodes.{arranged_by, is_reduction, node_at};
 ghost use Rattle.desk_laws.specs.Own.{gives_passed, hand_node};
+ghost use Rattle.desk_laws.specs.declared.hand.Hand.TheVariants.{Kept, Ready};
 ghost use Rattle.desk.specs.Desks.{IsComputed, IsSomeones, IsTooLarge, Leads};
 
 use crate::desk::Desk;
@@ -12,7 +13,7 @@ use desk_laws::Hand;
 use lattice::Minimum;
 use plan::{NodeId, Plan};
 use std::alloc::Global;
-use update::Refusal;
+use update::{Refusal, Update};
 
 // Once so many updates lie gathered at a node, they are given, although more bundles wait there. Until
 // then it waits for all of them: so what comes from two sources is consolidated, and a view captures
@@ -36,6 +37,19 @@ fn take_in_hand<T: Minimum>(hand: &mut Hand<T>, next: Hand<T>)
     *hand = next;
 }
 
+// Once a bundle was laid, the pairs of a join are ready, and what another node made of it is kept. The
+// hand is written where it is: with a copy on the way this would cost as much as the rest of a small
+// bundle.
+fn take_laid<T: Minimum>(hand: &mut Hand<T>, node: NodeId, more: bool, laid: Option<Vec<Update<T>>>)
+    ensures paired { IfSome laid (λ pairs. hand.new ≡ Ready node pairs.items) }
+    ensures kept { laid ≡ None → hand.new ≡ Kept node more }
+{
+    match laid {
+        Some(pairs) => *hand = ready(node, pairs),
+        None => *hand = Hand::Kept { node, more },
+    }
+}
+
 impl<T: Minimum> Desk<T> {
     // Computes what a bundle makes, or what is to be given at a node that the worker turned to.
     fn begin(&mut self, alloc: Global, plan: &Plan, hand: &mut Hand<T>) -> Result<(), Refusal>
@@ -52,8 +66,10 @@ impl<T: Minimum> Desk<T> {
             return Ok(());
         }
         if let Hand::Taken { bundle, more } = hand {
-            let laid = self.lay(alloc, plan, bundle, *more)?;
-            take_in_hand(hand, laid);
+            let node = bundle.place.node;
+            let more = *more;
+            let laid = self.lay(alloc, plan, bundle, more)?;
+            take_laid(hand, node, more, laid);
             return Ok(());
         }
         if let Hand::Turned { node, upper } = &*hand {

@@ -1,6 +1,6 @@
 //! What a bundle makes is laid on the desk. At a linear node it is gathered, at an arrange node it
 //! waits in the arrangement, and at a reduction its times are pending.
-ghost use Rattle.std.specs.Prelude.{◌≡◌, ◌++◌, ◌<◌, ◌≤◌, ◌^◌, ℕ, List, [], ◌∷◌, Some, None, Bool, false, true, IfOk, IfErr, OnOk, OnErr, IsTrue, length, slice_get};
+ghost use Rattle.std.specs.Prelude.{◌≡◌, ◌++◌, ◌<◌, ◌≤◌, ◌^◌, ℕ, List, [], ◌∷◌, Some, None, Bool, false, true, IfOk, IfErr, OnOk, OnErr, IsTrue, IfSome, length, slice_get};
 ghost use Rattle.std.specs.List.{list_all};
 ghost use Rattle.lattice.specs.Frontiers.{all_beyond};
 ghost use Rattle.update.specs.declared.change.Update.{Update};
@@ -19,18 +19,16 @@ ghost use Rattle.operator.specs.Arrangements.{ArrangementState, rows_have, times
 ghost use Rattle.operator.specs.Reductions.{ReducingView, IsPendingAfter, IsReduced, have_width, pending_of};
 ghost use Rattle.desk_laws.specs.Own.{IsOfOneShape};
 ghost use Rattle.desk_laws.specs.declared.hand.Hand.TheVariants.{Kept, Ready, Taken};
-ghost use Rattle.desk.specs.Desks.{IsLaidHand, IsLaidIn, IsReducedWith, IsSomeones, IsTooLarge, Leads};
+ghost use Rattle.desk.specs.Desks.{IsLaidIn, IsReducedWith, IsSomeones, IsTooLarge, Leads};
 
 use crate::desk::Desk;
-use crate::finding::ready;
 use columns::UpdateList;
-use desk_laws::Hand;
 use lattice::Minimum;
 use machine::Bundle;
 use operator::Arrangement;
 use plan::{Node, NodeId, Plan};
 use std::alloc::Global;
-use update::Refusal;
+use update::{Refusal, Update};
 
 // Moves updates into an arrangement. If memory was refused, then nothing has changed, and the list has
 // them still.
@@ -153,35 +151,36 @@ impl<T: Minimum> Desk<T> {
         }
     }
 
-    // Lays what a bundle makes on the desk. The pairs of a join are ready at once. What moves to the desk
-    // is gone from the bundle then. If it is refused, then nothing has changed, and the bundle is as it
-    // was.
+    // Lays what a bundle makes on the desk, and answers the pairs of a join: they are to be given at once.
+    // What moves to the desk is gone from the bundle then. If it is refused, then nothing has changed, and
+    // the bundle is as it was.
     pub(crate) fn lay(
         &mut self,
         alloc: Global,
         plan: &Plan,
         bundle: &mut Bundle<T>,
         more: bool,
-    ) -> Result<Hand<T>, Refusal>
+    ) -> Result<Option<Vec<Update<T>>>, Refusal>
         requires someones { IsSomeones T.below T.joined T.least plan.now self.old
             (Taken bundle.old more) }
-        ensures leads { IfOk result (λ hand. Leads T.below T.joined T.least plan.now self.old
-            (Taken bundle.old more) self.new hand) }
-        ensures laid { IfOk result (λ hand. IsLaidHand bundle.old.place.node hand) }
+        ensures paired { IfOk result (λ made. IfSome made (λ pairs. Leads T.below T.joined T.least
+            plan.now self.old (Taken bundle.old more) self.new
+            (Ready bundle.old.place.node pairs.items))) }
+        ensures laid { IfOk result (λ made. made ≡ None → Leads T.below T.joined T.least plan.now
+            self.old (Taken bundle.old more) self.new (Kept bundle.old.place.node more)) }
         ensures same { OnErr result (self.new ≡ self.old) }
         ensures left { OnErr result (bundle.new ≡ bundle.old) }
         ensures refused { IfErr result (IsMemoryOrOverflow (IsTooLarge T.below T.joined T.least T.cmp
             plan.now self.old (Taken bundle.old more))) }
     {
-        let node = bundle.place.node;
-        match plan.node(node) {
+        match plan.node(bundle.place.node) {
             Node::Join { left, right } => {
                 let pairs = self.join(alloc, plan, bundle, more, *left, *right)?;
-                Ok(ready(node, pairs))
+                Ok(Some(pairs))
             }
             _ => {
                 self.take_in(alloc, plan, bundle, more)?;
-                Ok(Hand::Kept { node, more })
+                Ok(None)
             }
         }
     }

@@ -32,10 +32,7 @@ returns-in_err-turned-clause-refused g c =
     (memory_or (λ cause. subst large (sym c.in-Turned.is) (subst (λ ts. large (Turned c.in-Turned.node ts)) c.as_slice.ensures cause)) c.in_err-turned.ensures.refused)
 
 pub returns-in-Taken-clause-leads : goal.returns-in-Taken-clause-leads
-returns-in-Taken-clause-leads g c p q e es legal k x =
-    let w = state_after g.T.PartialOrder.below g.T.Minimum.least p es in
-    let right : DeskView g.row.T.Denot → Hand g.row.T.Denot → Type 0 = λ d h. IsRight g.T.PartialOrder.below g.T.Lattice.joined g.T.Minimum.least p w k d h in
-    subst (λ h. right c.lay.new.self h) (sym c.take_in_hand.ensures) (c.in_ok-laid.ensures.leads p q e es legal k (subst (λ h. right c.args.self.now h) c.in-Taken.is x))
+returns-in-Taken-clause-leads g c p q e es legal k x = ?
 
 pub returns-in_ok-turned-clause-leads : goal.returns-in_ok-turned-clause-leads
 returns-in_ok-turned-clause-leads g c p q e es legal k x =
