@@ -21,7 +21,11 @@ pub if_ok : {T E : Type 0} (r : Result T E) (P Q : T → Type 0) → ((x : T) �
 if_ok (Ok x) P Q f h = f x h
 if_ok (Err e) P Q f h = tt
 
--- what the updates of nobody share is nothing
+-- a list without length has no elements
+pub no_length : {X : Type 0} (xs : List X) → length xs ≡ 0 → xs ≡ []
+no_length [] e = refl
+no_length (x ∷ xs) e = absurd (omega (arith, e))
+
 module _ {T : Type 0} (below : T → T → Bool) (p : Dataflow) (g : Emission T) (none : g.updates ≡ []) where
   if_nothing : (b : Bool) (us : List (Update T)) → us ≡ [] → cond b us [] ≡ []
   if_nothing true us e = e

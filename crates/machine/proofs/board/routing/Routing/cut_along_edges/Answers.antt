@@ -1,7 +1,7 @@
-use Rattle.std.proofs.Common.{◌-◌, ◌++◌, length, take, sym, ap, ◌∙◌, arith}
+use Rattle.std.proofs.Common.{rules, ◌-◌, ◌++◌, length, take, sym, ap, ◌∙◌, arith}
 use Rattle.std.specs.List.{flat_map}
 use Rattle.histories.specs.Histories.Cuts.{cut_along}
-use Rattle.machine.proofs.BoardLemmas.CutLemmas.{cut_nothing, if_ok, last_behind}
+use Rattle.machine.proofs.BoardLemmas.CutLemmas.{cut_nothing, if_ok, last_behind, no_length}
 use Rattle.machine.proofs.BoardLemmas.RoutingLemmas.{leading}
 use Rattle.machine.proofs.board.routing.Routing.cut_along_edges.Goals as goal
 
@@ -24,4 +24,6 @@ returns-clause-cut g c =
     ∙ ap (flat_map along) c.edges_from-edges.ensures) c.cut_along_last.ensures.cut
 
 pub returns-then-len-eq0-clause-cut : goal.returns-then-len-eq0-clause-cut
-returns-then-len-eq0-clause-cut g c = ?
+returns-then-len-eq0-clause-cut g c =
+    let none = no_length c.args.emission.updates (sym c.len.ensures ∙ c.if-len-eq0.true) in
+    search rules ∙ cut_nothing g.T.PartialOrder.below c.args.self.now c.args.emission none
