@@ -1,9 +1,10 @@
 //! The only worker of a board.
 //!
-//! It tidies its desk, and then steps until there is no piece for it. So its holds follow the frontiers
-//! with each call, and what it merges in the steps is advanced up to there. As the only worker it leaves
-//! the board quiet, if no client changed anything meanwhile. Only a number that is too large stops it
-//! before, or want of memory.
+//! It steps until there is no piece for it. Then it tidies its desk: next to nothing is outstanding then,
+//! so its questions for frontiers cost next to nothing, and the board need not keep the answers while a
+//! long list of changes is worked off. So its holds follow the frontiers with each call, and what it
+//! merges in the next steps is advanced up to there. As the only worker it leaves the board quiet, if no
+//! client changed anything meanwhile. Only a number that is too large stops it before, or want of memory.
 ghost use Rattle.std.specs.Prelude.{◌≡◌, ◌⊎◌, Err, IfErr, IsTrue, OnErr, OnOk};
 ghost use Rattle.lattice.specs.Bitimes.{bitime_below};
 ghost use Rattle.lattice.specs.Pairs.{make_pair};
@@ -67,7 +68,7 @@ impl<'a, R: Wait> SoleWorker<'a, R> {
         })
     }
 
-    /// Tidies, and steps until there is no piece. What is too large the worker tells, and then the
+    /// Steps until there is no piece, and tidies. What is too large the worker tells, and then the
     /// clients hear of it. Refused only with `OutOfMemory`. A worker that was stopped does nothing more,
     /// and is refused again if it was for want of memory.
     ///
@@ -111,7 +112,7 @@ impl Work {
     }
 }
 
-// The worker tidies, and goes on until there is no piece for it. If it has failed, it tells that.
+// The worker goes on until there is no piece for it, and tidies. If it has failed, it tells that.
 fn finish<R: Wait>(runtime: &R, alloc: Global, mut worker: BoardWorker) -> Work
     ensures idle { HasPaused bitime_below (make_pair 0 0) result }
 {
@@ -125,13 +126,24 @@ fn finish<R: Wait>(runtime: &R, alloc: Global, mut worker: BoardWorker) -> Work
     }
 }
 
-// Tidies, and steps until there is no piece.
+// Steps until there is no piece, and tidies. To tidy the worker looks at the board, and what is promised
+// is of its last look. So it looks for a piece once more.
 fn clear<R: Wait>(runtime: &R, alloc: Global, worker: &mut BoardWorker) -> Result<(), Refusal>
     ensures idle { OnOk result (HasNothingToDo bitime_below (make_pair 0 0) worker.new) }
     ensures refused { IfErr result (λ refusal.
         (refusal ≡ OutOfMemory) ⊎ IsTrue worker.new.failed) }
 {
+    step_on(runtime, alloc, worker)?;
     worker.tidy(alloc, 0)?;
+    step_on(runtime, alloc, worker)
+}
+
+// Steps until there is no piece.
+fn step_on<R: Wait>(runtime: &R, alloc: Global, worker: &mut BoardWorker) -> Result<(), Refusal>
+    ensures idle { OnOk result (HasNothingToDo bitime_below (make_pair 0 0) worker.new) }
+    ensures refused { IfErr result (λ refusal.
+        (refusal ≡ OutOfMemory) ⊎ IsTrue worker.new.failed) }
+{
     for _ in runtime.forever() {
         if let Step::Idle { .. } = worker.step(alloc)? {
             return Ok(());
