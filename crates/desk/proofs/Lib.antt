@@ -5,7 +5,6 @@ pub mod LargeLemmas
 pub mod DeskLemmas
 pub mod BundleLemmas
 pub mod CauseLemmas
-pub mod GatheredLemmas
 pub mod LayingLemmas
 pub mod FindingLemmas
 pub mod FromLemmas

@@ -5,8 +5,8 @@
 //! joins that read an arrange node share its spine, and each has a hold of its own there, or two if it
 //! reads the node at both ports.
 
-use crate::gathered::Gathered;
 use antichain::Antichain;
+use gathered::Gathered;
 use lattice::Minimum;
 use operator::{Arrangement, Joining, Reducing};
 use std::marker::Model;

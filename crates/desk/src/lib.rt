@@ -15,7 +15,6 @@
 mod computing;
 mod desk;
 mod finding;
-mod gathered;
 mod holding;
 mod joining;
 mod keeping;

@@ -18,8 +18,8 @@ ghost use Rattle.desk.specs.Desks.{IsRight};
 ghost use Rattle.desk.specs.Openings.{HasOneMore, HasOwnHolds, IsFirstArrangement, IsFirstJoin, IsFirstReduction, IsLaidOut};
 
 use crate::desk::Desk;
-use crate::gathered::Gathered;
 use antichain::Antichain;
+use gathered::Gathered;
 use lattice::Minimum;
 use operator::{Arrangement, Joining, Reducing};
 use plan::{Node, NodeId, Plan};

@@ -1,6 +1,6 @@
 use Rattle.std.proofs.Common.{◌≡◌, ◌+◌, ◌^◌, drop}
 use Rattle.update.proofs.ConsolidatedLemmas.{summed_size}
-use Rattle.desk.proofs.gathered.is_small.Given as goal
+use Rattle.gathered.proofs.gathered.is_small.Given as goal
 
 -- what is left is as much as the updates so far leave
 abbrev pub invariant-loop-update : goal.invariant-loop-update

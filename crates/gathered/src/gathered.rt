@@ -22,9 +22,9 @@ use std::marker::Model;
 use std::mem;
 use update::{Refusal, Update, consolidate};
 
-// Updates that were gathered, in the order in which they came. A contract sees the list of them.
+/// Updates that were gathered, in the order in which they came. A contract sees the list of them.
 #[derive(Drop)]
-pub(crate) struct Gathered<T: Minimum> {
+pub struct Gathered<T: Minimum> {
     updates: Vec<Update<T>>,
     front: Vec<T>,
 }
@@ -116,8 +116,8 @@ fn consolidate_small<T: Minimum>(updates: Vec<Update<T>>) -> Vec<Update<T>>
 }
 
 impl<T: Minimum> Gathered<T> {
-    // Nothing. Takes no memory.
-    pub(crate) fn new(alloc: Global) -> Gathered<T>
+    /// Nothing. Takes no memory.
+    pub fn new(alloc: Global) -> Gathered<T>
         ensures { result ≡ [] }
     {
         Gathered {
@@ -126,8 +126,8 @@ impl<T: Minimum> Gathered<T> {
         }
     }
 
-    // How many updates lie gathered.
-    pub(crate) fn len(&self) -> usize
+    /// How many updates lie gathered. Takes no memory.
+    pub fn len(&self) -> usize
         ensures { result ≡ length self.now }
     {
         self.updates.len()
@@ -175,12 +175,17 @@ impl<T: Minimum> Gathered<T> {
         Ok(())
     }
 
-    // Takes in what a linear node makes of updates. If it is refused, then nothing has changed, and the
-    // list is as it was.
+    /// Takes in what a linear node makes of updates. The node must be linear, and the rows as wide as it
+    /// reads them. [`Refusal::Overflow`] only if a difference has no opposite at a negation,
+    /// [`Refusal::OutOfMemory`] only if memory was refused. Then nothing has changed, and the list is as it
+    /// was.
+    ///
+    /// Cost: linear in the updates, times the least times of what lies there. The updates move, unless
+    /// the node is a filter or the list is in columns.
     //
     // A filter makes of a copy: it could not give back what it drops, and the least times are those of
     // what passes alone. Every other node overwrites the updates, and they move.
-    pub(crate) fn take_in(
+    pub fn take_in(
         &mut self,
         alloc: Global,
         operator: &Node,
@@ -217,7 +222,7 @@ impl<T: Minimum> Gathered<T> {
     }
 
     // Takes all out, and leaves nothing. Takes no memory.
-    pub(crate) fn take(&mut self, alloc: Global) -> Vec<Update<T>>
+    fn take(&mut self, alloc: Global) -> Vec<Update<T>>
         ensures taken { result.items ≡ self.old }
         ensures left { self.new ≡ [] }
     {
@@ -247,14 +252,14 @@ impl<T: Minimum> Gathered<T> {
         Ok(summed)
     }
 
-    // Takes all out in a form that may be given, and leaves nothing. A node with two sources may have
-    // the same updates from both, so there they are consolidated: a tower of such nodes does not grow
-    // with each floor. If it is refused, then nothing has changed.
-    pub(crate) fn take_summed(
-        &mut self,
-        alloc: Global,
-        operator: &Node,
-    ) -> Result<Vec<Update<T>>, Refusal>
+    /// Takes all out in a form that may be given, and leaves nothing. A node with two sources may have
+    /// the same updates from both, so there they are consolidated: a tower of such nodes does not grow
+    /// with each floor. [`Refusal::Overflow`] only if the total of a row at a time does not fit in 64 bits,
+    /// [`Refusal::OutOfMemory`] only if memory was refused. Then nothing has changed.
+    ///
+    /// Cost: nothing at a node with one source. With two, n log n comparisons in the number of updates,
+    /// and a copy of them if all differences together are 2^63 or more.
+    pub fn take_summed(&mut self, alloc: Global, operator: &Node) -> Result<Vec<Update<T>>, Refusal>
         ensures split { IfOk result (λ out. IsSplit T.below self.old out.items []) }
         ensures wide { (width : ℕ) → IsTrue (are_wide width self.old)
             → IfOk result (λ out. IsTrue (are_wide width out.items)) }
@@ -268,9 +273,11 @@ impl<T: Minimum> Gathered<T> {
         }
     }
 
-    // The least of the times. Refused only if memory for them was refused. The list has room for one
-    // time more: its holder may take another bundle at the node, and holds the stamp of that, too.
-    pub(crate) fn held(&self, alloc: Global) -> Result<Vec<T>, Refusal>
+    /// The least of the times. Refused only with `OutOfMemory`. The list has room for one time more: its
+    /// holder may take another bundle at the node, and holds the stamp of that, too.
+    ///
+    /// Cost: linear in these times.
+    pub fn held(&self, alloc: Global) -> Result<Vec<T>, Refusal>
         ensures covers { IfOk result (λ held. IsTrue
             (all_beyond T.below held.items (times self.now))) }
         ensures tight { IfOk result (λ held. IsTrue

@@ -1,8 +1,8 @@
 -- The times are kept, since the node is no filter.
 use Rattle.std.proofs.Common.{IsTrue, sym, subst}
 use Rattle.linear.specs.Widths.{takes_rows}
-use Rattle.desk.proofs.GatheredLemmas.{times_kept}
-use Rattle.desk.proofs.gathered.Gathered.take_in.Goals as goal
+use Rattle.gathered.proofs.GatheredLemmas.{times_kept}
+use Rattle.gathered.proofs.gathered.Gathered.take_in.Goals as goal
 
 pub append_applied-moved-requires : goal.append_applied-moved-requires
 append_applied-moved-requires g c = record {

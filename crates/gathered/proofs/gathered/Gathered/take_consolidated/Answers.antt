@@ -3,7 +3,7 @@ use Rattle.std.proofs.Common.{eqb, length, [], sym, subst, IsTrue}
 use Rattle.linear.specs.Widths.{are_wide}
 use Rattle.operator_laws.specs.Gathering.{IsSplit}
 use Rattle.operator_laws.proofs.ArrangingLemmas.{all_given}
-use Rattle.desk.proofs.gathered.Gathered.take_consolidated.Goals as goal
+use Rattle.gathered.proofs.gathered.Gathered.take_consolidated.Goals as goal
 
 pub returns-clause-split : goal.returns-clause-split
 returns-clause-split g c =

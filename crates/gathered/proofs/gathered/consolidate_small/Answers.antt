@@ -2,7 +2,7 @@
 use Rattle.std.proofs.Common.{eqb, length, arith, refl}
 use Rattle.operator.proofs.ReductionLemmas.{large_size}
 use Rattle.operator_laws.proofs.ArrangingLemmas.{all_given}
-use Rattle.desk.proofs.gathered.consolidate_small.Goals as goal
+use Rattle.gathered.proofs.gathered.consolidate_small.Goals as goal
 
 pub unreachable-requires : goal.unreachable-requires
 unreachable-requires g c =

@@ -1,5 +1,5 @@
 use Rattle.std.proofs.Common.{◌≡◌, take}
-use Rattle.desk.proofs.gathered.Gathered.copies.Given as goal
+use Rattle.gathered.proofs.gathered.Gathered.copies.Given as goal
 
 -- copies of the updates so far
 abbrev pub invariant-loop-update : goal.invariant-loop-update

@@ -4,8 +4,8 @@ use Rattle.update.specs.declared.change.Update.{Update}
 use Rattle.histories.specs.Histories.States.{times}
 use Rattle.operator.specs.Arrangements.{IsFrontOf}
 use Rattle.operator.proofs.FrontLemmas.{front_covers, front_tight}
-use Rattle.desk.proofs.gathered.Gathered.held.Given.{Over}
-use Rattle.desk.proofs.gathered.Gathered.held.Goals as goal
+use Rattle.gathered.proofs.gathered.Gathered.held.Given.{Over}
+use Rattle.gathered.proofs.gathered.Gathered.held.Goals as goal
 
 -- the front that is kept is that of the updates
 front : (g : Over) (c : goal.In_ok-extend_from_slice g) → IsFrontOf g.T.PartialOrder.below c.self.inside.front.items c.args.self.now

@@ -1,0 +1,2 @@
+-- Lemmas of what is gathered.
+pub mod GatheredLemmas
