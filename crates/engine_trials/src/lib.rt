@@ -1,5 +1,5 @@
-//! Trials of the engine: tests of the hub, the worker and the run of a command file, of what no
-//! clause says.
+//! Trials of the engine: tests of the hub, of what lies gathered, of the worker and of the run of a
+//! command file, of what no clause says.
 //!
 //! They are as crate `trials` says. The crates of tests are proved side by side, and those of the
 //! lower layers do not wait for the engine. Nor are they proved again when the engine changes.
@@ -11,6 +11,8 @@
 
 #[cfg(test)]
 mod actor_tests;
+#[cfg(test)]
+mod gathered_tests;
 #[cfg(test)]
 mod hub_tests;
 mod pairs;
