@@ -9,15 +9,7 @@
 #![tactic(auto)]
 
 #[cfg(test)]
-mod client;
-#[cfg(test)]
-mod kept_tests;
-#[cfg(test)]
-mod players;
-#[cfg(test)]
 mod quiet_tests;
-#[cfg(test)]
-mod schedule;
 #[cfg(test)]
 mod worked;
 #[cfg(test)]

@@ -1,10 +1,10 @@
 //! When a worker finds the board quiet. Clauses say what it means that the board was quiet. No
 //! clause says that it ever is.
-use crate::schedule::{until_idle, until_idle_at_last, until_quiet};
-use crate::worked::{BoardClient, Crew, Worked};
+use crate::worked::Worked;
 use crate::worked_tests::{seven_twice, worked};
 use lattice::{Bitime, Minimum};
 use plan::NodeId;
+use players::{BoardClient, Crew, until_idle, until_idle_at_last, until_quiet};
 use shared_board::BoardProtocol;
 use std::alloc::Global;
 use std::process::Abort;

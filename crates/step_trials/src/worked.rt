@@ -2,14 +2,12 @@
 //! on.
 ghost use Rattle.std.specs.Prelude.{◌≤◌, ◌<◌};
 
-use crate::client::Client;
-use crate::players::opened;
-use crate::schedule::{are_idle, are_tidy, drawn_steps, until_quiet};
 use antichain::is_beyond;
 use lattice::{Bitime, Minimum};
 use oracle::{are_wide, evaluate};
 use plan::{NodeId, Plan};
-use shared_board::{BitemporalBoards, BoardProtocol};
+use players::{BoardClient, Client, Crew, are_idle, are_tidy, drawn_steps, opened, until_quiet};
+use shared_board::BoardProtocol;
 use std::alloc::Global;
 use std::process::Abort;
 use std::sync::Wait;
@@ -146,15 +144,6 @@ impl<T: Minimum> Worked<T> {
         Ok(client)
     }
 }
-
-/// The client of a board of bitemporal times.
-pub(crate) type BoardClient = Client<Bitime, BitemporalBoards>;
-
-/// A worker of a board of bitemporal times.
-pub(crate) type BoardWorker = Worker<Bitime, BitemporalBoards>;
-
-/// The workers of a board of bitemporal times.
-pub(crate) type Crew = Vec<BoardWorker>;
 
 impl Worked<Bitime> {
     /// The client finds the view's frontier and changes, and its rows at each of the times.

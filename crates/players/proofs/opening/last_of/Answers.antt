@@ -2,7 +2,7 @@ use Rattle.std.proofs.Common.{◌≡◌, ◌∙◌, ◌∷◌, ◌++◌, ◌+◌
 use Rattle.std.specs.Prelude.{IfSome, option_to_list, slice_get}
 use Rattle.std.proofs.lemmas.Option.{none-some}
 use Rattle.shared_board.specs.Tenures.{IsFirst, terms_for}
-use Rattle.step_trials.proofs.players.last_of.Goals as goal
+use Rattle.players.proofs.opening.last_of.Goals as goal
 
 -- the last of a list
 slice_get-seam : {A : Type 0} (ys : List A) (x : A) → slice_get (ys ++ x ∷ []) (length ys) ≡ Some x

@@ -1,10 +1,8 @@
 //! How many updates a spine shows its readers once its worker has tidied. Clauses say where the holds are
 //! then, and that nothing is left to merge. That so few updates are left is shown here.
-use crate::players::opened;
-use crate::schedule::until_idle;
-use crate::worked::{BoardClient, BoardWorker, Crew};
 use lattice::Bitime;
 use plan::{Kind, NodeId, Plan};
+use players::{BoardClient, BoardWorker, Crew, opened, until_idle};
 use row::Row;
 use std::alloc::Global;
 use std::process::Abort;

@@ -1,7 +1,8 @@
 //! The client of a board, who knows the plan.
 //!
 //! Its calls ask for a node that is an input or a view. That is tested here, so a test need not be
-//! proved to name one.
+//! proved to name one: any other node is refused with `UnknownName`. All else is as the actor answers it
+//! ([`shared_board::Actor`]): one tenure for each call, for which it waits.
 ghost use Rattle.std.specs.Prelude.{◌≡◌, ◌≤◌, ◌<◌, IsTrue, length};
 ghost use Rattle.std.specs.Bool.{OnTrue};
 ghost use Rattle.plan.specs.Nodes.{is_input, is_output, node_at};
@@ -16,7 +17,7 @@ use update::{Bag, Refusal, Times, Update};
 
 /// The client of a board.
 #[derive(Drop)]
-pub(crate) struct Client<T: Minimum, P: BoardProtocol<T>> {
+pub struct Client<T: Minimum, P: BoardProtocol<T>> {
     actor: Actor<T, P>,
     plan: Plan,
     ghost knows: { (terms_in actor.seen).dataflow.nodes ≡ plan },
@@ -39,7 +40,7 @@ fn is_view(plan: &Plan, id: NodeId) -> bool
 
 impl<T: Minimum, P: BoardProtocol<T>> Client<T, P> {
     /// The client of an actor that knows the plan of its board, and is no worker there.
-    pub(crate) fn new(actor: Actor<T, P>, plan: Plan) -> Client<T, P>
+    pub fn new(actor: Actor<T, P>, plan: Plan) -> Client<T, P>
         requires knows { (terms_in actor.seen).dataflow.nodes ≡ plan }
         requires client { (terms_in actor.seen).dataflow.workers ≤ actor.number }
     {
@@ -47,7 +48,7 @@ impl<T: Minimum, P: BoardProtocol<T>> Client<T, P> {
     }
 
     /// Feeds a change.
-    pub(crate) fn feed<R: Wait>(
+    pub fn feed<R: Wait>(
         &mut self,
         rt: &R,
         input: NodeId,
@@ -60,7 +61,7 @@ impl<T: Minimum, P: BoardProtocol<T>> Client<T, P> {
     }
 
     /// Moves the frontier of an input.
-    pub(crate) fn advance<R: Wait>(
+    pub fn advance<R: Wait>(
         &mut self,
         rt: &R,
         input: NodeId,
@@ -73,11 +74,7 @@ impl<T: Minimum, P: BoardProtocol<T>> Client<T, P> {
     }
 
     /// The frontier of a view.
-    pub(crate) fn frontier<R: Wait>(
-        &mut self,
-        rt: &R,
-        view: NodeId,
-    ) -> Result<Antichain<T>, Refusal> {
+    pub fn frontier<R: Wait>(&mut self, rt: &R, view: NodeId) -> Result<Antichain<T>, Refusal> {
         if !is_view(&self.plan, view) {
             return Err(Refusal::UnknownName);
         }
@@ -85,7 +82,7 @@ impl<T: Minimum, P: BoardProtocol<T>> Client<T, P> {
     }
 
     /// The rows of a view at a time.
-    pub(crate) fn read<R: Wait>(&mut self, rt: &R, view: NodeId, time: T) -> Result<Bag, Refusal> {
+    pub fn read<R: Wait>(&mut self, rt: &R, view: NodeId, time: T) -> Result<Bag, Refusal> {
         if !is_view(&self.plan, view) {
             return Err(Refusal::UnknownName);
         }
@@ -93,11 +90,7 @@ impl<T: Minimum, P: BoardProtocol<T>> Client<T, P> {
     }
 
     /// The changes of a view.
-    pub(crate) fn changes<R: Wait>(
-        &mut self,
-        rt: &R,
-        view: NodeId,
-    ) -> Result<Vec<Update<T>>, Refusal> {
+    pub fn changes<R: Wait>(&mut self, rt: &R, view: NodeId) -> Result<Vec<Update<T>>, Refusal> {
         if !is_view(&self.plan, view) {
             return Err(Refusal::UnknownName);
         }

@@ -96,7 +96,7 @@ fn all_hired<T: Minimum, P: BoardProtocol<T>>(
 
 /// Opens a board for so many workers and one client. The workers are the crew then. The last of
 /// them has number 0, the one before it 1, and so on.
-pub(crate) fn opened<T: Minimum, P: BoardProtocol<T>, R: Wait>(
+pub fn opened<T: Minimum, P: BoardProtocol<T>, R: Wait>(
     rt: &R,
     alloc: Global,
     plan: &Plan,

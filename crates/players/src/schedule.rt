@@ -9,7 +9,7 @@ use update::Refusal;
 
 /// Steps one worker until it is idle. Answers whether the board was quiet then. `None` if the
 /// worker is still not idle after 10,000 steps.
-pub(crate) fn until_idle<T: Minimum, P: BoardProtocol<T>>(
+pub fn until_idle<T: Minimum, P: BoardProtocol<T>>(
     alloc: Global,
     worker: &mut Worker<T, P>,
 ) -> Result<Option<bool>, Refusal> {
@@ -22,7 +22,7 @@ pub(crate) fn until_idle<T: Minimum, P: BoardProtocol<T>>(
 }
 
 /// The same, but a step that is refused memory is made again.
-pub(crate) fn until_idle_at_last<T: Minimum, P: BoardProtocol<T>>(
+pub fn until_idle_at_last<T: Minimum, P: BoardProtocol<T>>(
     alloc: Global,
     worker: &mut Worker<T, P>,
 ) -> Result<Option<bool>, Refusal> {
@@ -54,7 +54,7 @@ fn drawn_step<T: Minimum, P: BoardProtocol<T>>(
 }
 
 /// Makes so many drawn steps.
-pub(crate) fn drawn_steps<T: Minimum, P: BoardProtocol<T>>(
+pub fn drawn_steps<T: Minimum, P: BoardProtocol<T>>(
     alloc: Global,
     workers: &mut [Worker<T, P>],
     draws: &mut Draws,
@@ -67,7 +67,7 @@ pub(crate) fn drawn_steps<T: Minimum, P: BoardProtocol<T>>(
 }
 
 /// Makes drawn steps until one of them finds the board quiet. `false` if none of 100,000 does.
-pub(crate) fn until_quiet<T: Minimum, P: BoardProtocol<T>>(
+pub fn until_quiet<T: Minimum, P: BoardProtocol<T>>(
     alloc: Global,
     workers: &mut [Worker<T, P>],
     draws: &mut Draws,
@@ -81,7 +81,7 @@ pub(crate) fn until_quiet<T: Minimum, P: BoardProtocol<T>>(
 }
 
 /// Whether all that may be merged is, once each worker tidies with the greatest fuel.
-pub(crate) fn are_tidy<T: Minimum, P: BoardProtocol<T>>(
+pub fn are_tidy<T: Minimum, P: BoardProtocol<T>>(
     alloc: Global,
     workers: &mut [Worker<T, P>],
 ) -> Result<bool, Refusal> {
@@ -94,7 +94,7 @@ pub(crate) fn are_tidy<T: Minimum, P: BoardProtocol<T>>(
 }
 
 /// Whether a step of each worker, one after another, finds the board quiet.
-pub(crate) fn are_idle<T: Minimum, P: BoardProtocol<T>>(
+pub fn are_idle<T: Minimum, P: BoardProtocol<T>>(
     alloc: Global,
     workers: &mut [Worker<T, P>],
 ) -> Result<bool, Refusal> {
