@@ -2,7 +2,7 @@
 -- taken out again.
 use Rattle.std.proofs.Common.{◌≡◌, ℕ, zero, suc, ◌<◌, Bool, false, List, [], ◌∷◌, length, set, get_or, Option, Some, None, IsTrue, arith, sym, refl, ap, ◌∙◌, subst}
 use Rattle.std.specs.List.{slice_get}
-use Rattle.std.specs.Prelude.{is_some}
+use Rattle.std.specs.Prelude.{is_some, IfSome}
 use Rattle.std.proofs.lemmas.Bool.{true≢false}
 use Rattle.std.proofs.lemmas.List.{append-nil}
 use Rattle.std.proofs.lemmas.Option.{same_Some}
@@ -20,7 +20,7 @@ use Rattle.histories.specs.Histories.States.{State}
 use Rattle.operator_laws.specs.Gathering.{IsSplit}
 use Rattle.desk_laws.specs.Own.{DeskView, gathered_in}
 use Rattle.desk_laws.specs.declared.hand.Hand.{Hand}
-use Rattle.desk_laws.specs.declared.hand.Hand.TheVariants.{Ready, Taken}
+use Rattle.desk_laws.specs.declared.hand.Hand.TheVariants.{Kept, Ready, Taken}
 use Rattle.desk_laws.proofs.GivenLemmas.{split_parts}
 use Rattle.desk.specs.Desks.{HasLinear, HasOverflowing, IsMadeOf, IsPassedOn, IsRight, IsSomeones, IsTooLarge, Leads}
 use Rattle.desk.proofs.BundleLemmas.{bundle_rows, bundle_within}
@@ -34,6 +34,16 @@ set_back : {A : Type 0} (xs : List A) (n : ℕ) (x y : A) → slice_get xs n ≡
 set_back [] n x y e = refl
 set_back (z ∷ xs) zero x y e = ap (λ w. w ∷ xs) (sym (same_Some z y e))
 set_back (z ∷ xs) (suc n) x y e = ap (λ zs. z ∷ zs) (set_back xs n x y e)
+
+pub if_some_always : {A P : Type 0} (o : Option A) → P → IfSome o (λ a. P)
+if_some_always (Some a) p = p
+if_some_always None p = tt
+
+-- what is known of both hands that a laid bundle may leave is known of the one that it has left
+pub by_laid : {T V : Type 0} (items : V → List (Update T)) (L : Hand T → Type 0) (n : ℕ) (more : Bool) (made : Option V) (h : Hand T)
+    → IfSome made (λ v. L (Ready n (items v))) → (made ≡ None → L (Kept n more)) → IfSome made (λ v. h ≡ Ready n (items v)) → (made ≡ None → h ≡ Kept n more) → L h
+by_laid items L n more (Some v) h paired kept is none = subst L (sym is) paired
+by_laid items L n more None h paired kept is none = subst L (sym (none refl)) (kept refl)
 
 module _ {T : Type 0} where
   -- where nothing lies gathered, an empty list lies

@@ -1,12 +1,13 @@
-use Rattle.std.proofs.Common.{sym, subst, ap, ◌∙◌}
+use Rattle.std.proofs.Common.{◌≡◌, Some, refl, sym, subst, ap, ◌∙◌}
+use Rattle.std.proofs.lemmas.Bool.{true≢false}
 use Rattle.std.proofs.lemmas.Result.{err_from_is_err_and}
 use Rattle.update.specs.Refusals.{IsMemoryOrOverflow}
 use Rattle.histories.specs.Histories.{state_after}
-use Rattle.desk_laws.specs.Own.{DeskView, hand_node}
+use Rattle.desk_laws.specs.Own.{DeskView, gives_passed, hand_node}
 use Rattle.desk_laws.specs.declared.hand.Hand.{Hand}
-use Rattle.desk_laws.specs.declared.hand.Hand.TheVariants.{Turned}
-use Rattle.desk.specs.Desks.{IsComputed, IsRight, IsTooLarge}
-use Rattle.desk.proofs.PassingLemmas.{passed_leads, passed_rows, passed_too_large}
+use Rattle.desk_laws.specs.declared.hand.Hand.TheVariants.{Taken, Turned}
+use Rattle.desk.specs.Desks.{IsComputed, IsRight, IsTooLarge, Leads}
+use Rattle.desk.proofs.PassingLemmas.{by_laid, if_some_always, passed_leads, passed_rows, passed_too_large}
 use Rattle.desk.proofs.ResultLemmas.{if_err_at, memory_or}
 use Rattle.desk.proofs.desk.Desk.begin.Goals as goal
 
@@ -32,7 +33,24 @@ returns-in_err-turned-clause-refused g c =
     (memory_or (λ cause. subst large (sym c.in-Turned.is) (subst (λ ts. large (Turned c.in-Turned.node ts)) c.as_slice.ensures cause)) c.in_err-turned.ensures.refused)
 
 pub returns-in-Taken-clause-leads : goal.returns-in-Taken-clause-leads
-returns-in-Taken-clause-leads g c p q e es legal k x = ?
+returns-in-Taken-clause-leads g c p q e es legal k x =
+    let w = state_after g.T.PartialOrder.below g.T.Minimum.least p es in
+    let right : DeskView g.row.T.Denot → Hand g.row.T.Denot → Type 0 = λ d h. IsRight g.T.PartialOrder.below g.T.Lattice.joined g.T.Minimum.least p w k d h in
+    by_laid (λ pairs. pairs.items) (λ h. Leads g.T.PartialOrder.below g.T.Lattice.joined g.T.Minimum.least c.args.plan.now c.args.self.now (Taken c.in-Taken.bundle c.in-Taken.more) c.lay.new.self h)
+    c.in-Taken.bundle.place.node c.in-Taken.more c.in_ok-laid.laid c.take_laid.new.hand c.in_ok-laid.ensures.paired c.in_ok-laid.ensures.laid c.take_laid.ensures.paired c.take_laid.ensures.kept
+    p q e es legal k (subst (λ h. right c.args.self.now h) c.in-Taken.is x)
+
+pub returns-in-Taken-clause-computed : goal.returns-in-Taken-clause-computed
+returns-in-Taken-clause-computed g c =
+    by_laid (λ pairs. pairs.items) IsComputed c.in-Taken.bundle.place.node c.in-Taken.more c.in_ok-laid.laid c.take_laid.new.hand (if_some_always c.in_ok-laid.laid tt) (λ none. tt) c.take_laid.ensures.paired c.take_laid.ensures.kept
+
+pub returns-in-Taken-clause-node : goal.returns-in-Taken-clause-node
+returns-in-Taken-clause-node g c =
+    by_laid (λ pairs. pairs.items) (λ h. hand_node h ≡ Some c.in-Taken.bundle.place.node) c.in-Taken.bundle.place.node c.in-Taken.more c.in_ok-laid.laid c.take_laid.new.hand (if_some_always c.in_ok-laid.laid refl) (λ none. refl) c.take_laid.ensures.paired c.take_laid.ensures.kept
+    ∙ sym (ap hand_node c.in-Taken.is)
+
+pub returns-in-Taken-clause-passed : goal.returns-in-Taken-clause-passed
+returns-in-Taken-clause-passed g c passed = absurd (true≢false (sym passed ∙ ap gives_passed c.in-Taken.is))
 
 pub returns-in_ok-turned-clause-leads : goal.returns-in_ok-turned-clause-leads
 returns-in_ok-turned-clause-leads g c p q e es legal k x =
