@@ -56,7 +56,7 @@ pub returns-in_ok-turned-clause-leads : goal.returns-in_ok-turned-clause-leads
 returns-in_ok-turned-clause-leads g c p q e es legal k x =
     let w = state_after g.T.PartialOrder.below g.T.Minimum.least p es in
     let right : DeskView g.row.T.Denot → Hand g.row.T.Denot → Type 0 = λ d h. IsRight g.T.PartialOrder.below g.T.Lattice.joined g.T.Minimum.least p w k d h in
-    subst (λ h. right c.turn.new.self h) (sym c.take_in_hand-in-Turned.ensures)
+    subst (λ h. right c.turn.new.self h) (sym c.take_in_hand.ensures)
     (c.in_ok-turned.ensures.leads p q e es legal k (subst (λ ts. right c.args.self.now (Turned c.in-Turned.node ts)) (sym c.as_slice.ensures) (subst (λ h. right c.args.self.now h) c.in-Turned.is x)))
 
 pub pass_on-requires : goal.pass_on-requires
