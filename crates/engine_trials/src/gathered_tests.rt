@@ -24,7 +24,7 @@ fn what_comes_from_two_sources_cancels(rt: HostRuntime) -> Result<(), Fail> {
     let held = gathered.held(alloc)?;
     let lay = gathered.len();
     let given = gathered.take_summed(alloc, &node)?;
-    assert!(rt; held.as_slice() == &[at((0, 3)), at((2, 0))]);
+    assert!(rt; held.as_slice() == [at((0, 3)), at((2, 0))].as_slice());
     assert!(rt; lay == 3);
     assert!(rt; given.len() == 1 && given[0].time == at((2, 0)) && given[0].diff == 1);
     assert!(rt; gathered.len() == 0);
