@@ -2,7 +2,8 @@
 //!
 //! What a view captured is kept column by column ([`Columns`]), since it is the longest list on a
 //! board. A read copies the updates that it adds up, part by part, and folds each part into a bag.
-//! So it takes memory for two bags and not for all that was captured.
+//! So it takes memory for two bags and not for all that was captured. Neighbours of one row become one
+//! on the way, so what cancels side by side is not sorted.
 //!
 //! A read remembers its time, its bag, how many captured updates it knows, and the positions of
 //! those that are not at or before its time. A read at the same time or a later one looks only at
@@ -301,26 +302,31 @@ fn push_if_arrived<T: Minimum>(
         return Ok(near);
     }
     let run = captured.run_near(position, near);
-    if is_added(arrived, captured, position, run) {
+    if is_added(arrived, captured, position, run, near) {
         return Ok(run);
     }
     arrived.push(captured.copy(position, run))?;
     Ok(run)
 }
 
-// Adds the update at a position to the last of these, if that has its row and the sum of the
-// differences is a 64-bit number. The answer is whether it was added; if not, then nothing has changed.
+// Adds the update at a position to the last of these, if that is of the same run and has its row, and
+// the sum of the differences is a 64-bit number. `near` is the run of the last one. The answer is whether
+// it was added; if not, then nothing has changed.
 fn is_added<T: Minimum>(
     arrived: &mut Vec<Update<T>>,
     captured: &Columns<T>,
     position: usize,
     run: usize,
+    near: usize,
 ) -> bool
     requires { position < length captured.now }
     ensures added { IsTrue result → IsSomeAnd (slice_get captured.now position) (λ u.
         Alike (map entry arrived.new.items) (map entry arrived.old.items ++ entry u ∷ [])) }
     ensures same { result ≡ false → arrived.new.items ≡ arrived.old.items }
 {
+    if run != near {
+        return false;
+    }
     if !has_row_of_last(arrived.as_slice(), captured, position, run) {
         return false;
     }
