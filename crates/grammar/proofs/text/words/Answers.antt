@@ -4,5 +4,5 @@ use Rattle.grammar.proofs.text.words.Goals as goal
 
 pub returns : goal.returns
 returns c =
-    let kept : c.retain.new.self.items ≡ filter (λ (w : Bor (List ℕ)). not (eqb (length w.now) 0)) c.in_ok-words.words.items = filter-from_retain _ _ (λ s x b t y k. ?) _ _ _ c.retain.ensures.filtered in
+    let kept : c.retain.new.self.items ≡ filter (λ (w : Bor (List ℕ)). not (eqb (length w.now) 0)) c.in_ok-words.words.items = filter-from_retain _ _ (λ s x b t y k. (search (rules, tests), search (rules, tests))) _ _ _ c.retain.ensures.filtered in
     ap (map (λ (w : Bor (List ℕ)). w.now)) kept ∙ map-filter (λ (w : Bor (List ℕ)). w.now) (λ (w : List ℕ). not (eqb (length w) 0)) c.in_ok-words.words.items ∙ ap (filter (λ (w : List ℕ). not (eqb (length w) 0))) c.in_ok-words.ensures
