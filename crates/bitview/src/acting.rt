@@ -42,7 +42,7 @@ pub fn act<R: Wait, W: Out, E: Out>(
     requires { IsInRange action }
     ensures { Acts (λ taken failures. W.took out.old taken failures out.new)
         (asked_text action.entry) (IsPartBeforeOverflow action.entry)
-        (option_map (λ b. b.items) bytes.entry) result }
+        (option_map (λ b. b.items) bytes) result }
 {
     match bytes {
         Some(bytes) => act_on(runtime, alloc, action, bytes, out, error),
