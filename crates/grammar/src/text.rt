@@ -6,16 +6,14 @@ ghost use Rattle.grammar.specs.Lines.{text_of};
 ghost use Rattle.grammar.specs.Outcomes.{Gives};
 
 use crate::fault::LineError;
-use smallvec::SmallVec;
 use std::alloc::{AllocError, Global};
 use update::Refusal;
 
 /// The greatest length of a line, in bytes, without its newline.
 const MAX_LINE: usize = 4096;
 
-/// The words of a line. Most lines that change a row have no more than eight, which take no memory of
-/// their own.
-pub(crate) type Words<'line> = SmallVec<&'line str, 8>;
+// A list of words gets room for so many at once. Most lines that change a row have no more.
+const USUAL_WORDS: usize = 8;
 
 // The index of the first newline.
 fn newline(bytes: &[u8]) -> Option<usize>
@@ -51,16 +49,16 @@ pub(crate) fn text(line: &[u8]) -> Result<&str, LineError>
 }
 
 // The pieces between the spaces, empty ones included.
-fn pieces(alloc: Global, line: &str) -> Result<Words<'_>, AllocError>
+fn pieces(alloc: Global, line: &str) -> Result<Vec<&str>, AllocError>
     ensures { IfOk result (λ v. map (λ w. w.now) v.items ≡ slice_split (λ b. b == 32) line.now) }
 {
-    let mut pieces = Words::new(alloc);
+    let mut pieces = Vec::with_capacity(alloc, USUAL_WORDS)?;
     pieces.extend(line.split(' '))?;
     Ok(pieces)
 }
 
 // The words of the line: the pieces that are not empty.
-pub(crate) fn words(alloc: Global, line: &str) -> Result<Words<'_>, AllocError>
+pub(crate) fn words(alloc: Global, line: &str) -> Result<Vec<&str>, AllocError>
     ensures { IfOk result (λ v. map (λ w. w.now) v.items ≡ words_of line.now) }
 {
     let mut words = pieces(alloc, line)?;
