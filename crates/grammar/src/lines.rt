@@ -14,7 +14,7 @@ use crate::nodes::node_line;
 use crate::requests::{
     advance_line, change_line, changes_line, close_line, frontier_line, read_line,
 };
-use crate::text::{opens_comment, text, words};
+use crate::text::{opens_comment, read_words, text};
 use std::alloc::Global;
 use update::Refusal;
 
@@ -102,18 +102,19 @@ fn words_line(
     }
 }
 
-// Handles line `number`.
+// Handles line `number`. Its words are read into a list that is lent for that.
 #[tactic(auto, unfolding(crate::specs::Lines::line_of))]
-pub(crate) fn take_line(
+pub(crate) fn take_line<'a>(
     alloc: Global,
     draft: &mut Draft,
     number: u64,
-    line: &[u8],
+    line: &'a [u8],
+    words: &mut Vec<&'a str>,
 ) -> Result<(), LineError>
     ensures { Gives (λ _. parse_state draft.new) result
         (line_of number (parse_state draft.old) line.now) }
 {
     let text = text(line)?;
-    let words = words(alloc, text)?;
-    words_line(alloc, draft, number, &words)
+    read_words(words, text)?;
+    words_line(alloc, draft, number, words)
 }

@@ -31,9 +31,10 @@ fn take_lines(alloc: Global, draft: &mut Draft, bytes: &[u8]) -> Result<(), Faul
 {
     let mut number: u64 = 1;
     let mut rest = bytes;
+    let mut words = Vec::new(alloc);
     while !rest.is_empty() {
         let (line, behind) = first_line(rest);
-        match take_line(alloc, draft, number, line) {
+        match take_line(alloc, draft, number, line, &mut words) {
             Ok(()) => {}
             Err(error) => return Err(fault(number, error)),
         }

@@ -1,19 +1,15 @@
 //! The lines and words of a file, as slices of its bytes. Nothing is copied.
-ghost use Rattle.std.specs.Prelude.{◌≡◌, ◌<◌, ◌∷◌, ◌==◌, IfOk, length, map, position};
-ghost use Rattle.std.specs.List.{slice_split};
+ghost use Rattle.std.specs.Prelude.{◌≡◌, ◌<◌, ◌∷◌, ◌==◌, OnOk, length, map, position};
 ghost use Rattle.grammar.specs.Text.{lines_of, words_of, opens_comment};
 ghost use Rattle.grammar.specs.Lines.{text_of};
 ghost use Rattle.grammar.specs.Outcomes.{Gives};
 
 use crate::fault::LineError;
-use std::alloc::{AllocError, Global};
+use std::alloc::AllocError;
 use update::Refusal;
 
 /// The greatest length of a line, in bytes, without its newline.
 const MAX_LINE: usize = 4096;
-
-// A list of words gets room for so many at once. Most lines that change a row have no more.
-const USUAL_WORDS: usize = 8;
 
 // The index of the first newline.
 fn newline(bytes: &[u8]) -> Option<usize>
@@ -48,22 +44,15 @@ pub(crate) fn text(line: &[u8]) -> Result<&str, LineError>
     }
 }
 
-// The pieces between the spaces, empty ones included.
-fn pieces(alloc: Global, line: &str) -> Result<Vec<&str>, AllocError>
-    ensures { IfOk result (λ v. map (λ w. w.now) v.items ≡ slice_split (λ b. b == 32) line.now) }
+// Reads the words of a line into a list, in the place of what was there: the pieces between the spaces
+// that are not empty.
+pub(crate) fn read_words<'a>(words: &mut Vec<&'a str>, line: &'a str) -> Result<(), AllocError>
+    ensures { OnOk result (map (λ w. w.now) words.new.items ≡ words_of line.now) }
 {
-    let mut pieces = Vec::with_capacity(alloc, USUAL_WORDS)?;
-    pieces.extend(line.split(' '))?;
-    Ok(pieces)
-}
-
-// The words of the line: the pieces that are not empty.
-pub(crate) fn words(alloc: Global, line: &str) -> Result<Vec<&str>, AllocError>
-    ensures { IfOk result (λ v. map (λ w. w.now) v.items ≡ words_of line.now) }
-{
-    let mut words = pieces(alloc, line)?;
+    words.clear();
+    words.extend(line.split(' '))?;
     words.retain(|word| !word.is_empty());
-    Ok(words)
+    Ok(())
 }
 
 // Whether a line that begins with this word is a comment.

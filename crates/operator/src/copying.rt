@@ -17,7 +17,7 @@ pub fn updates_of<T: Lattice>(alloc: Global, batch: &Batch<T>) -> Result<UpdateL
     ensures refused { IfErr result (λ refusal. refusal ≡ OutOfMemory) }
 {
     let runs = batch.runs();
-    let mut list = Vec::new(alloc);
+    let mut list = Vec::with_capacity(alloc, batch.len())?;
     copy_runs(&mut list, batch, 0..runs)?;
     Ok(list.into())
 }

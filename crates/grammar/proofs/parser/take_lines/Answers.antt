@@ -25,17 +25,14 @@ loop-rest-preserved c = record {
   taken = one_more (lines_of c.args.bytes.now) c.loop-rest.number (parse_state c.loop-rest.draft) (parse_state c.take_line.new.draft) c.first_line.result.0.now (lines_of c.loop-rest.rest.now) (lines_of c.first_line.result.1.now) c.first_line.ensures.line c.in-Ok.ensures c.loop-rest.invariant.taken;
 }
 
-pub returns-else-draft : goal.returns-else-draft
-returns-else-draft c =
-    let e : length c.loop-rest.rest.now ≡ 0 = search rules in
-    let s : c.loop-rest.draft.started ≡ false = search rules in
-    record {
-      exact = rw c.fault-else-draft.ensures (no_start c.loop-rest.number (parse_state c.loop-rest.draft) c.loop-rest.rest.now (script_of c.args.bytes.now) e s c.loop-rest.invariant.so_far);
-      reached = rw c.fault-else-draft.ensures (reached (lines_of c.args.bytes.now) c.loop-rest.number (parse_state c.loop-rest.draft) (lines_of c.loop-rest.rest.now) c.loop-rest.invariant.taken);
-    }
-
 pub returns-then-draft : goal.returns-then-draft
 returns-then-draft c =
     let e : length c.loop-rest.rest.now ≡ 0 = search rules in
     let s : c.loop-rest.draft.started ≡ true = search rules in
     record { exact = all_taken c.loop-rest.number (parse_state c.loop-rest.draft) c.loop-rest.rest.now (script_of c.args.bytes.now) e s c.loop-rest.invariant.so_far; reached = tt }
+
+pub returns-clause-exact : goal.returns-clause-exact
+returns-clause-exact c =
+    let e : length c.loop-rest.rest.now ≡ 0 = search rules in
+    let s : c.loop-rest.draft.started ≡ false = search rules in
+    rw c.fault-else-draft.ensures (no_start c.loop-rest.number (parse_state c.loop-rest.draft) c.loop-rest.rest.now (script_of c.args.bytes.now) e s c.loop-rest.invariant.so_far)

@@ -9,6 +9,6 @@ returns-clause-same g c =
     let us = c.args.batch.now.updates in
     c.into.ensures
     ∙ c.in_ok-copy_runs.ensures.copied
-    ∙ ap (λ vs. vs ++ slice_range us (run_place us 0) (run_place us c.runs-runs.result)) c.new-list.ensures.items
+    ∙ ap (λ vs. vs ++ slice_range us (run_place us 0) (run_place us c.runs-runs.result)) c.in_ok-list.ensures.items
     ∙ ap (λ n. slice_range us (run_place us 0) (run_place us n)) c.runs-runs.ensures.runs
     ∙ all_runs us c.runs-runs.ensures.first
