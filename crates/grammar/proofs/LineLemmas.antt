@@ -7,7 +7,7 @@ use Rattle.lattice.specs.Pairs.{make_pair}
 use Rattle.update.specs.declared.refusal.Refusal.{Refusal}
 use Rattle.update.specs.declared.refusal.Refusal.TheVariants.{WrongWordCount, LineTooLong, NotUtf8}
 use Rattle.grammar.specs.declared.command.Command.{Command}
-use Rattle.grammar.specs.declared.command.Command.TheVariants.{Input, View}
+use Rattle.grammar.specs.declared.command.Command.TheVariants.{Allow, Input, View}
 use Rattle.grammar.specs.declared.command.InputCommand.TheVariants.{Change, Advance, Close}
 use Rattle.grammar.specs.declared.command.ViewCommand.TheVariants.{Read, Changes, Frontier}
 use Rattle.grammar.specs.declared.keyword.Keyword.{Keyword}
@@ -17,7 +17,7 @@ use Rattle.grammar.specs.Outcomes.{◌>>=◌}
 use Rattle.grammar.specs.ParseStates.{ParseState, input, view}
 use Rattle.grammar.specs.Words.{whole, signed, wholes, columns, pairs_of}
 use Rattle.grammar.specs.Text.{words_of, opens_comment}
-use Rattle.grammar.specs.Lines.{start_line, change_line, advance_line, close_line, read_line, changes_line, frontier_line, is_declaring, opening, with_command, keyword_line, words_line, text_of, line_of}
+use Rattle.grammar.specs.Lines.{start_line, change_line, advance_line, allow_line, close_line, read_line, changes_line, frontier_line, is_declaring, opening, with_command, keyword_line, words_line, text_of, line_of}
 use Rattle.grammar.specs.Spelling.{command_words, Starts, Asks, Says}
 use Rattle.grammar.proofs.WordLemmas.{whole_ok, signed_ok, wholes_ok, columns_ok, pairs_text}
 use Rattle.grammar.proofs.NumberLemmas.{and-right}
@@ -76,6 +76,24 @@ advance_spelled k command (name ∷ times) e =
     about.passes
   where
     two : (a : List ℕ) (r : List (List ℕ)) (a' : List ℕ) (r' : List (List ℕ)) → a ≡ a' → r ≡ r' → (codes "advance" ∷ a ∷ r) ≡ (codes "advance" ∷ a' ∷ r')
+    two a r a' r' e f = cc
+
+allow_spelled : (k : ParseState) (command : Command) (words : List (List ℕ)) → allow_line k words ≡ Ok command → IsSpelled k (codes "allow" ∷ words) command
+unfolding allow_line
+allow_spelled k command [] e = absurd cc
+allow_spelled k command (name ∷ times) e =
+    let g = guard_ok (ltb 0 (length times) && eqb (length times % 2) 0) (view k name >>= λ name. wholes times >>= λ times. Ok (Allow name (pairs_of times))) WrongWordCount command e in
+    let a = bind_ok (view k name) (λ name. wholes times >>= λ times. Ok (Allow name (pairs_of times))) command g.1 in
+    let b = bind_ok (wholes times) (λ times. Ok (Allow a.0 (pairs_of times))) command a.2 in
+    let about = view_ok k name a.0 a.1 in
+    let even : length times % 2 ≡ 0 = eqb-true _ _ (and-right (ltb 0 (length times)) (eqb (length times % 2) 0) g.0) in
+    let text = wholes_ok times b.0 b.1 in
+    let same : length times ≡ length b.0 = ap length text ∙ length-map b.0 decimal in
+    spelled_as k (Allow a.0 (pairs_of b.0)) command (codes "allow" ∷ name ∷ times) b.2
+    (two name times _ _ about.name_is (text ∙ pairs_text b.0 (sym (ap (λ (n : ℕ). n % 2) same) ∙ even)))
+    about.passes
+  where
+    two : (a : List ℕ) (r : List (List ℕ)) (a' : List ℕ) (r' : List (List ℕ)) → a ≡ a' → r ≡ r' → (codes "allow" ∷ a ∷ r) ≡ (codes "allow" ∷ a' ∷ r')
     two a r a' r' e f = cc
 
 close_spelled : (k : ParseState) (command : Command) (words : List (List ℕ)) → close_line k words ≡ Ok command → IsSpelled k (codes "close" ∷ words) command
@@ -142,6 +160,7 @@ keyword_says n k next keyword.Start words o e = inr (inr (inl (is_start_line n k
 keyword_says n k next keyword.Change words o e = inr (inr (inr (asks n k next (codes "change" ∷ words) (change_line k words) (not_late k.started o) e (λ c. change_spelled k c words))))
 keyword_says n k next keyword.Advance words o e = inr (inr (inr (asks n k next (codes "advance" ∷ words) (advance_line k words) (not_late k.started o) e (λ c. advance_spelled k c words))))
 keyword_says n k next keyword.Close words o e = inr (inr (inr (asks n k next (codes "close" ∷ words) (close_line k words) (not_late k.started o) e (λ c. close_spelled k c words))))
+keyword_says n k next keyword.Allow words o e = inr (inr (inr (asks n k next (codes "allow" ∷ words) (allow_line k words) (not_late k.started o) e (λ c. allow_spelled k c words))))
 keyword_says n k next keyword.Read words o e = inr (inr (inr (asks n k next (codes "read" ∷ words) (read_line k words) (not_late k.started o) e (λ c. read_spelled k c words))))
 keyword_says n k next keyword.Changes words o e = inr (inr (inr (asks n k next (codes "changes" ∷ words) (changes_line k words) (not_late k.started o) e (λ c. changes_spelled k c words))))
 keyword_says n k next keyword.Frontier words o e = inr (inr (inr (asks n k next (codes "frontier" ∷ words) (frontier_line k words) (not_late k.started o) e (λ c. frontier_spelled k c words))))

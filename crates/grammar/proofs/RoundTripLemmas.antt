@@ -30,6 +30,7 @@ early_number n m k keyword.Start words e = refl
 early_number n m k keyword.Change words e = absurd cc
 early_number n m k keyword.Advance words e = absurd cc
 early_number n m k keyword.Close words e = absurd cc
+early_number n m k keyword.Allow words e = absurd cc
 early_number n m k keyword.Read words e = absurd cc
 early_number n m k keyword.Changes words e = absurd cc
 early_number n m k keyword.Frontier words e = absurd cc

@@ -127,6 +127,7 @@ keyword_text keyword.Start = codes "start"
 keyword_text keyword.Change = codes "change"
 keyword_text keyword.Advance = codes "advance"
 keyword_text keyword.Close = codes "close"
+keyword_text keyword.Allow = codes "allow"
 keyword_text keyword.Read = codes "read"
 keyword_text keyword.Changes = codes "changes"
 keyword_text keyword.Frontier = codes "frontier"
@@ -149,9 +150,10 @@ keyword_ok word found e =
     one_of keyword_text word (codes "change") keyword.Change found _ e refl (λ e.
     one_of keyword_text word (codes "advance") keyword.Advance found _ e refl (λ e.
     one_of keyword_text word (codes "close") keyword.Close found _ e refl (λ e.
+    one_of keyword_text word (codes "allow") keyword.Allow found _ e refl (λ e.
     one_of keyword_text word (codes "read") keyword.Read found _ e refl (λ e.
     one_of keyword_text word (codes "changes") keyword.Changes found _ e refl (λ e.
-    one_of keyword_text word (codes "frontier") keyword.Frontier found None e refl (λ e. absurd cc))))))))))
+    one_of keyword_text word (codes "frontier") keyword.Frontier found None e refl (λ e. absurd cc)))))))))))
 
 -- spells the keyword of an accepted line, and says on which side of `start` the line stands
 pub opening_ok : (k : ParseState) (word : List ℕ) (found : Keyword) → opening k word ≡ Ok found → (word ≡ keyword_text found) × (cond (is_declaring found) k.started (not k.started) ≡ false)

@@ -29,12 +29,14 @@ asked_view (Read view time) = view
 asked_view (Changes view) = view
 asked_view (Frontier view) = view
 
--- the command changes an input of the plan, or asks about a view of the plan
+-- the command changes an input of the plan, or is about a view of the plan
 abbrev pub IsAbout : List Node → Command → Type 0
 IsAbout p (command.Input change) = IsTrue (is_input_of p (changed_input change))
+IsAbout p (command.Allow view times) = IsTrue (is_view_of p view)
 IsAbout p (command.View question) = IsTrue (is_view_of p (asked_view question))
 
 -- the command asks about a view
 abbrev pub IsQuestion : Command → Type 0
 IsQuestion (command.Input change) = ⊥
+IsQuestion (command.Allow view times) = ⊥
 IsQuestion (command.View question) = Unit {0}

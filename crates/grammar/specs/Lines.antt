@@ -7,7 +7,7 @@ use Rattle.update.specs.declared.refusal.Refusal.{Refusal}
 use Rattle.update.specs.declared.refusal.Refusal.TheVariants.{UnknownCommand, WrongWordCount, BadOrder, LineTooLong, NotUtf8}
 use Rattle.lattice.specs.Pairs.{make_pair}
 use Rattle.grammar.specs.declared.command.Command.{Command}
-use Rattle.grammar.specs.declared.command.Command.TheVariants.{Input, View}
+use Rattle.grammar.specs.declared.command.Command.TheVariants.{Allow, Input, View}
 use Rattle.grammar.specs.declared.command.InputCommand.TheVariants.{Change, Advance, Close}
 use Rattle.grammar.specs.declared.command.ViewCommand.TheVariants.{Read, Changes, Frontier}
 use Rattle.grammar.specs.declared.keyword.Keyword.{Keyword}
@@ -49,6 +49,14 @@ close_line k (name ∷ []) = do
   Ok (Input (Close name))
 close_line k _ = Err WrongWordCount
 
+-- allow VIEW V S .., with one pair or more
+unfoldable pub allow_line : ParseState → List (List ℕ) → Result Command Refusal
+allow_line k (name ∷ times) = if nat_lt 0 (length times) && (length times % 2 == 0) then (do
+  name ← view k name
+  times ← wholes times
+  Ok (Allow name (pairs_of times))) else Err WrongWordCount
+allow_line k _ = Err WrongWordCount
+
 -- read VIEW V S
 unfoldable pub read_line : ParseState → List (List ℕ) → Result Command Refusal
 read_line k (name ∷ v ∷ s ∷ []) = do
@@ -81,6 +89,7 @@ keyword_of word = if bytes_eq word (codes "input") then Some keyword.Input
     else if bytes_eq word (codes "change") then Some keyword.Change
     else if bytes_eq word (codes "advance") then Some keyword.Advance
     else if bytes_eq word (codes "close") then Some keyword.Close
+    else if bytes_eq word (codes "allow") then Some keyword.Allow
     else if bytes_eq word (codes "read") then Some keyword.Read
     else if bytes_eq word (codes "changes") then Some keyword.Changes
     else if bytes_eq word (codes "frontier") then Some keyword.Frontier else None
@@ -94,6 +103,7 @@ is_declaring keyword.Start = true
 is_declaring keyword.Change = false
 is_declaring keyword.Advance = false
 is_declaring keyword.Close = false
+is_declaring keyword.Allow = false
 is_declaring keyword.Read = false
 is_declaring keyword.Changes = false
 is_declaring keyword.Frontier = false
@@ -118,6 +128,7 @@ keyword_line n k keyword.Start words = start_line k words
 keyword_line n k keyword.Change words = with_command n k (change_line k words)
 keyword_line n k keyword.Advance words = with_command n k (advance_line k words)
 keyword_line n k keyword.Close words = with_command n k (close_line k words)
+keyword_line n k keyword.Allow words = with_command n k (allow_line k words)
 keyword_line n k keyword.Read words = with_command n k (read_line k words)
 keyword_line n k keyword.Changes words = with_command n k (changes_line k words)
 keyword_line n k keyword.Frontier words = with_command n k (frontier_line k words)

@@ -70,6 +70,8 @@ view_command_words names (Frontier view) = codes "frontier" ∷ name_at names vi
 -- the words of a command's line
 abbrev pub command_words : List (List ℕ) → Command → List (List ℕ)
 command_words names (command.Input change) = input_command_words names change
+command_words names (command.Allow view times) =
+    codes "allow" ∷ name_at names view ∷ flat_map time_words times
 command_words names (command.View question) = view_command_words names question
 
 -- the line is skipped, and changes nothing

@@ -12,6 +12,7 @@ pub(crate) enum Keyword {
     Change,
     Advance,
     Close,
+    Allow,
     Read,
     Changes,
     Frontier,
@@ -36,6 +37,8 @@ impl Keyword {
             Some(Keyword::Advance)
         } else if word == "close" {
             Some(Keyword::Close)
+        } else if word == "allow" {
+            Some(Keyword::Allow)
         } else if word == "read" {
             Some(Keyword::Read)
         } else if word == "changes" {
@@ -56,6 +59,7 @@ impl Keyword {
             Keyword::Change
             | Keyword::Advance
             | Keyword::Close
+            | Keyword::Allow
             | Keyword::Read
             | Keyword::Changes
             | Keyword::Frontier => false,

@@ -12,7 +12,7 @@ use crate::fault::LineError;
 use crate::keyword::Keyword;
 use crate::nodes::node_line;
 use crate::requests::{
-    advance_line, change_line, changes_line, close_line, frontier_line, read_line,
+    advance_line, allow_line, change_line, changes_line, close_line, frontier_line, read_line,
 };
 use crate::text::{opens_comment, read_words, text};
 use std::alloc::Global;
@@ -72,6 +72,7 @@ fn keyword_line(
         Keyword::Change => change_line(alloc, draft, words)?,
         Keyword::Advance => advance_line(alloc, draft, words)?,
         Keyword::Close => close_line(draft, words)?,
+        Keyword::Allow => allow_line(alloc, draft, words)?,
         Keyword::Read => read_line(draft, words)?,
         Keyword::Changes => changes_line(draft, words)?,
         Keyword::Frontier => frontier_line(draft, words)?,

@@ -2,7 +2,7 @@
 //! draft.
 ghost use Rattle.std.specs.Prelude.{map};
 ghost use Rattle.grammar.specs.ParseStates.{parse_state};
-ghost use Rattle.grammar.specs.Lines.{change_line, advance_line, close_line, read_line, changes_line, frontier_line};
+ghost use Rattle.grammar.specs.Lines.{change_line, advance_line, allow_line, close_line, read_line, changes_line, frontier_line};
 ghost use Rattle.grammar.specs.Outcomes.{Gives};
 
 use crate::command::{Command, InputCommand, ViewCommand};
@@ -75,6 +75,25 @@ pub(crate) fn close_line(draft: &Draft, words: &[&str]) -> Result<Command, LineE
         [name] => {
             let input = draft.input(name)?;
             Ok(Command::Input(InputCommand::Close { input }))
+        }
+        _ => Err(wrong_count()),
+    }
+}
+
+#[tactic(auto, unfolding(crate::specs::Lines::allow_line))]
+pub(crate) fn allow_line(alloc: Global, draft: &Draft, words: &[&str]) -> Result<Command, LineError>
+    ensures { Gives (λ command. command) result
+        (allow_line (parse_state draft.now) (map (λ w. w.now) words.now)) }
+{
+    match words {
+        [name, pairs @ ..] => {
+            if pairs.is_empty() || pairs.len() % 2 != 0 {
+                return Err(wrong_count());
+            }
+            let view = draft.view(name)?;
+            let numbers = wholes(alloc, pairs)?;
+            let times = times(alloc, &numbers)?;
+            Ok(Command::Allow { view, times })
         }
         _ => Err(wrong_count()),
     }

@@ -45,8 +45,8 @@ use Rattle.oracle.specs.Listing.{HasLargeDifference}
 use Rattle.oracle.proofs.EvaluationLemmas.{inputs_with, inputs_without}
 use Rattle.script.specs.Engines.{IsTold, IsFound}
 use Rattle.script.specs.Orders.{in_order}
-use Rattle.script.specs.OracleStanding.{Register, IsRegister, Records, with_entry, with_input, entry_refusal, input_refusal, AreFrontiers}
-use Rattle.script.specs.Sessions.{Session, with_change, with_frontier, change_refusal, frontier_refusal, view_frontier, read_refusal, changes_refusal, rows_at, frontier_at, changes_at}
+use Rattle.script.specs.OracleStanding.{Register, IsRegister, Records, with_entry, with_input, with_view, entry_refusal, input_refusal, view_refusal, AreFrontiers}
+use Rattle.script.specs.Sessions.{Session, with_change, with_frontier, with_since, change_refusal, frontier_refusal, since_refusal, view_frontier, read_refusal, changes_refusal, rows_at, frontier_at, changes_at}
 use Rattle.script.proofs.BagLemmas.{consolidated_bag-only}
 use Rattle.script.proofs.ChangesLemmas.{changes_are, differences_only}
 use Rattle.script.proofs.InputLemmas.{query_at_inputs}
@@ -137,6 +137,7 @@ module _ {T : Type 0} (r : Register T) (is : IsRegister r) (f : Fed T) (there : 
     lists = length-set r.changes (inputs_before r.plan f.input) (list_of r.plan r.changes f.input ++ f.update ∷ []) ∙ is.lists;
     wide = λ n l t. by n l t (eqb f.input n) refl;
     inputs = is.inputs;
+    sinces = is.sinces;
   }
     where
       own : IsTrue (wide_at r.plan f.input (list_of r.plan (with_entry f r).changes f.input))
@@ -151,7 +152,7 @@ module _ {T : Type 0} (r : Register T) (is : IsRegister r) (f : Fed T) (there : 
       by n l t false e = ap (wide_at r.plan n) (other_list n t (eqb-false f.input n e)) ∙ is.wide n l t
 
   -- after an accepted change, the register stands for the session with the change
-  pub entry_records : {minimum : T} (s : Session T) → Records minimum r s → Records minimum (with_entry f r) (with_change f s)
+  pub entry_records : (s : Session T) → Records r s → Records (with_entry f r) (with_change f s)
   entry_records s a = record { changes = λ i h. by i h (eqb f.input i) refl; inputs = a.inputs; since = a.since }
     where
       own : list_of r.plan (with_entry f r).changes f.input ≡ reverse (f.update ∷ fed_to f.input s.fed)
@@ -179,49 +180,74 @@ module _ {T : Type 0} (below : T → T → Bool) where
 
   -- the invariant holds after a change, accepted or not
   pub after_entry : (r : Register T) (lists : List (List (Update T))) (f : Fed T) (place : ℕ) (x : Result (Unit {0}) Refusal) → IsRegister r → IsTrue (is_input_of r.plan f.input) → entry_refusal below r f ≡ None
-      → place ≡ inputs_before r.plan f.input → OnOk x (lists ≡ set r.changes place (get_or r.changes place [] ++ f.update ∷ [])) → OnErr x (lists ≡ r.changes) → IsRegister (record { plan = r.plan; changes = lists; inputs = r.inputs })
+      → place ≡ inputs_before r.plan f.input → OnOk x (lists ≡ set r.changes place (get_or r.changes place [] ++ f.update ∷ [])) → OnErr x (lists ≡ r.changes) → IsRegister (record { plan = r.plan; changes = lists; inputs = r.inputs; sinces = r.sinces })
   after_entry r lists f place (Ok u) is there accepted at pushed stays =
       let whole : lists ≡ (with_entry f r).changes = pushed ∙ ap (λ k. set r.changes k (get_or r.changes k [] ++ f.update ∷ [])) at in
-      subst (λ (ls : List (List (Update T))). IsRegister (record { plan = r.plan; changes = ls; inputs = r.inputs })) (sym whole) (entry_register r is f there (entry_wide r f accepted))
+      subst (λ (ls : List (List (Update T))). IsRegister (record { plan = r.plan; changes = ls; inputs = r.inputs; sinces = r.sinces })) (sym whole) (entry_register r is f there (entry_wide r f accepted))
   after_entry r lists f place (Err e) is there accepted at pushed stays =
-      subst (λ (ls : List (List (Update T))). IsRegister (record { plan = r.plan; changes = ls; inputs = r.inputs })) (sym stays) (record { lists = is.lists; wide = is.wide; inputs = is.inputs })
+      subst (λ (ls : List (List (Update T))). IsRegister (record { plan = r.plan; changes = ls; inputs = r.inputs; sinces = r.sinces })) (sym stays) (record { lists = is.lists; wide = is.wide; inputs = is.inputs; sinces = is.sinces })
 
   -- the register refuses a change or a frontier if and only if the session does
-  same_entry_refusal : {minimum : T} (r : Register T) (s : Session T) (f : Fed T) → IsTrue (is_input_of r.plan f.input) → Records minimum r s → entry_refusal below r f ≡ change_refusal below r.plan s f
+  same_entry_refusal : (r : Register T) (s : Session T) (f : Fed T) → IsTrue (is_input_of r.plan f.input) → Records r s → entry_refusal below r f ≡ change_refusal below r.plan s f
   same_entry_refusal r s f there a = λ j. first_refusal (feed_faults below r.plan (front_at f.input (a.inputs j)) (taken j) f)
     where
       taken : length (list_of r.plan r.changes f.input) ≡ length (fed_to f.input s.fed)
       taken = ap length (a.changes f.input there) ∙ length-reverse (fed_to f.input s.fed)
 
-  same_input_refusal : {minimum : T} (r : Register T) (s : Session T) (i : ℕ) (ts : List T) → Records minimum r s → input_refusal below r i ts ≡ frontier_refusal below r.plan s i ts
+  same_input_refusal : (r : Register T) (s : Session T) (i : ℕ) (ts : List T) → Records r s → input_refusal below r i ts ≡ frontier_refusal below r.plan s i ts
   same_input_refusal r s i ts a = ap (λ (fronts : List (List T)). first_refusal (advance_faults below (front_at i fronts) ts)) a.inputs
 
   -- answers the clause `answered` of change
-  pub entry_answered : {minimum : T} (r c : Register T) (f : Fed T) (s : Session T) (x : Result (Unit {0}) Refusal) → IsTrue (is_input_of r.plan f.input) → IsRegister r
-      → OnOk x (c ≡ with_entry f r) → OnOk x (entry_refusal below r f ≡ None) → IfErr x (IsRefusalBy (entry_refusal below r f)) → OnErr x (c ≡ r) → Records minimum r s
-      → IsTold (change_refusal below r.plan s f) (Records minimum c (with_change f s)) (Records minimum c s) x
-  entry_answered {minimum} r c f s x there is taken accepted refused stays a =
-      subst (λ (o : Option Refusal). IsTold o (Records minimum c (with_change f s)) (Records minimum c s) x) (same_entry_refusal r s f there a)
-      (answered (entry_refusal below r f) (Records minimum c (with_change f s)) (Records minimum c s) x
-      (on_ok_weaker x (λ e. subst (λ (d : Register T). Records minimum d (with_change f s)) (sym e) (entry_records r is f there s a)) taken) accepted refused
-      (on_err_weaker x (λ e. subst (λ (d : Register T). Records minimum d s) (sym e) a) stays))
+  pub entry_answered : (r c : Register T) (f : Fed T) (s : Session T) (x : Result (Unit {0}) Refusal) → IsTrue (is_input_of r.plan f.input) → IsRegister r
+      → OnOk x (c ≡ with_entry f r) → OnOk x (entry_refusal below r f ≡ None) → IfErr x (IsRefusalBy (entry_refusal below r f)) → OnErr x (c ≡ r) → Records r s
+      → IsTold (change_refusal below r.plan s f) (Records c (with_change f s)) (Records c s) x
+  entry_answered r c f s x there is taken accepted refused stays a =
+      subst (λ (o : Option Refusal). IsTold o (Records c (with_change f s)) (Records c s) x) (same_entry_refusal r s f there a)
+      (answered (entry_refusal below r f) (Records c (with_change f s)) (Records c s) x
+      (on_ok_weaker x (λ e. subst (λ (d : Register T). Records d (with_change f s)) (sym e) (entry_records r is f there s a)) taken) accepted refused
+      (on_err_weaker x (λ e. subst (λ (d : Register T). Records d s) (sym e) a) stays))
 
   -- if nothing refuses a command and it is refused all the same, memory was refused
   pub memory_alone : (o : Option Refusal) (x : Result (Unit {0}) Refusal) → o ≡ None → IfErr x (λ e. e ≡ OutOfMemory) → IfErr x (IsRefusalBy o)
   memory_alone o x e h = subst (λ (q : Option Refusal). IfErr x (IsRefusalBy q)) (sym e) h
 
   -- answers the clause `answered` of advance
-  pub input_answered : {minimum : T} (r c : Register T) (i : ℕ) (ts : List T) (s : Session T) (x : Result (Unit {0}) Refusal)
-      → OnOk x (c ≡ with_input i ts r) → OnOk x (input_refusal below r i ts ≡ None) → IfErr x (λ refusal. input_refusal below r i ts ≡ Some refusal) → OnErr x (c ≡ r) → Records minimum r s
-      → IsTold (frontier_refusal below r.plan s i ts) (Records minimum c (with_frontier i ts s)) (Records minimum c s) x
-  input_answered {minimum} r c i ts s x taken accepted refused stays a =
-      subst (λ (o : Option Refusal). IsTold o (Records minimum c (with_frontier i ts s)) (Records minimum c s) x) (same_input_refusal r s i ts a)
-      (answered (input_refusal below r i ts) (Records minimum c (with_frontier i ts s)) (Records minimum c s) x
-      (on_ok_weaker x (λ e. subst (λ (d : Register T). Records minimum d (with_frontier i ts s)) (sym e) moved) taken) accepted (refused_by (input_refusal below r i ts) x refused)
-      (on_err_weaker x (λ e. subst (λ (d : Register T). Records minimum d s) (sym e) a) stays))
+  pub input_answered : (r c : Register T) (i : ℕ) (ts : List T) (s : Session T) (x : Result (Unit {0}) Refusal)
+      → OnOk x (c ≡ with_input i ts r) → OnOk x (input_refusal below r i ts ≡ None) → IfErr x (λ refusal. input_refusal below r i ts ≡ Some refusal) → OnErr x (c ≡ r) → Records r s
+      → IsTold (frontier_refusal below r.plan s i ts) (Records c (with_frontier i ts s)) (Records c s) x
+  input_answered r c i ts s x taken accepted refused stays a =
+      subst (λ (o : Option Refusal). IsTold o (Records c (with_frontier i ts s)) (Records c s) x) (same_input_refusal r s i ts a)
+      (answered (input_refusal below r i ts) (Records c (with_frontier i ts s)) (Records c s) x
+      (on_ok_weaker x (λ e. subst (λ (d : Register T). Records d (with_frontier i ts s)) (sym e) moved) taken) accepted (refused_by (input_refusal below r i ts) x refused)
+      (on_err_weaker x (λ e. subst (λ (d : Register T). Records d s) (sym e) a) stays))
     where
-      moved : Records minimum (with_input i ts r) (with_frontier i ts s)
+      moved : Records (with_input i ts r) (with_frontier i ts s)
       moved = record { changes = a.changes; inputs = ap (λ (fronts : List (List T)). set fronts i ts) a.inputs; since = a.since }
+
+  -- answers the clause `answered` of allow
+  pub view_answered : (r c : Register T) (v : ℕ) (ts : List T) (s : Session T) (x : Result (Unit {0}) Refusal) → IsRegister r → v < length r.plan
+      → OnOk x (c ≡ with_view v ts r) → OnOk x (view_refusal below r v ts ≡ None) → IfErr x (λ refusal. view_refusal below r v ts ≡ Some refusal) → OnErr x (c ≡ r) → Records r s
+      → IsTold (since_refusal below r.plan s v ts) (Records c (with_since v ts s)) (Records c s) x
+  view_answered r c v ts s x is within taken accepted refused stays a =
+      subst (λ (o : Option Refusal). IsTold o (Records c (with_since v ts s)) (Records c s) x) (ap (λ since. first_refusal (advance_faults below since ts)) (a.since v within))
+      (answered (view_refusal below r v ts) (Records c (with_since v ts s)) (Records c s) x
+      (on_ok_weaker x (λ e. subst (λ (d : Register T). Records d (with_since v ts s)) (sym e) moved) taken) accepted (refused_by (view_refusal below r v ts) x refused)
+      (on_err_weaker x (λ e. subst (λ (d : Register T). Records d s) (sym e) a) stays))
+    where
+      by : (u : ℕ) → u < length r.plan → (b : Bool) → eqb u v ≡ b → front_at u (set r.sinces v ts) ≡ cond b ts (s.since u)
+      by u l true e = ap (λ n. front_at n (set r.sinces v ts)) (eqb-true u v e) ∙ get_or-set_same r.sinces v ts [] (let long = is.sinces in omega (arith, within, long))
+      by u l false e = get_or-set_other r.sinces v u ts [] (λ same. eqb-false u v e same) ∙ a.since u l
+
+      moved : Records (with_view v ts r) (with_since v ts s)
+      moved = record { changes = a.changes; inputs = a.inputs; since = λ u l. by u l (eqb u v) refl }
+
+  -- from the least time on, for the nodes below a number
+  abbrev pub AreLeast : T → ℕ → List (List T) → Type 0
+  AreLeast minimum n sinces = (u : ℕ) → u < n → front_at u sinces ≡ minimum ∷ []
+
+  pub least_more : (minimum : T) (n : ℕ) (old new : List (List T)) → n < length old → new ≡ set old n (minimum ∷ []) → AreLeast minimum n old → AreLeast minimum (n + 1) new
+  least_more minimum n old new within e least = λ u l. ap (front_at u) e ∙ ⊎_elim (λ before. get_or-set_other old n u (minimum ∷ []) [] (λ same. omega (arith, before, same)) ∙ least u before)
+      (λ behind. let same : n ≡ u = omega (arith, behind, l) in subst (λ (k : ℕ). front_at k (set old n (minimum ∷ [])) ≡ minimum ∷ []) same (get_or-set_same old n (minimum ∷ []) [] within)) (cases_lt u n)
 
 -- ---- a list and its reverse have the same sums
 
@@ -317,7 +343,7 @@ module _ {T : Type 0} (below : T → T → Bool) where
 
 -- ---- questions
 
-module _ {T : Type 0} {below : T → T → Bool} {minimum : T} (o : PartialOrderLaws below) (r : Register T) (s : Session T) (a : Records minimum r s) (v : ℕ) where
+module _ {T : Type 0} {below : T → T → Bool} (o : PartialOrderLaws below) (r : Register T) (s : Session T) (a : Records r s) (v : ℕ) where
   same_found : view_frontier below r.plan s v ≡ least below (open_for below r.plan (λ i. front_at i r.inputs) v)
   same_found = ap (λ (fronts : List (List T)). least below (open_for below r.plan (λ i. front_at i fronts) v)) (sym a.inputs)
 
@@ -328,20 +354,26 @@ module _ {T : Type 0} {below : T → T → Bool} {minimum : T} (o : PartialOrder
       ∙ (least_beyond o (open_for below r.plan (λ i. front_at i r.inputs) v) t
       ∙ ap (λ (ts : List T). is_beyond below ts t) (sym e))
 
-  -- each time may be read, because none was given up
-  all_kept : (t : T) → IsTrue (below minimum t) → not (is_beyond below (s.since v) t) ≡ false
-  all_kept t low = ap (λ (since : List T). not (is_beyond below since t)) (a.since v) ∙ ap (λ x. not (x || false)) low
+  -- a time may be read if and only if it may be in the session
+  same_kept : v < length r.plan → (t : T) (b : Bool) → is_beyond below (front_at v r.sinces) t ≡ b → not (is_beyond below (s.since v) t) ≡ not b
+  same_kept within t b e = ap (λ (since : List T). not (is_beyond below since t)) (sym (a.since v within)) ∙ ap not e
 
-  -- a read is refused if and only if its time is still open
+  -- a read is refused if its time is still open, and if it was given up
   pub open_refuses : (t : T) → is_beyond below (view_frontier below r.plan s v) t ≡ true → read_refusal below r.plan s v t ≡ Some NotPassed
   open_refuses t e = ap (λ b. first_refusal ((b, NotPassed) ∷ (not (is_beyond below (s.since v) t), GivenUp) ∷ [])) e
 
-  passed_reads : (t : T) → IsTrue (below minimum t) → is_beyond below (view_frontier below r.plan s v) t ≡ false → read_refusal below r.plan s v t ≡ None
-  passed_reads t low e = rw (e, all_kept t low) refl
+  pub given_up_refuses : v < length r.plan → (t : T) → is_beyond below (view_frontier below r.plan s v) t ≡ false → is_beyond below (front_at v r.sinces) t ≡ false → read_refusal below r.plan s v t ≡ Some GivenUp
+  given_up_refuses within t e kept = rw (e, same_kept within t false kept) refl
 
-  -- the session never refuses a question for changes
-  pub changes_wanted : changes_refusal below r.plan s minimum v ≡ None
-  changes_wanted = rw (all_kept minimum (o.reflexive minimum)) refl
+  passed_reads : v < length r.plan → (t : T) → is_beyond below (view_frontier below r.plan s v) t ≡ false → is_beyond below (front_at v r.sinces) t ≡ true → read_refusal below r.plan s v t ≡ None
+  passed_reads within t e kept = rw (e, same_kept within t true kept) refl
+
+  -- a question for changes is refused if and only if the least time was given up
+  pub changes_wanted : v < length r.plan → (minimum : T) → is_beyond below (front_at v r.sinces) minimum ≡ true → changes_refusal below r.plan s minimum v ≡ None
+  changes_wanted within minimum kept = rw (same_kept within minimum true kept) refl
+
+  pub changes_given_up : v < length r.plan → (minimum : T) → is_beyond below (front_at v r.sinces) minimum ≡ false → changes_refusal below r.plan s minimum v ≡ Some GivenUp
+  changes_given_up within minimum kept = rw (same_kept within minimum false kept) refl
 
   -- the least open times, in order, are the printed frontier
   pub frontier_found : {cmp : T → T → Ordering} → IsTotalOrder cmp → ((t u : T) → cmp t u ≡ Equal → t ≡ u) → (times F : List T) → times ≡ open_for below r.plan (λ i. front_at i r.inputs) v
@@ -376,11 +408,11 @@ module _ {T : Type 0} {below : T → T → Bool} {minimum : T} (o : PartialOrder
       large_changes F large = large_difference o l x total r.plan plan r.changes (λ i. fed_to i s.fed) same_query_of v within F large
 
     -- answers the clause `answered` of read
-    pub rows_answered : (cause Large : Type 0) → (cause → Large) → (t : T) (x : Result (List Entry) Refusal) → IsTrue (below minimum t) → is_beyond below (view_frontier below r.plan s v) t ≡ false
+    pub rows_answered : (cause Large : Type 0) → (cause → Large) → (t : T) (x : Result (List Entry) Refusal) → is_beyond below (view_frontier below r.plan s v) t ≡ false → is_beyond below (front_at v r.sinces) t ≡ true
         → IfOk x (λ bag. Alike bag (query_at below r.plan (list_of r.plan r.changes) v t)) → IfOk x IsBag → IfErr x (IsMemoryOrOverflow cause)
         → IsFound (IsMemoryOrOverflow Large) (read_refusal below r.plan s v t) (rows_at below r.plan s v t) x
-    rows_answered cause Large found t (Ok bag) low passed alike is refused = (passed_reads t low passed, consolidated_bag-only _ bag is (λ row. alike row ∙ same_query t row))
-    rows_answered cause Large found t (Err e) low passed alike is refused = inr (⊎_elim (λ m. inl m) (λ l. inr (l.0, found l.1)) refused)
+    rows_answered cause Large found t (Ok bag) passed kept alike is refused = (passed_reads within t passed kept, consolidated_bag-only _ bag is (λ row. alike row ∙ same_query t row))
+    rows_answered cause Large found t (Err e) passed kept alike is refused = inr (⊎_elim (λ m. inl m) (λ l. inr (l.0, found l.1)) refused)
 
     -- the differences of the inputs' lists and frontiers are the session's changes
     pub changes_found : {joined met : T → T → T} {cmp : T → T → Ordering} → LatticeLaws below joined met → ExtendsLaws below cmp → IsTotalOrder cmp → (frontiers : List (List T)) (us : List (Update T)) → AreFrontiers below r.plan r.inputs frontiers

@@ -21,13 +21,13 @@ use Rattle.hub.specs.Histories.{entry, NoneBy}
 use Rattle.hub.specs.Known.{Known}
 use Rattle.hub.specs.declared.view.Entry.{Entry}
 use Rattle.histories.specs.declared.event.Event.{Event}
-use Rattle.histories.specs.declared.event.Event.TheVariants.{Feed, Advance, Look}
+use Rattle.histories.specs.declared.event.Event.TheVariants.{Feed, Advance, Allow, Look}
 use Rattle.histories.specs.declared.event.Fed.{Fed}
 use Rattle.histories.specs.Histories.Actors.{IsSameOfClients}
 use Rattle.histories.specs.Histories.Dataflows.{Dataflow, IsDataflow}
 use Rattle.histories.specs.Histories.Outstanding.{frontier}
 use Rattle.histories.specs.Histories.Readings.{IsQuiet}
-use Rattle.histories.specs.Histories.{IsInput, IsLegal, initial_state, next_state}
+use Rattle.histories.specs.Histories.{IsInput, IsLegal, initial_state, next_state, with_at}
 use Rattle.histories.specs.Histories.States.{State, fed_to, open_at}
 use Rattle.outstanding.specs.Inputs.{feed_faults, advance_faults}
 use Rattle.outstanding.proofs.OpenLemmas.{first_front, open_set}
@@ -37,11 +37,11 @@ use Rattle.grammar.specs.Commands.{is_input_of}
 use Rattle.shared_board.specs.declared.event.Doing.{Doing}
 use Rattle.shared_board.specs.Found.{dataflow_of}
 use Rattle.shared_board.specs.Large.{HasNoSmallBound}
-use Rattle.shared_board.specs.Tenures.{Adds, AreKnown, AreOn, IsActor, IsFirst, Terms, doing, events, feed_refusal_in, advance_refusal_in, left_by, state_found, state_left, terms_for, terms_in}
+use Rattle.shared_board.specs.Tenures.{Adds, AreKnown, AreOn, IsActor, IsFirst, Terms, doing, events, feed_refusal_in, advance_refusal_in, allow_refusal_in, left_by, state_found, state_left, terms_for, terms_in}
 use Rattle.shared_board.proofs.ActorLemmas.{only_client}
 use Rattle.shared_board.proofs.QuietLemmas.{stays}
 use Rattle.script.specs.Engines.{IsTold}
-use Rattle.script.specs.Sessions.{Session, first_session, with_change, with_frontier, change_refusal, frontier_refusal}
+use Rattle.script.specs.Sessions.{Session, first_session, with_change, with_frontier, with_since, change_refusal, frontier_refusal, since_refusal}
 use Rattle.script.specs.Standing.{HasSession, StandsAs}
 use Rattle.script.proofs.EveryBoundLemmas.{bound_of}
 
@@ -137,6 +137,16 @@ module _ {T : Type 0} (below : T → T → Bool) (minimum : T) (o : PartialOrder
         since = b.since;
       })
 
+  pub after_allowed : (old new : Known (Doing T)) (client v : ℕ) (ts : List T) (s : Session T) → IsClientStep old new (Allow client v ts) → StandsAs below minimum old s → StandsAs below minimum new (with_since v ts s)
+  after_allowed old new client v ts s step a =
+      let b = session_found (dataflow_of old) (state_left below minimum old) (state_found below minimum new) s step.clients a in
+      stood old new (Allow client v ts) (with_since v ts s) step (record {
+        fed = b.fed;
+        inputs = b.inputs;
+        nodes = b.nodes;
+        since = λ u. ap (λ (x : List T). with_at (λ (n : ℕ). x) v ts u) (b.since u);
+      })
+
   -- ---- commands that change an input
 
   same_change_refusal : (p : Dataflow) (w : State T) (s : Session T) (f : Fed T) → HasSession p w s → feed_refusal_in below p w f ≡ change_refusal below p.nodes s f
@@ -179,6 +189,17 @@ module _ {T : Type 0} (below : T → T → Bool) (minimum : T) (o : PartialOrder
         subst (λ (o : Option Refusal). IsTold o Accepted Stays r) (same_frontier_refusal p (state_found below minimum new) s i ts (some_step (Advance old.number i ts) done looks))
         (answered (advance_refusal_in below (state_found below minimum new) i ts) Accepted Stays r
         (on_ok_weaker r (λ adds. after_advanced old new old.number i ts s within (client_step old new (Advance old.number i ts) number one actor adds) a) done) accepted refused (unchanged looks))
+
+    -- a new since is answered as the session says
+    pub since_answered : (v : ℕ) (ts : List T) → OnOk r (Adds old (Allow old.number v ts) new) → OnOk r (allow_refusal_in below (state_found below minimum new) v ts ≡ None) → IfErr r (λ refusal. allow_refusal_in below (state_found below minimum new) v ts ≡ Some refusal)
+        → OnErr r (Adds old (Look old.number) new) → IsTold (since_refusal below p.nodes s v ts) (StandsAs below minimum new (with_since v ts s)) (StandsAs below minimum new s) r
+    since_answered v ts done accepted refused looks =
+        let Accepted = StandsAs below minimum new (with_since v ts s) in
+        let Stays = StandsAs below minimum new s in
+        let found = some_step (Allow old.number v ts) done looks in
+        subst (λ (o : Option Refusal). IsTold o Accepted Stays r) (ap (λ since. first_refusal (advance_faults below since ts)) (found.since v))
+        (answered (allow_refusal_in below (state_found below minimum new) v ts) Accepted Stays r
+        (on_ok_weaker r (λ adds. after_allowed old new old.number v ts s (client_step old new (Allow old.number v ts) number one actor adds) a) done) accepted (refused_by (allow_refusal_in below (state_found below minimum new) v ts) r refused) (unchanged looks))
 
   -- ---- before the first command
 

@@ -4,7 +4,7 @@ use Rattle.std.proofs.Common.{◌≡◌, ℕ, zero, suc, eqb, List, [], ◌∷�
 use Rattle.std.specs.Prelude.{slice_index_or}
 use Rattle.std.specs.List.{list_all}
 use Rattle.std.proofs.lemmas.Bool.{false≢true}
-use Rattle.std.proofs.lemmas.List.{length-map}
+use Rattle.std.proofs.lemmas.List.{length-map, get_or-map}
 use Rattle.atomic_table.specs.Seated.{TableId}
 use Rattle.hub.specs.Histories.{entry}
 use Rattle.hub.specs.Known.{Known}
@@ -13,7 +13,7 @@ use Rattle.lattice.specs.Naturals.{nat_order}
 use Rattle.lattice.specs.Pairs.{make_pair, pair_order}
 use Rattle.update.specs.declared.change.Update.{Update}
 use Rattle.plan.specs.Edges.{numbers_where}
-use Rattle.plan.specs.Nodes.{is_input}
+use Rattle.plan.specs.Nodes.{is_input, node_at}
 use Rattle.plan.specs.Rules.{IsPlan}
 use Rattle.plan.specs.Widths.{width_of}
 use Rattle.plan.specs.declared.node.Node.{Node}
@@ -64,10 +64,10 @@ module _ (p : List Node) where
 
   -- a register without changes
   abbrev blank : Register Bitime
-  blank = record { plan = p; changes = map (λ i. no_updates) (numbers_where is_input p); inputs = (opening_session p).inputs }
+  blank = record { plan = p; changes = map (λ i. no_updates) (numbers_where is_input p); inputs = (opening_session p).inputs; sinces = map (λ (node : Node). make_pair 0 0 ∷ []) p }
 
   -- the register stands for the first session
-  pub register_stands : (r : Register Bitime) × (r.plan ≡ p) × IsRegister r × Records (make_pair 0 0) r (opening_session p)
+  pub register_stands : (r : Register Bitime) × (r.plan ≡ p) × IsRegister r × Records r (opening_session p)
   register_stands = (
     blank,
     refl,
@@ -75,10 +75,11 @@ module _ (p : List Node) where
       lists = length-map (numbers_where is_input p) _;
       wide = λ n l e. ap (λ us. list_all (λ (u : Update Bitime). eqb (length u.row) (width_of p n)) us) (none_in (numbers_where is_input p) (inputs_before p n));
       inputs = length-map p _;
+      sinces = length-map p _;
     },
     record {
       changes = λ input e. none_in (numbers_where is_input p) (inputs_before p input);
       inputs = refl;
-      since = λ view. refl;
+      since = λ view l. get_or-map (λ (node : Node). make_pair 0 0 ∷ []) p view (node_at p view) [] l;
     },
   )

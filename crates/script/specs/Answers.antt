@@ -8,7 +8,7 @@ use Rattle.update.specs.declared.refusal.Refusal.{Refusal}
 use Rattle.plan.specs.declared.node.Node.{Node}
 use Rattle.histories.specs.declared.event.Fed.{Fed}
 use Rattle.script.specs.Engines.{IsTold, IsFound}
-use Rattle.script.specs.Sessions.{with_change, with_frontier, change_refusal, frontier_refusal, read_refusal, changes_refusal, rows_at, changes_at, frontier_at}
+use Rattle.script.specs.Sessions.{with_change, with_frontier, with_since, change_refusal, frontier_refusal, since_refusal, read_refusal, changes_refusal, rows_at, changes_at, frontier_at}
 use Rattle.script.specs.Text.{BitemporalSession}
 use Rattle.lattice.specs.Bitimes.{bitime_join, bitime_cmp, bitime_below}
 
@@ -25,6 +25,12 @@ module _ (p : List Node) (s : BitemporalSession) where
       → Result (Unit {0}) Refusal → Type 0
   TakesFrontier i ts Stands r =
       IsTold (frontier_refusal bitime_below p s i ts) (Stands (with_frontier i ts s)) (Stands s) r
+
+  -- the engine's answer to a new since of a view
+  abbrev pub TakesSince : ℕ → List (Pair ℕ ℕ) → (BitemporalSession → Type 0)
+      → Result (Unit {0}) Refusal → Type 0
+  TakesSince v ts Stands r =
+      IsTold (since_refusal bitime_below p s v ts) (Stands (with_since v ts s)) (Stands s) r
 
 -- ---- commands that ask about a view; Ends says which refusals end the run
 module _ (Ends : Refusal → Type 0) (p : List Node) (s : BitemporalSession) where

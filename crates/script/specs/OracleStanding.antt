@@ -1,5 +1,5 @@
 -- What the oracle engine keeps, and for which session it stands.
-use Rattle.std.specs.Prelude.{◌≡◌, ℕ, Bool, List, ◌∷◌, [], ◌++◌, length, reverse, set, Option, IsTrue}
+use Rattle.std.specs.Prelude.{◌≡◌, ◌<◌, ℕ, Bool, List, ◌∷◌, [], ◌++◌, length, reverse, set, Option, IsTrue}
 use Rattle.lattice.specs.Frontiers.{is_beyond}
 use Rattle.update.specs.declared.change.Update.{Update}
 use Rattle.update.specs.declared.refusal.Refusal.{Refusal}
@@ -21,6 +21,8 @@ pub record Register (T : Type 0) : Type 0 where
   pub changes : List (List (Update T))
   -- the frontier of each node that is an input, by node number
   pub inputs : List (List T)
+  -- the frontier beyond which each view may be read, by node number
+  pub sinces : List (List T)
 
 module _ {T : Type 0} where
   -- each input has a list, and the rows in it have the input's width
@@ -28,6 +30,7 @@ module _ {T : Type 0} where
     pub lists : length r.changes ≡ length (numbers_where is_input r.plan)
     pub wide : AreWide r.plan r.changes
     pub inputs : length r.inputs ≡ length r.plan
+    pub sinces : length r.sinces ≡ length r.plan
 
   -- the change is appended to its input's list
   abbrev pub with_entry : Fed T → Register T → Register T
@@ -38,13 +41,16 @@ module _ {T : Type 0} where
   abbrev pub with_input : ℕ → List T → Register T → Register T
   with_input i ts r = record r { inputs = set r.inputs i ts }
 
--- the changes and the frontiers of the inputs are those of the session; each view may be read from
--- the least time on
-pub record Records {T : Type 0} (minimum : T) (r : Register T) (s : Session T) : Type 0 where
+  -- the view has a new since
+  abbrev pub with_view : ℕ → List T → Register T → Register T
+  with_view v ts r = record r { sinces = set r.sinces v ts }
+
+-- the changes, the frontiers of the inputs and the sinces of the views are those of the session
+pub record Records {T : Type 0} (r : Register T) (s : Session T) : Type 0 where
   pub changes : (input : ℕ) → IsTrue (is_input_of r.plan input)
       → list_of r.plan r.changes input ≡ reverse (fed_to input s.fed)
   pub inputs : r.inputs ≡ s.inputs
-  pub since : (view : ℕ) → s.since view ≡ minimum ∷ []
+  pub since : (view : ℕ) → view < length r.plan → front_at view r.sinces ≡ s.since view
 
 module _ {T : Type 0} (below : T → T → Bool) where
   -- the refusal of a change
@@ -55,6 +61,10 @@ module _ {T : Type 0} (below : T → T → Bool) where
   -- the refusal of a new frontier
   abbrev pub input_refusal : Register T → ℕ → List T → Option Refusal
   input_refusal r i ts = first_refusal (advance_faults below (front_at i r.inputs) ts)
+
+  -- the refusal of a new since
+  abbrev pub view_refusal : Register T → ℕ → List T → Option Refusal
+  view_refusal r v ts = first_refusal (advance_faults below (front_at v r.sinces) ts)
 
   -- each of these frontiers, listed by input, has the same times beyond it as the input's own
   -- frontier

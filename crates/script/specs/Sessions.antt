@@ -12,6 +12,7 @@ use Rattle.plan.specs.Changes.{query_at, open_for}
 use Rattle.plan.specs.Rules.{first_refusal}
 use Rattle.plan.specs.declared.node.Node.{Node}
 use Rattle.histories.specs.declared.event.Fed.{Fed}
+use Rattle.histories.specs.Histories.{with_at}
 use Rattle.histories.specs.Histories.States.{fed_to}
 use Rattle.histories.specs.Histories.Readings.{is_from_start}
 use Rattle.outstanding.specs.Inputs.{front_at, first_inputs, feed_faults, advance_faults}
@@ -43,6 +44,10 @@ module _ {T : Type 0} where
   abbrev pub with_frontier : ℕ → List T → Session T → Session T
   with_frontier i ts s = record s { inputs = set s.inputs i ts }
 
+  -- the session after readers of a view gave up what is not beyond these times
+  abbrev pub with_since : ℕ → List T → Session T → Session T
+  with_since v ts s = record s { since = with_at s.since v ts }
+
 module _ {T : Type 0} (below : T → T → Bool) (p : List Node) (s : Session T) where
   -- the refusal of a change
   abbrev pub change_refusal : Fed T → Option Refusal
@@ -52,6 +57,10 @@ module _ {T : Type 0} (below : T → T → Bool) (p : List Node) (s : Session T)
   -- the refusal of a new frontier of an input: each of its times must be beyond the old frontier
   abbrev pub frontier_refusal : ℕ → List T → Option Refusal
   frontier_refusal i ts = first_refusal (advance_faults below (front_at i s.inputs) ts)
+
+  -- the refusal of a new since of a view: each of its times must be beyond the old one
+  abbrev pub since_refusal : ℕ → List T → Option Refusal
+  since_refusal v ts = first_refusal (advance_faults below (s.since v) ts)
 
   -- the frontier of a view: the least times of the frontiers of all inputs that feed it
   abbrev pub view_frontier : ℕ → List T

@@ -13,7 +13,7 @@ use Rattle.grammar.specs.declared.command.ViewCommand.TheVariants.{Read, Changes
 use Rattle.grammar.specs.declared.command.CommandLine.{CommandLine}
 use Rattle.grammar.specs.ScriptModels.{ScriptModel, name_at}
 use Rattle.script.specs.Printing.{refused_text, rows_text, changes_text, frontier_text}
-use Rattle.script.specs.Sessions.{Session, first_session, with_change, with_frontier, change_refusal, frontier_refusal, read_refusal, changes_refusal, rows_at, changes_at, frontier_at}
+use Rattle.script.specs.Sessions.{Session, first_session, with_change, with_frontier, with_since, change_refusal, frontier_refusal, since_refusal, read_refusal, changes_refusal, rows_at, changes_at, frontier_at}
 use Rattle.lattice.specs.Bitimes.{bitime_below, bitime_cmp, bitime_join}
 
 -- the session of a script; its times are pairs of a valid time and a system time
@@ -37,6 +37,7 @@ module _ (p : List Node) (s : BitemporalSession) where
   -- the refusal of a command
   abbrev pub command_refusal : Command → Option Refusal
   command_refusal (command.Input change) = input_command_refusal change
+  command_refusal (command.Allow view times) = since_refusal bitime_below p s view times
   command_refusal (command.View question) = view_command_refusal question
 
   -- the session after an accepted command that changes an input
@@ -51,9 +52,16 @@ module _ (p : List Node) (s : BitemporalSession) where
   carry_out_unless None change = carry_out change
   carry_out_unless (Some refusal) change = s
 
+  -- the same of a command that gives up a part of a view's past
+  abbrev pub give_up_unless : Option Refusal → ℕ → List (Pair ℕ ℕ) → BitemporalSession
+  give_up_unless None view times = with_since view times s
+  give_up_unless (Some refusal) view times = s
+
   -- the session after a command; a question leaves it as it is
   abbrev pub after_command : Command → BitemporalSession
   after_command (command.Input change) = carry_out_unless (input_command_refusal change) change
+  after_command (command.Allow view times) =
+      give_up_unless (since_refusal bitime_below p s view times) view times
   after_command (command.View question) = s
 
 module _ (t : ScriptModel) (s : BitemporalSession) where
@@ -69,6 +77,7 @@ module _ (t : ScriptModel) (s : BitemporalSession) where
   -- what an accepted command prints
   abbrev pub command_text : Command → List ℕ
   command_text (command.Input change) = []
+  command_text (command.Allow view times) = []
   command_text (command.View question) = answer question
 
   -- what line n prints: the refusal, if there is one, and otherwise the command's text

@@ -199,6 +199,12 @@ impl<'a, R: Wait> Engine for BoardEngine<'a, R> {
         told
     }
 
+    fn allow(&mut self, view: NodeId, times: Times<Bitime>) -> Result<(), Refusal> {
+        let told = self.client.allow(self.runtime, view, times);
+        self.client.known();
+        told
+    }
+
     fn read(&mut self, _alloc: Global, view: NodeId, time: Bitime) -> Result<Bag, Refusal> {
         let rows = self.client.read(self.runtime, view, time);
         self.client.known();

@@ -11,7 +11,7 @@ ghost use Rattle.std.specs.Prelude.{◌≡◌, IsTrue, List, IfErr, OnOk};
 ghost use Rattle.update.specs.declared.refusal.Refusal.{Refusal};
 ghost use Rattle.plan.specs.declared.node.Node.{Node};
 ghost use Rattle.grammar.specs.Commands.{is_input_of, is_view_of};
-ghost use Rattle.script.specs.Answers.{TakesChange, TakesFrontier, FindsRows, FindsChanges, FindsFrontier};
+ghost use Rattle.script.specs.Answers.{TakesChange, TakesFrontier, TakesSince, FindsRows, FindsChanges, FindsFrontier};
 ghost use Rattle.script.specs.Engines.{EndsRun};
 ghost use Rattle.script.specs.Text.{BitemporalSession};
 
@@ -54,6 +54,13 @@ pub(crate) trait Engine {
         ensures plan { plan self.new ≡ plan self.old }
         ensures answered { (s : BitemporalSession) → stands self.old s
             → TakesFrontier (plan self.old) s input times (stands self.new) result };
+
+    /// Moves the frontier from which a view may be read. There is at least one time.
+    fn allow(&mut self, view: NodeId, times: Times<Bitime>) -> Result<(), Refusal>
+        requires { IsTrue (is_view_of (plan self.old) view) }
+        ensures plan { plan self.new ≡ plan self.old }
+        ensures answered { (s : BitemporalSession) → stands self.old s
+            → TakesSince (plan self.old) s view times (stands self.new) result };
 
     /// Answers the rows of a view at a time.
     fn read(&mut self, alloc: Global, view: NodeId, time: Bitime) -> Result<Bag, Refusal>

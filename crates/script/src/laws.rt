@@ -88,5 +88,5 @@ pub fn engines_can_stand()
         × IsFirst (terms_for p 1 1) 1 k × StandsAs bitime_below (make_pair 0 0) k (opening_session p)
         × IsQuiet bitime_below (dataflow_of k) (state_left bitime_below (make_pair 0 0) k) }
     ensures oracle { (p : List Node) → (r : Register Bitime) × (r.plan ≡ p) × IsRegister r
-        × Records (make_pair 0 0) r (opening_session p) }
+        × Records r (opening_session p) }
 {}

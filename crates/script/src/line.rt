@@ -1,11 +1,12 @@
 //! One line of a script: its command goes to the engine, and the answer is printed.
 ghost use Rattle.std.specs.Prelude.{◌≡◌, [], false, IfErr, IsTrue, OnOk};
 ghost use Rattle.grammar.specs.Commands.{IsAbout, IsQuestion};
-ghost use Rattle.grammar.specs.declared.command.Command.TheVariants.{Input, View};
+ghost use Rattle.grammar.specs.declared.command.Command.TheVariants.{Allow, Input, View};
 ghost use Rattle.grammar.specs.ScriptModels.{ScriptModel};
 ghost use Rattle.script.specs.Engines.{EndsRun, IsTold, IsEnd, failures};
 ghost use Rattle.script.specs.Outs.{Wrote, Broke};
 ghost use Rattle.script.specs.Printing.{refused_text};
+ghost use Rattle.script.specs.Answers.{TakesSince};
 ghost use Rattle.script.specs.Text.{BitemporalSession, input_command_refusal, carry_out, after_command, piece};
 ghost use Rattle.script.specs.declared.fault.RunFault.TheVariants.{Refused};
 
@@ -15,6 +16,8 @@ use crate::output_buffer::OutputBuffer;
 use crate::outputs::Out;
 use crate::printer::{print_changes, print_frontier, print_rows};
 use grammar::{Command, CommandLine, InputCommand, Script, ViewCommand};
+use lattice::Bitime;
+use plan::NodeId;
 use std::alloc::Global;
 use update::{Refusal, Times, Update};
 
@@ -60,6 +63,21 @@ fn hand_over<E: Engine>(
         InputCommand::Advance { input, times } => engine.advance(*input, times.copy(alloc)?),
         InputCommand::Close { input } => engine.advance(*input, Times::from(Vec::new(alloc))),
     }
+}
+
+// Hands to the engine from which times on a view may be read.
+fn hand_since<E: Engine>(
+    alloc: Global,
+    engine: &mut E,
+    view: NodeId,
+    times: &Times<Bitime>,
+) -> Result<(), Refusal>
+    requires about { IsAbout (E.plan engine.old) (Allow view times.now) }
+    ensures plan { E.plan engine.new ≡ E.plan engine.old }
+    ensures answered { (s : BitemporalSession) → E.stands engine.old s
+        → TakesSince (E.plan engine.old) s view times.now (E.stands engine.new) result }
+{
+    engine.allow(view, times.copy(alloc)?)
 }
 
 // Ends the run. The whole text of the earlier lines is written first.
@@ -119,6 +137,34 @@ fn run_update<E: Engine, W: Out>(
         → IfErr result (IsEnd (λ refusal. ⊥)) }
 {
     match hand_over(alloc, engine, command) {
+        Ok(()) => Ok(()),
+        Err(refusal) => refuse(buffer, out, line, refusal),
+    }
+}
+
+// Runs a line that gives up a part of a view's past. It prints nothing unless the engine refuses it.
+fn run_allow<E: Engine, W: Out>(
+    alloc: Global,
+    engine: &mut E,
+    line: u64,
+    view: NodeId,
+    times: &Times<Bitime>,
+    buffer: &mut OutputBuffer,
+    out: &mut W,
+) -> Result<(), RunFault>
+    requires about { IsAbout (E.plan engine.old) (Allow view times.now) }
+    ensures plan { E.plan engine.new ≡ E.plan engine.old }
+    ensures ran { (t : ScriptModel) (s : BitemporalSession) → t.plan ≡ E.plan engine.old
+        → E.stands engine.old s
+        → OnOk result (E.stands engine.new (after_command t.plan s (Allow view times.now))
+        × Wrote W.took out.old buffer.old (piece t s line (Allow view times.now)) out.new
+        buffer.new) }
+    ensures broke { IfErr result
+        (λ fault. Broke W.took out.old buffer.old [] (failures fault) out.new) }
+    ensures known { (s : BitemporalSession) → E.stands engine.old s
+        → IfErr result (IsEnd (λ refusal. ⊥)) }
+{
+    match hand_since(alloc, engine, view, times) {
         Ok(()) => Ok(()),
         Err(refusal) => refuse(buffer, out, line, refusal),
     }
@@ -223,6 +269,11 @@ pub(crate) fn run_line<E: CatchUp, W: Out>(
     match &line.command {
         Command::Input(command) => {
             run_update(alloc, engine, line.line, command, buffer, out)?;
+            buffer.pass_on(out)?;
+            Ok(())
+        }
+        Command::Allow { view, times } => {
+            run_allow(alloc, engine, line.line, *view, times, buffer, out)?;
             buffer.pass_on(out)?;
             Ok(())
         }

@@ -1,8 +1,8 @@
 //! The oracle engine: it answers commands by the plain query of crate `oracle` alone. It has no
 //! workers, boards or batches, and it stores no differences.
 //!
-//! It keeps the accepted changes of each input, in the order in which they came, and the inputs'
-//! frontiers. Each answer is computed from these, from scratch. The invariant is what the query
+//! It keeps the accepted changes of each input, in the order in which they came, the inputs'
+//! frontiers, and from which times on each view may be read. Each answer is computed from these, from scratch. The invariant is what the query
 //! requires: each input has a list, at its index among the inputs, and the rows in it have the
 //! input's width. Nothing computed is stored, so nothing can be out of date. This engine is slow,
 //! but it is easy to see why it is right. It tests commands with the same function as a board
@@ -15,12 +15,12 @@ ghost use Rattle.update.specs.declared.refusal.Refusal.TheVariants.{OutOfMemory}
 ghost use Rattle.plan.specs.Changes.{open_for};
 ghost use Rattle.update.specs.Refusals.{IsRefusalBy};
 ghost use Rattle.outstanding.specs.Inputs.{front_at};
-ghost use Rattle.grammar.specs.Commands.{is_input_of};
+ghost use Rattle.grammar.specs.Commands.{is_input_of, is_view_of};
 ghost use Rattle.script.specs.Ends.{IsTextBeforeOverflow};
 ghost use Rattle.script.specs.Engines.{IsRunEnd, failures};
 ghost use Rattle.script.specs.declared.fault.RunFault.TheVariants.{Refused};
 ghost use Rattle.script.specs.Outs.{IsBeginning};
-ghost use Rattle.script.specs.OracleStanding.{IsRegister, Records, AreFrontiers, with_entry, with_input, entry_refusal, input_refusal};
+ghost use Rattle.script.specs.OracleStanding.{IsRegister, Records, AreFrontiers, with_entry, with_input, with_view, entry_refusal, input_refusal, view_refusal};
 ghost use Rattle.script.specs.Text.{opening_session, text};
 ghost use Rattle.lattice.specs.Bitimes.{bitime_below};
 ghost use Rattle.script.specs.Bounds.{EndsByBound, IsLargeScript};
@@ -31,7 +31,7 @@ use crate::outputs::Out;
 use crate::run::run;
 use antichain::{Antichain, is_beyond};
 use grammar::Script;
-use lattice::Bitime;
+use lattice::{Bitime, Minimum};
 use machine::InputFrontiers;
 use oracle::{differences, evaluate, inputs_before};
 use plan::{NodeId, Plan};
@@ -48,6 +48,8 @@ pub(crate) struct OracleEngine {
     changes: Vec<Vec<Update<Bitime>>>,
     // The frontier of each input.
     inputs: InputFrontiers<Bitime>,
+    // The frontier beyond which each view may be read, by node number.
+    sinces: InputFrontiers<Bitime>,
 }
 
 impl Model for OracleEngine {
@@ -61,12 +63,14 @@ impl Model for OracleEngine {
       plan = engine.plan;
       changes = map (λ v. v.items) engine.changes.items;
       inputs = engine.inputs;
+      sinces = engine.sinces;
     } };
 
     ghost invariant = { λ engine. IsRegister (record {
       plan = engine.plan;
       changes = map (λ v. v.items) engine.changes.items;
       inputs = engine.inputs;
+      sinces = engine.sinces;
     }) };
 }
 
@@ -145,21 +149,39 @@ fn frontiers(
     Ok(all)
 }
 
+// From the least time on, for each node.
+fn first_sinces(alloc: Global, plan: &Plan) -> Result<InputFrontiers<Bitime>, Refusal>
+    ensures count { IfOk result (λ sinces. length sinces ≡ length plan.now) }
+    ensures least { IfOk result (λ sinces. (n : ℕ) → n < length plan.now
+        → front_at n sinces ≡ make_pair 0 0 ∷ []) }
+    ensures refused { IfErr result (λ refusal. refusal ≡ OutOfMemory) }
+{
+    let mut sinces = InputFrontiers::first(alloc, plan)?;
+    for n in 0..plan.len() {
+        let mut least = Vec::new(alloc);
+        least.push(Bitime::minimum())?;
+        sinces.stand_at(NodeId::new(n), Times::from(least));
+    }
+    Ok(sinces)
+}
+
 impl OracleEngine {
     /// An engine to which nothing has happened yet. Refused only with `OutOfMemory`.
     pub(crate) fn open(alloc: Global, plan: &Plan) -> Result<OracleEngine, Refusal>
         ensures plan { IfOk result (λ engine. engine.plan ≡ plan.now) }
         ensures stands { IfOk result
-            (λ engine. Records (make_pair 0 0) engine (opening_session plan.now)) }
+            (λ engine. Records engine (opening_session plan.now)) }
         ensures refused { IfErr result (λ refusal. refusal ≡ OutOfMemory) }
     {
         let plan = plan.clone()?;
         let inputs = InputFrontiers::first(alloc, &plan)?;
+        let sinces = first_sinces(alloc, &plan)?;
         let changes = no_changes(alloc, plan.inputs(alloc)?.len())?;
         Ok(OracleEngine {
             plan,
             changes,
             inputs,
+            sinces,
         })
     }
 
@@ -201,17 +223,29 @@ impl OracleEngine {
     {
         self.inputs.advance(input, times)
     }
+
+    // Accepts a new since of a view, or refuses it as a board would.
+    fn take_since(&mut self, view: NodeId, times: Times<Bitime>) -> Result<(), Refusal>
+        requires { IsTrue (is_view_of self.old.plan view) }
+        ensures taken { OnOk result (self.new ≡ with_view view times self.old) }
+        ensures accepted { OnOk result (view_refusal bitime_below self.old view times ≡ None) }
+        ensures refused { IfErr result
+            (λ refusal. view_refusal bitime_below self.old view times ≡ Some refusal) }
+        ensures unchanged { OnErr result (self.new ≡ self.old) }
+        ensures register { IsRegister self.old }
+    {
+        self.sinces.advance(view, times)
+    }
 }
 
 impl Engine for OracleEngine {
     ghost use Rattle.std.specs.Prelude.{⊤};
-    ghost use Rattle.lattice.specs.Pairs.{make_pair};
     ghost use Rattle.script.specs.OracleStanding.{Records};
     ghost use Rattle.script.specs.Bounds.{EndsByBound, ends_by_bound};
 
     ghost plan = { λ r. r.plan };
 
-    ghost stands = { λ r s. Records (make_pair 0 0) r s };
+    ghost stands = { λ r s. Records r s };
 
     ghost caught_up = { λ r. ⊤ };
 
@@ -230,17 +264,27 @@ impl Engine for OracleEngine {
         self.take_frontier(input, times)
     }
 
+    fn allow(&mut self, view: NodeId, times: Times<Bitime>) -> Result<(), Refusal> {
+        self.take_since(view, times)
+    }
+
     fn read(&mut self, alloc: Global, view: NodeId, time: Bitime) -> Result<Bag, Refusal> {
         self.plan.known();
         let open = open_for(alloc, &self.plan, &self.inputs, view)?;
         if is_beyond(&open, &time) {
             return Err(Refusal::NotPassed);
         }
+        if !is_beyond(self.sinces.of(view), &time) {
+            return Err(Refusal::GivenUp);
+        }
         evaluate(alloc, &self.plan, view, &self.changes, time)
     }
 
     fn changes(&mut self, alloc: Global, view: NodeId) -> Result<Updates<Bitime>, Refusal> {
         self.plan.known();
+        if !is_beyond(self.sinces.of(view), &Bitime::minimum()) {
+            return Err(Refusal::GivenUp);
+        }
         let frontiers = frontiers(alloc, &self.plan, &self.inputs)?;
         let changes = differences(alloc, &self.plan, view, &self.changes, &frontiers)?;
         Ok(Updates::from(changes))

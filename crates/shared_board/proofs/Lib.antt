@@ -2,6 +2,7 @@ pub mod WidthLemmas
 pub mod SharedLemmas
 pub mod SharedReadingLemmas
 pub mod ActorLemmas
+pub mod CallLemmas
 pub mod ApartLemmas
 pub mod QuietLemmas
 pub mod TakenLemmas

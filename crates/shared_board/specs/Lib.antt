@@ -3,6 +3,7 @@ pub use Rattle.lattice.specs.Frontiers
 pub mod Widths
 pub mod Tenures
 pub mod Ports
+pub mod Calls
 pub mod Found
 pub mod Large
 pub mod Pieces

@@ -25,6 +25,8 @@ ghost use Rattle.shared_board.specs.Tenures.{Adds, IsActor, IsFirst, WaitsOrNotI
 ghost use Rattle.shared_board.specs.Widths.{are_wide_for};
 
 mod attempt;
+mod client;
+mod entering;
 
 use crate::event::Doing;
 use crate::protocol::BoardProtocol;
@@ -72,9 +74,9 @@ impl<T: Minimum, P: Protocol<Event = Doing<T>>> Model for Actor<T, P> {
 
 impl<T: Minimum, P: BoardProtocol<T>> Actor<T, P> {
     // The actor of a pass that has seen nothing. It looks once, so that it knows the terms of the
-    // board. A board on other terms, which cannot be there, is answered with `OutOfMemory`.
-    pub(crate) fn first<R: Wait>(
-        rt: &R,
+    // board. A board that is away, or on other terms, cannot be there, and is answered with
+    // `OutOfMemory`.
+    pub(crate) fn first(
         hub: Arc<Hub<P>, Global>,
         pass: Pass<P>,
         number: usize,
@@ -89,7 +91,9 @@ impl<T: Minimum, P: BoardProtocol<T>> Actor<T, P> {
         ensures hub { IfOk result (λ actor. actor.hub ≡ pass.hub) }
         ensures refused { IfErr result (λ refusal. refusal ≡ OutOfMemory) }
     {
-        let mut tenure = hub.enter(rt, pass);
+        let Ok(mut tenure) = hub.try_enter(pass) else {
+            return Err(Refusal::OutOfMemory);
+        };
         let board = tenure.state();
         let right = board.is_on(plan, workers, clients);
         board.look(number);

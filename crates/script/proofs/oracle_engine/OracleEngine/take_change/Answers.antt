@@ -24,7 +24,7 @@ pub returns-in-Some-clause-refused : goal.returns-in-Some-clause-refused
 returns-in-Some-clause-refused c =
     let f : Fed (Pair ℕ ℕ) = record { input = c.args.input; update = c.args.update } in
     let items = λ (v : Vec (Update (Pair ℕ ℕ)) Global). v.items in
-    let r : Register (Pair ℕ ℕ) = record { plan = c.self.inside.plan; changes = map items c.self.inside.changes.items; inputs = c.self.inside.inputs } in
+    let r : Register (Pair ℕ ℕ) = record { plan = c.self.inside.plan; changes = map items c.self.inside.changes.items; inputs = c.self.inside.inputs; sinces = c.self.inside.sinces } in
     let there = subst (λ (r : Register (Pair ℕ ℕ)). IsTrue (is_input_of r.plan c.args.input)) (sym c.self.view_is) c.requires in
     let within = in_lists items c.self.inside.changes.items c.self.inside.plan c.args.input c.inputs_before-place.result there c.self.invariant.lists c.inputs_before-place.ensures in
     let taken = taken_is items c.self.inside.changes.items c.self.inside.plan c.args.input c.inputs_before-place.result c.len-taken.result c.index.result.now within c.inputs_before-place.ensures c.index.ensures (c.len-taken.ensures ∙ c.index.result.now.ok.0) in
@@ -36,7 +36,7 @@ pub invariant_of-self : goal.invariant_of-self
 invariant_of-self c =
     let f : Fed (Pair ℕ ℕ) = record { input = c.args.input; update = c.args.update } in
     let items = λ (v : Vec (Update (Pair ℕ ℕ)) Global). v.items in
-    let r : Register (Pair ℕ ℕ) = record { plan = c.self.inside.plan; changes = map items c.self.inside.changes.items; inputs = c.self.inside.inputs } in
+    let r : Register (Pair ℕ ℕ) = record { plan = c.self.inside.plan; changes = map items c.self.inside.changes.items; inputs = c.self.inside.inputs; sinces = c.self.inside.sinces } in
     let there = subst (λ (r : Register (Pair ℕ ℕ)). IsTrue (is_input_of r.plan c.args.input)) (sym c.self.view_is) c.requires in
     let within = in_lists items c.self.inside.changes.items c.self.inside.plan c.args.input c.inputs_before-place.result there c.self.invariant.lists c.inputs_before-place.ensures in
     let taken = taken_is items c.self.inside.changes.items c.self.inside.plan c.args.input c.inputs_before-place.result c.len-taken.result c.index.result.now within c.inputs_before-place.ensures c.index.ensures (c.len-taken.ensures ∙ c.index.result.now.ok.0) in

@@ -1,4 +1,4 @@
-use Rattle.std.proofs.Common.{◌<◌, ◌∙◌, ℕ, List, map, length, IsTrue, Vec, Global, ltb-true, inr, ap, sym, subst}
+use Rattle.std.proofs.Common.{rules, ◌<◌, ◌∙◌, ℕ, List, map, length, IsTrue, Vec, Global, ltb-true, inr, ap, sym, subst}
 use Rattle.std.proofs.lemmas.Bool.{and_parts}
 use Rattle.std.proofs.lemmas.Result.{err_from_is_err_and}
 use Rattle.std.proofs.lemmas.Cmp.{nat_cmp_total, then_total, on_total}
@@ -23,8 +23,8 @@ returns-clause-answered c s a =
     let p = c.self.inside.plan in
     let v = c.args.view in
     let items = λ (v : Vec (Update (Pair ℕ ℕ)) Global). v.items in
-    let r : Register (Pair ℕ ℕ) = record { plan = c.self.inside.plan; changes = map items c.self.inside.changes.items; inputs = c.self.inside.inputs } in
-    let own : Records (make_pair 0 0) r s = subst (λ (r : Register (Pair ℕ ℕ)). Records (make_pair 0 0) r s) (sym c.self.view_is) a in
+    let r : Register (Pair ℕ ℕ) = record { plan = c.self.inside.plan; changes = map items c.self.inside.changes.items; inputs = c.self.inside.inputs; sinces = c.self.inside.sinces } in
+    let own : Records r s = subst (λ (r : Register (Pair ℕ ℕ)). Records r s) (sym c.self.view_is) a in
     let there = subst (λ (r : Register (Pair ℕ ℕ)). IsTrue (is_view_of r.plan v)) (sym c.self.view_is) c.requires.view in
     let within : v < length p = ltb-true v (length p) (and_parts _ _ there).0 in
     let total = then_total (on_total (λ (t : Pair ℕ ℕ). t.first) nat_cmp_total) (on_total (λ (t : Pair ℕ ℕ). t.second) nat_cmp_total) in
@@ -33,7 +33,7 @@ returns-clause-answered c s a =
     subst (λ (fs : List (List (Pair ℕ ℕ))). AreFrontiers bitime_below p c.self.inside.inputs fs) (sym c.deref-2.ensures.value)
     c.in_ok-frontiers.ensures.frontiers in
     let d = subst (λ (ls : List (Vec (Update (Pair ℕ ℕ)) Global)). AreDifferences bitime_below bitime_cmp p (list_of p (map items ls)) (open_for bitime_below p (list_of p c.deref-2.result.now) v) v listed) c.deref.ensures.value c.in_ok-changes.ensures.differences in (
-      ap (λ (r : Register (Pair ℕ ℕ)). changes_refusal bitime_below r.plan s (make_pair 0 0) v) (sym c.self.view_is) ∙ changes_wanted (pair_order nat_order nat_order) r s own v,
+      ap (λ (r : Register (Pair ℕ ℕ)). changes_refusal bitime_below r.plan s (make_pair 0 0) v) (sym c.self.view_is) ∙ changes_wanted (pair_order nat_order nat_order) r s own v within (make_pair 0 0) (search rules),
       c.from.ensures
           ∙ (changes_found (pair_order nat_order nat_order) r s own v c.known.ensures.plan within (pair_bounds nat_bounds nat_bounds) (pair_extends nat_extends nat_extends) total c.deref-2.result.now listed are d
           ∙ ap (λ (r : Register (Pair ℕ ℕ)). changes_at bitime_below r.plan s bitime_cmp bitime_join v) c.self.view_is),
@@ -44,8 +44,8 @@ returns-in_err-changes-clause-answered c s a =
     let p = c.self.inside.plan in
     let v = c.args.view in
     let items = λ (v : Vec (Update (Pair ℕ ℕ)) Global). v.items in
-    let r : Register (Pair ℕ ℕ) = record { plan = c.self.inside.plan; changes = map items c.self.inside.changes.items; inputs = c.self.inside.inputs } in
-    let own : Records (make_pair 0 0) r s = subst (λ (r : Register (Pair ℕ ℕ)). Records (make_pair 0 0) r s) (sym c.self.view_is) a in
+    let r : Register (Pair ℕ ℕ) = record { plan = c.self.inside.plan; changes = map items c.self.inside.changes.items; inputs = c.self.inside.inputs; sinces = c.self.inside.sinces } in
+    let own : Records r s = subst (λ (r : Register (Pair ℕ ℕ)). Records r s) (sym c.self.view_is) a in
     let there = subst (λ (r : Register (Pair ℕ ℕ)). IsTrue (is_view_of r.plan v)) (sym c.self.view_is) c.requires.view in
     let within : v < length p = ltb-true v (length p) (and_parts _ _ there).0 in
     let o = pair_order nat_order nat_order in

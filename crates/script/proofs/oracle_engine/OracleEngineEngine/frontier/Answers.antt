@@ -16,8 +16,8 @@ pub returns-clause-answered : goal.returns-clause-answered
 returns-clause-answered c s a =
     let v = c.args.view in
     let items = λ (v : Vec (Update (Pair ℕ ℕ)) Global). v.items in
-    let r : Register (Pair ℕ ℕ) = record { plan = c.self.inside.plan; changes = map items c.self.inside.changes.items; inputs = c.self.inside.inputs } in
-    let own : Records (make_pair 0 0) r s = subst (λ (r : Register (Pair ℕ ℕ)). Records (make_pair 0 0) r s) (sym c.self.view_is) a in
+    let r : Register (Pair ℕ ℕ) = record { plan = c.self.inside.plan; changes = map items c.self.inside.changes.items; inputs = c.self.inside.inputs; sinces = c.self.inside.sinces } in
+    let own : Records r s = subst (λ (r : Register (Pair ℕ ℕ)). Records r s) (sym c.self.view_is) a in
     let found : c.deref.result.now ≡ open_for bitime_below c.self.inside.plan (λ i. front_at i c.self.inside.inputs) v =
     c.deref.ensures.value ∙ c.in_ok-open.ensures.open in
     let total = then_total (on_total (λ (t : Pair ℕ ℕ). t.first) nat_cmp_total) (on_total (λ (t : Pair ℕ ℕ). t.second) nat_cmp_total) in (

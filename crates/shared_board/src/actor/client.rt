@@ -1,0 +1,188 @@
+//! What a client does without waiting: each call is one try to enter the board.
+//!
+//! If another actor has the board just then, the call is refused with `Busy`, and the client has seen
+//! nothing. Else the call is one event of the client, and its answer is right for the state that its
+//! tenure found. So a caller that may not wait can try again later, and loses nothing.
+ghost use Rattle.std.specs.Prelude.{◌≡◌, ◌≤◌, ◌<◌, ◌↔◌, [], None, Some, IsTrue, length, ⊤};
+ghost use Rattle.antichain.specs.Antichains.{SameElements};
+ghost use Rattle.update.specs.Refusals.{IsRefusalBy};
+ghost use Rattle.update.specs.declared.refusal.Refusal.TheVariants.{OutOfMemory};
+ghost use Rattle.plan.specs.Nodes.{is_output};
+ghost use Rattle.histories.specs.declared.event.Event.TheVariants.{Advance, Allow, Feed};
+ghost use Rattle.histories.specs.Histories.{IsInput};
+ghost use Rattle.histories.specs.Histories.Dataflows.{node_of};
+ghost use Rattle.histories.specs.Histories.States.{change_to};
+ghost use Rattle.shared_board.specs.Calls.{IsAnswered, IsDone};
+ghost use Rattle.shared_board.specs.Found.{AreListed, IsChangesRefusalFound, IsRead, IsReadRefusalFound, WasQuiet, WasTooLarge, feed_refusal_found, frontier_found};
+ghost use Rattle.shared_board.specs.Tenures.{advance_refusal_in, allow_refusal_in, state_found, terms_in};
+
+use crate::actor::Actor;
+use crate::actor::entering::try_enter;
+use crate::protocol::BoardProtocol;
+use antichain::Antichain;
+use lattice::Minimum;
+use plan::NodeId;
+use update::{Bag, Refusal, Times, Update};
+
+impl<T: Minimum, P: BoardProtocol<T>> Actor<T, P> {
+    /// The actor looks. Refused only with `Busy`. Takes no memory.
+    pub fn try_look(&mut self) -> Result<(), Refusal>
+        ensures { IsAnswered self.old self.new (λ done. ⊤) (λ refusal. ⊥) result }
+    {
+        let mut tenure = try_enter(&self.hub, &mut self.pass)?;
+        let board = tenure.state();
+        board.look(self.number);
+        self.accepted = board.accepted();
+        self.pass = Some(tenure.leave());
+        Ok(())
+    }
+
+    /// A client changes an input's table. Refused as `Board::feed` says, and then it looks.
+    pub fn try_feed(&mut self, input: NodeId, update: Update<T>) -> Result<(), Refusal>
+        requires client { (terms_in self.old.seen).dataflow.workers ≤ self.old.number }
+        requires input { IsInput (terms_in self.old.seen).dataflow input }
+        ensures { IsDone self.old self.new
+            (Feed self.old.number (change_to input update))
+            (feed_refusal_found T.below T.least self.old self.new (change_to input update))
+            (IsRefusalBy (feed_refusal_found T.below T.least self.old self.new (change_to input update)))
+            result }
+    {
+        let mut tenure = try_enter(&self.hub, &mut self.pass)?;
+        let board = tenure.state();
+        let told = board.feed(self.number, input, update);
+        self.accepted = board.accepted();
+        self.pass = Some(tenure.leave());
+        told
+    }
+
+    /// A client moves an input's frontier forward. Refused as `Board::advance` says, and then it looks.
+    pub fn try_advance(&mut self, input: NodeId, times: Times<T>) -> Result<(), Refusal>
+        requires client { (terms_in self.old.seen).dataflow.workers ≤ self.old.number }
+        requires input { IsInput (terms_in self.old.seen).dataflow input }
+        ensures { IsDone self.old self.new (Advance self.old.number input times)
+            (advance_refusal_in T.below (state_found T.below T.least self.new) input times)
+            (IsRefusalBy (advance_refusal_in T.below (state_found T.below T.least self.new) input times))
+            result }
+    {
+        let mut tenure = try_enter(&self.hub, &mut self.pass)?;
+        let board = tenure.state();
+        let told = board.advance(self.number, input, times);
+        self.accepted = board.accepted();
+        self.pass = Some(tenure.leave());
+        told
+    }
+
+    /// A client closes an input. Refused only with `Busy`. Takes no memory.
+    pub fn try_close(&mut self, input: NodeId) -> Result<(), Refusal>
+        requires client { (terms_in self.old.seen).dataflow.workers ≤ self.old.number }
+        requires input { IsInput (terms_in self.old.seen).dataflow input }
+        ensures { IsDone self.old self.new (Advance self.old.number input []) None (λ refusal. ⊥) result }
+    {
+        let mut tenure = try_enter(&self.hub, &mut self.pass)?;
+        let board = tenure.state();
+        board.close(self.number, input);
+        self.accepted = board.accepted();
+        self.pass = Some(tenure.leave());
+        Ok(())
+    }
+
+    /// Readers of a view give up its past: from then on it may be read only at times beyond these.
+    /// Refused as `Board::allow` says, and then it looks. Takes no memory.
+    pub fn try_allow(&mut self, view: NodeId, times: Times<T>) -> Result<(), Refusal>
+        requires client { (terms_in self.old.seen).dataflow.workers ≤ self.old.number }
+        requires within { view < length (terms_in self.old.seen).dataflow.nodes }
+        requires view { IsTrue (is_output (node_of (terms_in self.old.seen).dataflow view)) }
+        ensures { IsDone self.old self.new (Allow self.old.number view times)
+            (allow_refusal_in T.below (state_found T.below T.least self.new) view times)
+            (λ refusal. allow_refusal_in T.below (state_found T.below T.least self.new) view times
+            ≡ Some refusal) result }
+    {
+        let mut tenure = try_enter(&self.hub, &mut self.pass)?;
+        let board = tenure.state();
+        let told = board.allow(self.number, view, times);
+        self.accepted = board.accepted();
+        self.pass = Some(tenure.leave());
+        told
+    }
+
+    /// The frontier of a view. Refused only with `Busy` and `OutOfMemory`.
+    pub fn try_frontier(&mut self, view: NodeId) -> Result<Antichain<T>, Refusal>
+        requires within { view < length (terms_in self.old.seen).dataflow.nodes }
+        ensures { IsAnswered self.old self.new
+            (λ found. SameElements found (frontier_found T.below T.least self.old self.new view))
+            (λ refusal. refusal ≡ OutOfMemory) result }
+    {
+        let mut tenure = try_enter(&self.hub, &mut self.pass)?;
+        let board = tenure.state();
+        let found = board.frontier(self.number, view);
+        self.accepted = board.accepted();
+        self.pass = Some(tenure.leave());
+        found
+    }
+
+    /// A view's rows at a time: the query, computed from scratch, on the changes fed up to that
+    /// time. Refused as `Board::read` says.
+    pub fn try_read(&mut self, view: NodeId, t: T) -> Result<Bag, Refusal>
+        requires within { view < length (terms_in self.old.seen).dataflow.nodes }
+        requires view { IsTrue (is_output (node_of (terms_in self.old.seen).dataflow view)) }
+        ensures { IsAnswered self.old self.new
+            (λ bag. IsRead T.below T.least self.old self.new view t bag)
+            (IsReadRefusalFound T.below T.least self.old self.new view t) result }
+    {
+        let mut tenure = try_enter(&self.hub, &mut self.pass)?;
+        let board = tenure.state();
+        let rows = board.read(self.number, view, t);
+        self.accepted = board.accepted();
+        self.pass = Some(tenure.leave());
+        rows
+    }
+
+    /// A view's changes at the times that its frontier has passed. Refused as `Board::changes` says.
+    pub fn try_changes(&mut self, view: NodeId) -> Result<Vec<Update<T>>, Refusal>
+        requires within { view < length (terms_in self.old.seen).dataflow.nodes }
+        requires view { IsTrue (is_output (node_of (terms_in self.old.seen).dataflow view)) }
+        ensures { IsAnswered self.old self.new
+            (λ us. AreListed T.below T.least self.old self.new T.cmp view us.items)
+            (IsChangesRefusalFound T.below T.least self.old self.new view) result }
+    {
+        let mut tenure = try_enter(&self.hub, &mut self.pass)?;
+        let board = tenure.state();
+        let changes = board.changes(self.number, view);
+        self.accepted = board.accepted();
+        self.pass = Some(tenure.leave());
+        changes
+    }
+
+    /// Whether the board is quiet. Refused only with `Busy`.
+    ///
+    /// Cost: linear in the nodes times the workers, and that of `Board::input_has_passed` for each
+    /// held time.
+    pub fn try_is_quiet(&mut self) -> Result<bool, Refusal>
+        ensures { IsAnswered self.old self.new
+            (λ quiet. IsTrue quiet ↔ WasQuiet T.below T.least self.old self.new)
+            (λ refusal. ⊥) result }
+    {
+        let mut tenure = try_enter(&self.hub, &mut self.pass)?;
+        let board = tenure.state();
+        let quiet = board.is_quiet(self.number);
+        self.accepted = board.accepted();
+        self.pass = Some(tenure.leave());
+        Ok(quiet)
+    }
+
+    /// Whether a worker told that a number is too large with the changes accepted so far. Refused only
+    /// with `Busy`. Takes no memory.
+    pub fn try_is_too_large(&mut self) -> Result<bool, Refusal>
+        ensures { IsAnswered self.old self.new
+            (λ large. IsTrue large → WasTooLarge T.below T.least self.old self.new T.cmp)
+            (λ refusal. ⊥) result }
+    {
+        let mut tenure = try_enter(&self.hub, &mut self.pass)?;
+        let board = tenure.state();
+        let large = board.is_too_large();
+        board.look(self.number);
+        self.accepted = board.accepted();
+        self.pass = Some(tenure.leave());
+        Ok(large)
+    }
+}
