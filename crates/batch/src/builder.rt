@@ -203,7 +203,7 @@ impl<T: Minimum> Builder<T> {
 }
 
 // The description of updates whose times have not been moved: every time is beyond its since.
-fn unmoved<T: Minimum>(
+pub(crate) fn unmoved<T: Minimum>(
     alloc: Global,
     worker: usize,
     node: usize,
@@ -232,7 +232,7 @@ fn unmoved<T: Minimum>(
 }
 
 // Whether the upper frontier is beyond the lower one, and each update's time is between them.
-fn is_interval<T: Lattice>(
+pub(crate) fn is_interval<T: Lattice>(
     updates: &[Update<T>],
     lower: &Antichain<T>,
     upper: &Antichain<T>,

@@ -24,7 +24,7 @@ ghost use Rattle.operator.specs.Joins.{IsSide, IsBatchOf, IsFitting};
 
 use crate::frontier::antichain_of;
 use antichain::Antichain;
-use batch::{Batch, Builder};
+use batch::{Batch, seal_slice};
 use join::JoinState;
 use lattice::{Lattice, Minimum};
 use spine::Spine;
@@ -75,19 +75,19 @@ fn least_time<T: Minimum>(alloc: Global) -> Result<Vec<T>, Refusal>
 // The batch of these updates between two frontiers. A join asks for no worker and no node.
 fn sealed_between<T: Minimum>(
     alloc: Global,
-    updates: Vec<Update<T>>,
+    updates: &[Update<T>],
     lower: &[T],
     upper: &Antichain<T>,
 ) -> Result<Batch<T>, Refusal>
     requires frontier { IsFrontier T.below T.cmp lower.now }
-    requires interval { IsTrue (is_interval_of T.below lower.now upper.now updates.items) }
+    requires interval { IsTrue (is_interval_of T.below lower.now upper.now updates.now) }
     ensures lower { IfOk result (λ batch. batch.description.lower ≡ lower.now) }
     ensures upper { IfOk result (λ batch. batch.description.upper ≡ upper.now) }
-    ensures stands { IfOk result (λ batch. IsBatchOf T.below updates.items batch.updates) }
-    ensures refused { IfErr result (IsMemoryOrOverflow (2 ^ 63 ≤ size updates.items)) }
+    ensures stands { IfOk result (λ batch. IsBatchOf T.below updates.now batch.updates) }
+    ensures refused { IfErr result (IsMemoryOrOverflow (2 ^ 63 ≤ size updates.now)) }
 {
     let from = antichain_of(alloc, lower)?;
-    Builder::of(0, 0, updates).seal(&from, upper)
+    seal_slice(alloc, 0, 0, updates, &from, upper)
 }
 
 impl<T: Minimum> Joining<T> {
@@ -173,7 +173,7 @@ impl<T: Minimum> Joining<T> {
         self.state.looked()
     }
 
-    /// Takes all updates that wait at the left port, and returns their pairs with all that the
+    /// Takes the updates of a list that comes to the left port, and returns their pairs with all that the
     /// right side has acknowledged, consolidated. `upper` is the frontier that the left spine has
     /// reached: the left side is then acknowledged up to it.
     ///
@@ -185,26 +185,27 @@ impl<T: Minimum> Joining<T> {
     ///   the right side has acknowledged, is at least 2^63.
     /// - [`Refusal::OutOfMemory`] only if memory was refused: for pairs, or for frontiers.
     ///
-    /// Cost: n log n for the updates, and then as [`JoinState::take_left`].
+    /// Cost: as for [`seal_slice`], and then as [`JoinState::take_left`]. Updates that an arrangement gave
+    /// are not sorted again.
     pub fn take_left(
         &mut self,
         alloc: Global,
-        updates: Vec<Update<T>>,
+        updates: &[Update<T>],
         upper: &Antichain<T>,
         right: &Spine<T>,
     ) -> Result<Vec<Update<T>>, Refusal>
-        requires rows { IsTrue (all_rows_have self.old.left_width updates.items) }
-        requires times { IsTrue (times_from T.below T.least updates.items) }
+        requires rows { IsTrue (all_rows_have self.old.left_width updates.now) }
+        requires times { IsTrue (times_from T.below T.least updates.now) }
         requires interval { IsTrue (is_interval_of T.below self.old.state.left
-            upper.now updates.items) }
+            upper.now updates.now) }
         requires readable { Contains (boundaries right.now) self.old.state.right }
         requires right_rows { IsTrue (all_rows_have self.old.right_width (stored right.now)) }
-        requires later { IsTrue (all_times_beyond T.below right.now.since updates.items) }
+        requires later { IsTrue (all_times_beyond T.below right.now.since updates.now) }
         ensures answer { (inserted taken : List (Insertion T))
             → IsSide T.below T.least right.now inserted taken self.old.state.right
             → IfOk result (λ out. IsAnswer T.below
-            (pairs T.joined self.old.state.key updates.items (all_updates taken))
-            updates.items (all_updates taken) out.items) }
+            (pairs T.joined self.old.state.key updates.now (all_updates taken))
+            updates.now (all_updates taken) out.items) }
         ensures consolidated { IfOk result (λ out. IsConsolidated T.cmp out.items) }
         ensures width { IfOk result (λ out. IsTrue (all_rows_have
             (self.old.left_width + self.old.right_width - self.old.state.key) out.items)) }
@@ -217,8 +218,8 @@ impl<T: Minimum> Joining<T> {
         ensures same { OnErr result (self.new ≡ self.old) }
         ensures refused { IfErr result (IsMemoryOrOverflow ((inserted taken : List (Insertion T))
             → IsSide T.below T.least right.now inserted taken self.old.state.right
-            → (2 ^ 63 ≤ size updates.items)
-            ⊎ (2 ^ 63 ≤ size updates.items * size (all_updates taken)))) }
+            → (2 ^ 63 ≤ size updates.now)
+            ⊎ (2 ^ 63 ≤ size updates.now * size (all_updates taken)))) }
     {
         let batch = sealed_between(alloc, updates, self.state.left(), upper)?;
         self.state.take_left(alloc, &batch, right)
@@ -230,22 +231,22 @@ impl<T: Minimum> Joining<T> {
     pub fn take_right(
         &mut self,
         alloc: Global,
-        updates: Vec<Update<T>>,
+        updates: &[Update<T>],
         upper: &Antichain<T>,
         left: &Spine<T>,
     ) -> Result<Vec<Update<T>>, Refusal>
-        requires rows { IsTrue (all_rows_have self.old.right_width updates.items) }
-        requires times { IsTrue (times_from T.below T.least updates.items) }
+        requires rows { IsTrue (all_rows_have self.old.right_width updates.now) }
+        requires times { IsTrue (times_from T.below T.least updates.now) }
         requires interval { IsTrue (is_interval_of T.below self.old.state.right
-            upper.now updates.items) }
+            upper.now updates.now) }
         requires readable { Contains (boundaries left.now) self.old.state.left }
         requires left_rows { IsTrue (all_rows_have self.old.left_width (stored left.now)) }
-        requires later { IsTrue (all_times_beyond T.below left.now.since updates.items) }
+        requires later { IsTrue (all_times_beyond T.below left.now.since updates.now) }
         ensures answer { (inserted taken : List (Insertion T))
             → IsSide T.below T.least left.now inserted taken self.old.state.left
             → IfOk result (λ out. IsAnswer T.below
-            (pairs T.joined self.old.state.key (all_updates taken) updates.items)
-            updates.items (all_updates taken) out.items) }
+            (pairs T.joined self.old.state.key (all_updates taken) updates.now)
+            updates.now (all_updates taken) out.items) }
         ensures consolidated { IfOk result (λ out. IsConsolidated T.cmp out.items) }
         ensures width { IfOk result (λ out. IsTrue (all_rows_have
             (self.old.left_width + self.old.right_width - self.old.state.key) out.items)) }
@@ -258,8 +259,8 @@ impl<T: Minimum> Joining<T> {
         ensures same { OnErr result (self.new ≡ self.old) }
         ensures refused { IfErr result (IsMemoryOrOverflow ((inserted taken : List (Insertion T))
             → IsSide T.below T.least left.now inserted taken self.old.state.left
-            → (2 ^ 63 ≤ size updates.items)
-            ⊎ (2 ^ 63 ≤ size updates.items * size (all_updates taken)))) }
+            → (2 ^ 63 ≤ size updates.now)
+            ⊎ (2 ^ 63 ≤ size updates.now * size (all_updates taken)))) }
     {
         let batch = sealed_between(alloc, updates, self.state.right(), upper)?;
         self.state.take_right(alloc, &batch, left)

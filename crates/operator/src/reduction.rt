@@ -27,7 +27,7 @@ ghost use Rattle.operator.specs.Reductions.{HasRoom, StandIn, SumsToReceived, Is
 
 use crate::frontier::put_in_all;
 use antichain::Antichain;
-use batch::{Batch, Builder};
+use batch::{Batch, seal_slice};
 use columns::Columns;
 use lattice::Minimum;
 use plan::Kind;
@@ -75,17 +75,17 @@ fn columns_of(kind: Kind, key: usize, width: usize) -> usize
 fn sealed<T: Minimum>(
     alloc: Global,
     start: &Antichain<T>,
-    updates: Vec<Update<T>>,
+    updates: &[Update<T>],
 ) -> Result<Batch<T>, Refusal>
     requires start { start.now ≡ T.least ∷ [] }
-    requires later { IsTrue (all_beyond T.below (T.least ∷ []) (times updates.items)) }
-    ensures same { IfOk result (λ batch. StandIn T.below batch.updates updates.items) }
+    requires later { IsTrue (all_beyond T.below (T.least ∷ []) (times updates.now)) }
+    ensures same { IfOk result (λ batch. StandIn T.below batch.updates updates.now) }
     ensures totals { IfOk result (λ batch. (p : List ℤ → T → Bool)
-        → total_where p batch.updates ≡ total_where p updates.items) }
-    ensures refused { IfErr result (IsMemoryOrOverflow (2 ^ 63 ≤ size updates.items)) }
+        → total_where p batch.updates ≡ total_where p updates.now) }
+    ensures refused { IfErr result (IsMemoryOrOverflow (2 ^ 63 ≤ size updates.now)) }
 {
     let end = Antichain::new(alloc);
-    Builder::of(0, 0, updates).seal(start, &end)
+    seal_slice(alloc, 0, 0, updates, start, &end)
 }
 
 impl<T: Minimum> Reducing<T> {
@@ -143,30 +143,30 @@ impl<T: Minimum> Reducing<T> {
     /// - [`Refusal::OutOfMemory`] only if memory for the times, or for the histories of the keys,
     ///   was refused.
     ///
-    /// Cost: n log n comparisons in the number of updates; for each of their keys that of
-    /// [`ReduceState::take`].
+    /// Cost: as for [`seal_slice`]; for each of their keys that of [`ReduceState::take`]. Updates that an
+    /// arrangement gave are not sorted again.
     pub fn take(
         &mut self,
         alloc: Global,
         start: &Antichain<T>,
-        updates: Vec<Update<T>>,
+        updates: &[Update<T>],
     ) -> Result<(), Refusal>
         requires start { start.now ≡ T.least ∷ [] }
-        requires later { IsTrue (all_beyond T.below (T.least ∷ []) (times updates.items)) }
-        requires wide { IsTrue (have_width self.old.width updates.items) }
+        requires later { IsTrue (all_beyond T.below (T.least ∷ []) (times updates.now)) }
+        requires wide { IsTrue (have_width self.old.width updates.now) }
         ensures stands { OnOk result ((received emitted : List (Update T)) (upper : List T)
             → IsReduced T.below T.joined T.least self.old received emitted
-            → IsTrue (all_beyond T.below upper (times updates.items))
+            → IsTrue (all_beyond T.below upper (times updates.now))
             → IsTrue (list_all (λ u. has_passed T.below upper u.time) emitted)
-            → IsReduced T.below T.joined T.least self.new (updates.items ++ received) emitted) }
+            → IsReduced T.below T.joined T.least self.new (updates.now ++ received) emitted) }
         ensures pending { OnOk result ((received emitted : List (Update T))
             → IsReduced T.below T.joined T.least self.old received emitted
-            → IsPendingAfter T.below (pending_of self.old) updates.items (pending_of self.new)) }
+            → IsPendingAfter T.below (pending_of self.old) updates.now (pending_of self.new)) }
         ensures uncancelled { OnOk result ((received emitted : List (Update T))
             → IsReduced T.below T.joined T.least self.old received emitted
-            → AreApart T.below updates.items
-            → AllByRecursion (λ u. u.diff ≢ pos 0) updates.items
-            → IsPendingWith T.below (pending_of self.old) updates.items (pending_of self.new)) }
+            → AreApart T.below updates.now
+            → AllByRecursion (λ u. u.diff ≢ pos 0) updates.now
+            → IsPendingWith T.below (pending_of self.old) updates.now (pending_of self.new)) }
         ensures kept { OnOk result (self.new ≡ record self.old {
           state = record self.old.state {
             histories = self.new.state.histories;
@@ -174,7 +174,7 @@ impl<T: Minimum> Reducing<T> {
           };
         }) }
         ensures same { OnErr result (self.new ≡ self.old) }
-        ensures refused { IfErr result (IsMemoryOrOverflow (2 ^ 63 ≤ size updates.items)) }
+        ensures refused { IfErr result (IsMemoryOrOverflow (2 ^ 63 ≤ size updates.now)) }
     {
         let batch = sealed(alloc, start, updates)?;
         self.state.take(alloc, &batch)?;

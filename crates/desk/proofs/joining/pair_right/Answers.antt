@@ -1,4 +1,4 @@
-use Rattle.std.proofs.Common.{rules, ◌≡◌, ◌⊎◌, ◌*◌, ◌^◌, ◌≤◌, ◌+◌, ◌-◌, IsTrue, sym, subst}
+use Rattle.std.proofs.Common.{rules, ◌≡◌, ◌⊎◌, ◌*◌, ◌^◌, ◌≤◌, ◌+◌, ◌-◌, IsTrue, sym, subst, ◌∙◌}
 use Rattle.lattice.specs.Frontiers.{all_beyond}
 use Rattle.update.specs.Updates.{IsConsolidated, size}
 use Rattle.update.specs.Refusals.{IsMemoryOrOverflow}
@@ -19,7 +19,7 @@ arrangement_at-source-requires g c = (c.requires.next.arrangement, c.requires.ne
 pub next_end-requires : goal.next_end-requires
 next_end-requires g c =
     let source = c.arrangement_at-source.result.now in
-    (search rules, (c.args.updates.now, subst (λ F. IsNextOf g.T.PartialOrder.below g.T.Minimum.least source F c.args.updates.now) (sym c.right.ensures.value) (next_there c.requires.next source c.arrangement_at-source.ensures.there)))
+    (search rules, (c.args.list.now, subst (λ F. IsNextOf g.T.PartialOrder.below g.T.Minimum.least source F c.args.list.now) (sym c.right.ensures.value) (next_there c.requires.next source c.arrangement_at-source.ensures.there)))
 
 pub arrangement_at-other-requires : goal.arrangement_at-other-requires
 arrangement_at-other-requires g c = (c.requires.next.opposite, c.requires.next.opposite_there)
@@ -37,7 +37,7 @@ take_right-requires g c =
     let spine = c.trace.result.now in
     let value = c.trace.ensures.value in
     let there = c.arrangement_at-other.ensures.there in
-    let vec = sym c.in_ok-updates.ensures.copied in
+    let vec = sym (c.as_slice.ensures.value ∙ c.in_ok-updates.ensures.updates) in
     let ends = subst (λ F. IsEndAfter below least source F end) c.right.ensures.value c.in_ok-end.ensures.ends in
     let rows = subst (λ us. IsTrue (all_rows_have j.right_width us)) vec y.rows in
     let times = subst (λ us. IsTrue (times_from below least us)) vec y.times in
@@ -51,7 +51,7 @@ returns-clause-paired g c =
     let least = g.T.Minimum.least in
     let cmp = g.T.Ord.cmp in
     let j = c.args.joining.now in
-    let us = c.args.updates.now in
+    let us = c.args.list.now in
     let y = c.requires.next in
     let source = c.arrangement_at-source.result.now in
     let other = c.arrangement_at-other.result.now in
@@ -66,8 +66,8 @@ returns-clause-paired g c =
       ends = λ a there. ends_there c.args.arrangements.now.items c.args.right source a j.state.right end c.arrangement_at-source.ensures.there there ends;
       answers = λ a there inserted later taken reading.
           let side = side_from y other c.arrangement_at-other.ensures.there c.trace.ensures.known c.trace.result.now c.trace.ensures.value a there inserted later taken reading in
-          subst (λ us. IsAnswer below (pairs joined j.state.key (all_updates taken) us) us (all_updates taken) out.items) c.in_ok-updates.ensures.copied
-          (if_ok_back c.take_right.result (λ out. IsAnswer below (pairs joined j.state.key (all_updates taken) c.in_ok-updates.updates.items) c.in_ok-updates.updates.items (all_updates taken) out.items) out e (c.take_right.ensures.answer inserted taken side));
+          subst (λ us. IsAnswer below (pairs joined j.state.key (all_updates taken) us) us (all_updates taken) out.items) (c.as_slice.ensures.value ∙ c.in_ok-updates.ensures.updates)
+          (if_ok_back c.take_right.result (λ out. IsAnswer below (pairs joined j.state.key (all_updates taken) c.as_slice.result.now) c.as_slice.result.now (all_updates taken) out.items) out e (c.take_right.ensures.answer inserted taken side));
       consolidated = if_ok_back c.take_right.result (λ out. IsConsolidated cmp out.items) out e c.take_right.ensures.consolidated;
       wide = if_ok_back c.take_right.result (λ out. IsTrue (all_rows_have (j.left_width + j.right_width - j.state.key) out.items)) out e c.take_right.ensures.width;
     })
@@ -78,6 +78,6 @@ returns-clause-refused g c =
     let least = g.T.Minimum.least in
     let y = c.requires.next in
     let other = c.arrangement_at-other.result.now in
-    if_err_from c.take_right.result _ (IsMemoryOrOverflow (ArePairsLarge below least 1 c.args.arrangements.now.items c.args.left c.args.joining.now c.args.updates.now)) (λ refusal refused. memory_or {Q = ArePairsLarge below least 1 c.args.arrangements.now.items c.args.left c.args.joining.now c.args.updates.now} (λ large a there inserted later taken reading.
+    if_err_from c.take_right.result _ (IsMemoryOrOverflow (ArePairsLarge below least 1 c.args.arrangements.now.items c.args.left c.args.joining.now c.args.list.now)) (λ refusal refused. memory_or {Q = ArePairsLarge below least 1 c.args.arrangements.now.items c.args.left c.args.joining.now c.args.list.now} (λ large a there inserted later taken reading.
     let side = side_from y other c.arrangement_at-other.ensures.there c.trace.ensures.known c.trace.result.now c.trace.ensures.value a there inserted later taken reading in
-    subst (λ us. (2 ^ 63 ≤ size us) ⊎ (2 ^ 63 ≤ size us * size (all_updates taken))) c.in_ok-updates.ensures.copied (large inserted taken side)) refused) c.take_right.ensures.refused
+    subst (λ us. (2 ^ 63 ≤ size us) ⊎ (2 ^ 63 ≤ size us * size (all_updates taken))) (c.as_slice.ensures.value ∙ c.in_ok-updates.ensures.updates) (large inserted taken side)) refused) c.take_right.ensures.refused

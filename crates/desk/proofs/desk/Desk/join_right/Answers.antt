@@ -19,7 +19,7 @@ pub pair_right-requires : goal.pair_right-requires
 pair_right-requires g c =
     let below = g.T.PartialOrder.below in
     let least = g.T.Minimum.least in
-    let us = c.args.updates.now in
+    let us = c.args.list.now in
     let r = c.requires.next in
     let there = subst (λ (x : DeskView g.row.T.Denot). slice_get x.joins c.args.node ≡ Some (Some r.0)) (sym c.self.view_is) r.1 in
     let mine = found_at c.self.inside.joins.items c.number.result c.args.node c.index_mut.result.now (Some r.0) c.number.ensures c.index_mut.ensures.value there in
@@ -41,7 +41,7 @@ returns-clause-joined g c =
     let joined = g.T.Lattice.joined in
     let least = g.T.Minimum.least in
     let cmp = g.T.Ord.cmp in
-    let us = c.args.updates.now in
+    let us = c.args.list.now in
     let d : DeskView g.row.T.Denot = record {
       gathered = inside.gathered.items;
       arrangements = inside.arrangements.items;
@@ -79,7 +79,7 @@ pub returns-clause-refused : goal.returns-clause-refused
 returns-clause-refused g c =
     let below = g.T.PartialOrder.below in
     let least = g.T.Minimum.least in
-    let us = c.args.updates.now in
+    let us = c.args.list.now in
     let r = c.requires.next in
     let there = subst (λ (x : DeskView g.row.T.Denot). slice_get x.joins c.args.node ≡ Some (Some r.0)) (sym c.self.view_is) r.1 in
     let mine = found_at c.self.inside.joins.items c.number.result c.args.node c.index_mut.result.now (Some r.0) c.number.ensures c.index_mut.ensures.value there in

@@ -13,7 +13,7 @@ use Rattle.desk.proofs.desk.Desk.reduce.Goals as goal
 pub take-requires : goal.take-requires
 take-requires g c =
     let r = c.requires.there in
-    let us = c.in_ok-updates.updates.items in
+    let us = c.args.updates.now in
     let there = subst (λ (x : DeskView g.row.T.Denot). slice_get x.reductions c.args.node ≡ Some (Some r.0)) (sym c.self.view_is) r.1 in
     let mine = found_at c.self.inside.reductions.items c.number.result c.args.node c.index_mut.result.now (Some r.0) c.number.ensures c.index_mut.ensures.value there in
     let same = same_Some r.0 c.in-Some.reduction (sym mine ∙ c.in-Some.is) in (
@@ -21,8 +21,8 @@ take-requires g c =
       (
         c.self.invariant,
         (
-          subst (λ us. IsTrue (all_beyond g.T.PartialOrder.below (g.T.Minimum.least ∷ []) (times us))) (sym c.in_ok-updates.ensures.copied) c.requires.later,
-          subst (λ (a : ReducingView g.row.T.Denot). IsTrue (have_width a.width us)) same (subst (λ us. IsTrue (have_width r.0.width us)) (sym c.in_ok-updates.ensures.copied) r.2),
+          c.requires.later,
+          subst (λ (a : ReducingView g.row.T.Denot). IsTrue (have_width a.width us)) same r.2,
         ),
       ),
     )
@@ -54,8 +54,7 @@ returns-clause-reduced g c =
     let after = record d { reductions = set d.reductions c.number.result (Some c.take.new.self) } in
     on_ok_three c.take.result (λ kept stands pending.
     subst (λ x. IsReducedWith below joined least n c.args.updates.now x after) c.self.view_is
-    (subst (λ us. IsReducedWith below joined least n us d after) c.in_ok-updates.ensures.copied
-    (reduced_after below joined least n d c.in-Some.reduction c.take.new.self c.in_ok-updates.updates.items g.met.T.PartialOrder.order c.number.result c.number.ensures here kept stands pending)))
+    (reduced_after below joined least n d c.in-Some.reduction c.take.new.self c.args.updates.now g.met.T.PartialOrder.order c.number.result c.number.ensures here kept stands pending))
     c.take.ensures.kept c.take.ensures.stands c.take.ensures.pending
 
 pub returns-clause-same : goal.returns-clause-same

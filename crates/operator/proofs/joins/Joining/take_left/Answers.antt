@@ -27,16 +27,16 @@ pub take_left-requires-clause-wide : goal.take_left-requires-clause-wide
 take_left-requires-clause-wide g c =
     let width = ap (λ (s : JoiningView g.row.T.Denot). s.left_width) (sym c.self.view_is) in
     wide_rows c.self.inside.state.key c.self.inside.left_width c.self.invariant.left_key c.in_ok-batch.batch.updates
-    (rows_of_batch g.T.PartialOrder.below c.self.inside.left_width c.args.updates.items c.in_ok-batch.batch.updates c.in_ok-batch.ensures.stands
-    (subst (λ w. IsTrue (all_rows_have w c.args.updates.items)) width c.requires.rows))
+    (rows_of_batch g.T.PartialOrder.below c.self.inside.left_width c.args.updates.now c.in_ok-batch.batch.updates c.in_ok-batch.ensures.stands
+    (subst (λ w. IsTrue (all_rows_have w c.args.updates.now)) width c.requires.rows))
 
 pub take_left-requires-clause-narrow : goal.take_left-requires-clause-narrow
 take_left-requires-clause-narrow g c =
     let width = ap (λ (s : JoiningView g.row.T.Denot). s.left_width) (sym c.self.view_is) in
     let other = ap (λ (s : JoiningView g.row.T.Denot). s.right_width) (sym c.self.view_is) in
     rows_fit c.self.inside.state.key c.self.inside.left_width c.self.inside.right_width c.self.invariant.right_key c.self.invariant.narrow c.in_ok-batch.batch.updates (stored c.args.right.now)
-    (rows_of_batch g.T.PartialOrder.below c.self.inside.left_width c.args.updates.items c.in_ok-batch.batch.updates c.in_ok-batch.ensures.stands
-    (subst (λ w. IsTrue (all_rows_have w c.args.updates.items)) width c.requires.rows))
+    (rows_of_batch g.T.PartialOrder.below c.self.inside.left_width c.args.updates.now c.in_ok-batch.batch.updates c.in_ok-batch.ensures.stands
+    (subst (λ w. IsTrue (all_rows_have w c.args.updates.now)) width c.requires.rows))
     (subst (λ w. IsTrue (all_rows_have w (stored c.args.right.now))) other c.requires.right_rows)
 
 pub invariant_of-self : goal.invariant_of-self
@@ -50,7 +50,7 @@ invariant_of-self g c =
 pub returns-clause-answer : goal.returns-clause-answer
 returns-clause-answer g c inserted taken side =
     let below = g.T.PartialOrder.below in
-    let us = c.args.updates.items in
+    let us = c.args.updates.now in
     let bs = c.in_ok-batch.batch.updates in
     let vs = all_updates taken in
     let e = ap (λ (s : JoiningView g.row.T.Denot). s.state) c.self.view_is in
@@ -68,8 +68,8 @@ returns-clause-width g c =
     let v = c.self.inside.right_width in
     let width = ap (λ (s : JoiningView g.row.T.Denot). s.left_width) (sym c.self.view_is) in
     let other = ap (λ (s : JoiningView g.row.T.Denot). s.right_width) (sym c.self.view_is) in
-    let rows = rows_of_batch g.T.PartialOrder.below w c.args.updates.items c.in_ok-batch.batch.updates c.in_ok-batch.ensures.stands
-    (subst (λ n. IsTrue (all_rows_have n c.args.updates.items)) width c.requires.rows) in
+    let rows = rows_of_batch g.T.PartialOrder.below w c.args.updates.now c.in_ok-batch.batch.updates c.in_ok-batch.ensures.stands
+    (subst (λ n. IsTrue (all_rows_have n c.args.updates.now)) width c.requires.rows) in
     let others = subst (λ n. IsTrue (all_rows_have n (stored c.args.right.now))) other c.requires.right_rows in
     subst (λ (s : JoiningView g.row.T.Denot). IfOk c.take_left.result (λ out. IsTrue (all_rows_have (s.left_width + s.right_width - s.state.key) out.items))) c.self.view_is
     (IfOk-weaker c.take_left.result _ _
@@ -79,7 +79,7 @@ returns-clause-width g c =
 pub returns-clause-refused : goal.returns-clause-refused
 returns-clause-refused g c =
     let below = g.T.PartialOrder.below in
-    let us = c.args.updates.items in
+    let us = c.args.updates.now in
     let bs = c.in_ok-batch.batch.updates in
     let e = ap (λ (s : JoiningView g.row.T.Denot). s.state) c.self.view_is in
     IfErr-weaker c.take_left.result _ _

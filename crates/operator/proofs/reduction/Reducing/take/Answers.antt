@@ -9,7 +9,7 @@ use Rattle.operator.proofs.reduction.Reducing.take.Goals as goal
 
 pub take-requires : goal.take-requires
 take-requires g c =
-    let us = c.args.updates.items in
+    let us = c.args.updates.now in
     let key = c.self.inside.state.key in
     let wide = subst (λ (v : ReducingView g.row.T.Denot). IsTrue (have_width v.width us)) (sym c.self.view_is) c.requires.wide in
     record { wide = c.in_ok-batch.ensures.same.among (λ row t. nat_le key (length row)) (wide_enough key c.self.inside.width us (state_within c.self.inside.state.reducer key c.self.inside.key c.self.inside.width c.self.invariant.1 c.self.invariant.0) wide) }
@@ -20,7 +20,7 @@ invariant_of-self-2 g c =
     let old = c.self.inside.state in (
       subst (λ (s : ReduceView g.row.T.Denot Kind). HasRoom s.reducer c.self.inside.key c.self.inside.width) (sym c.in_ok-take.ensures.kept) c.self.invariant.0,
       subst (λ (s : ReduceView g.row.T.Denot Kind). s.key ≡ state_key s.reducer c.self.inside.key c.self.inside.width) (sym c.in_ok-take.ensures.kept) c.self.invariant.1,
-      later_beyond g.met.T.PartialOrder.order g.met.T.Lattice.bounds old.key c.in_ok-batch.batch.updates c.args.updates.items old.histories new.histories c.in_ok-batch.ensures.same.among c.in_ok-take.ensures.later
+      later_beyond g.met.T.PartialOrder.order g.met.T.Lattice.bounds old.key c.in_ok-batch.batch.updates c.args.updates.now old.histories new.histories c.in_ok-batch.ensures.same.among c.in_ok-take.ensures.later
           (g.T.Minimum.least ∷ []) c.self.invariant.2 c.requires.later,
     )
 
@@ -28,7 +28,7 @@ pub returns-clause-stands : goal.returns-clause-stands
 returns-clause-stands g c =
     let o = g.met.T.PartialOrder.order in
     let l = g.met.T.Lattice.bounds in
-    let us = c.args.updates.items in
+    let us = c.args.updates.now in
     let taken = c.in_ok-batch.batch.updates in
     let old = c.self.inside.state in
     let new = c.take.new.self in
@@ -46,8 +46,8 @@ returns-clause-pending g c =
     let new = c.take.new.self in
     rw (← c.self.view_is)
     (λ received emitted w.
-    pending_after g.met.T.PartialOrder.order g.met.T.Lattice.bounds old.key c.in_ok-batch.batch.updates c.args.updates.items w.taken old.histories new.histories c.in_ok-batch.ensures.same
-    (c.in_ok-take.ensures.pending (g.T.Minimum.least ∷ []) w.taken emitted (taken_beyond g.met.T.PartialOrder.order g.met.T.Lattice.bounds c.in_ok-batch.batch.updates c.args.updates.items (g.T.Minimum.least ∷ []) c.in_ok-batch.ensures.same.among c.requires.later) w.stands) c.in_ok-take.ensures.later)
+    pending_after g.met.T.PartialOrder.order g.met.T.Lattice.bounds old.key c.in_ok-batch.batch.updates c.args.updates.now w.taken old.histories new.histories c.in_ok-batch.ensures.same
+    (c.in_ok-take.ensures.pending (g.T.Minimum.least ∷ []) w.taken emitted (taken_beyond g.met.T.PartialOrder.order g.met.T.Lattice.bounds c.in_ok-batch.batch.updates c.args.updates.now (g.T.Minimum.least ∷ []) c.in_ok-batch.ensures.same.among c.requires.later) w.stands) c.in_ok-take.ensures.later)
 
 pub returns-clause-uncancelled : goal.returns-clause-uncancelled
 returns-clause-uncancelled g c =
@@ -55,5 +55,5 @@ returns-clause-uncancelled g c =
     let new = c.take.new.self in
     rw (← c.self.view_is)
     (λ received emitted w.
-    pending_with g.met.T.PartialOrder.order g.met.T.Lattice.bounds old.key c.in_ok-batch.batch.updates c.args.updates.items w.taken old.histories new.histories c.in_ok-batch.ensures.same
-    (c.in_ok-take.ensures.pending (g.T.Minimum.least ∷ []) w.taken emitted (taken_beyond g.met.T.PartialOrder.order g.met.T.Lattice.bounds c.in_ok-batch.batch.updates c.args.updates.items (g.T.Minimum.least ∷ []) c.in_ok-batch.ensures.same.among c.requires.later) w.stands) c.in_ok-take.ensures.later c.in_ok-batch.ensures.totals)
+    pending_with g.met.T.PartialOrder.order g.met.T.Lattice.bounds old.key c.in_ok-batch.batch.updates c.args.updates.now w.taken old.histories new.histories c.in_ok-batch.ensures.same
+    (c.in_ok-take.ensures.pending (g.T.Minimum.least ∷ []) w.taken emitted (taken_beyond g.met.T.PartialOrder.order g.met.T.Lattice.bounds c.in_ok-batch.batch.updates c.args.updates.now (g.T.Minimum.least ∷ []) c.in_ok-batch.ensures.same.among c.requires.later) w.stands) c.in_ok-take.ensures.later c.in_ok-batch.ensures.totals)
