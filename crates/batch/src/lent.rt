@@ -24,7 +24,7 @@ use std::alloc::Global;
 use update::{Refusal, Update};
 
 // Whether the update at a place has a difference and comes after the one before it.
-fn is_settled<T: Lattice>(updates: &[Update<T>], i: usize) -> bool
+fn is_in_place<T: Lattice>(updates: &[Update<T>], i: usize) -> bool
     requires { i < length updates.now }
     ensures fits { (d : Update T) → FitsSigned w64 (slice_index_or updates.now i d).diff }
     ensures nonzero { IsTrue result
@@ -50,7 +50,7 @@ fn are_sealed<T: Lattice>(updates: &[Update<T>]) -> bool
     ensures fits { IsTrue result → HasLargeTotal T.below updates.now → ⊥ }
 {
     for i in 0..updates.len() {
-        if !is_settled(updates, i) {
+        if !is_in_place(updates, i) {
             return false;
         }
     }
