@@ -13,8 +13,8 @@ use Rattle.hub.specs.Tenures.{IsTenureOf}
 use Rattle.histories.specs.declared.event.Event.{Event}
 use Rattle.histories.specs.declared.event.Event.TheVariants.{Look}
 use Rattle.shared_board.specs.declared.event.Doing.{Doing}
-use Rattle.shared_board.specs.Calls.{HasLooked, IsAnswered, IsDone}
-use Rattle.shared_board.specs.Found.{AreDifferencesFound, AreListed, IsRead, changes_refusal_found, query_found, read_refusal_found}
+use Rattle.shared_board.specs.Calls.{AreListed, HasLooked, IsAnswered, IsDone, IsRead}
+use Rattle.shared_board.specs.Found.{AreDifferencesFound, changes_refusal_found, query_found, read_refusal_found}
 use Rattle.shared_board.specs.Tenures.{Adds, IsActor, SharedState, StandsFor}
 use Rattle.shared_board.proofs.ActorLemmas.{IsIn}
 

@@ -1,12 +1,16 @@
 -- How a call of an actor that does not wait ends, in the words of its clause: of the actor as it was
 -- before the call, and as it is then.
-use Rattle.std.specs.Prelude.{◌≡◌, ◌⊎◌, Option, None, Result, Ok, Err}
+use Rattle.std.specs.Prelude.{◌≡◌, ◌⊎◌, ℕ, Bool, List, Option, None, Result, Ok, Err}
+use Rattle.std.specs.declared.cmp.Ordering.{Ordering}
+use Rattle.update.specs.Bags.{Alike, Entry, IsBag}
+use Rattle.update.specs.declared.change.Update.{Update}
 use Rattle.update.specs.declared.refusal.Refusal.{Refusal}
 use Rattle.update.specs.declared.refusal.Refusal.TheVariants.{Busy}
 use Rattle.hub.specs.Known.{Known}
 use Rattle.histories.specs.declared.event.Event.{Event}
 use Rattle.histories.specs.declared.event.Event.TheVariants.{Look}
 use Rattle.shared_board.specs.declared.event.Doing.{Doing}
+use Rattle.shared_board.specs.Found.{AreDifferencesFound, changes_refusal_found, query_found, read_refusal_found}
 use Rattle.shared_board.specs.Tenures.{Adds}
 
 module _ {T : Type 0} (old new : Known (Doing T)) where
@@ -29,3 +33,15 @@ module _ {T : Type 0} (old new : Known (Doing T)) where
   abbrev pub IsAnswered : {A : Type 0} → (A → Type 0) → (Refusal → Type 0) → Result A Refusal → Type 0
   IsAnswered Found Refused (Ok answer) = HasLooked × Found answer
   IsAnswered Found Refused (Err refusal) = IsBusy refusal ⊎ (HasLooked × Refused refusal)
+
+module _ {T : Type 0} (below : T → T → Bool) (minimum : T) (old new : Known (Doing T)) where
+  -- nothing refuses the read of a view at a time, and the bag is the query there
+  pub record IsRead (v : ℕ) (t : T) (bag : List Entry) : Type 0 where
+    pub accepted : read_refusal_found below minimum old new v t ≡ None
+    pub is_bag : IsBag bag
+    pub query : Alike bag (query_found below minimum old new v t)
+
+  -- nothing refuses the question for the changes of a view, and the updates are these
+  pub record AreListed (cmp : T → T → Ordering) (v : ℕ) (us : List (Update T)) : Type 0 where
+    pub accepted : changes_refusal_found below minimum old new v ≡ None
+    pub differences : AreDifferencesFound below minimum old new cmp v us

@@ -1,8 +1,8 @@
 -- What an actor found in its tenure, in the words of its clauses: of the actor as it was before the
 -- call, and as it is then.
-use Rattle.std.specs.Prelude.{◌≡◌, ℕ, Bool, List, Option, None}
+use Rattle.std.specs.Prelude.{ℕ, Bool, List, Option}
 use Rattle.std.specs.declared.cmp.Ordering.{Ordering}
-use Rattle.update.specs.Bags.{Alike, Entry, IsBag}
+use Rattle.update.specs.Bags.{Entry}
 use Rattle.update.specs.declared.change.Update.{Update}
 use Rattle.update.specs.declared.refusal.Refusal.{Refusal}
 use Rattle.plan.specs.Changes.{AreDifferences, query_at}
@@ -71,14 +71,3 @@ module _ {T : Type 0} where
     abbrev pub WasTooLarge : (T → T → Ordering) → Type 0
     WasTooLarge cmp =
         HasNoSmallBound below cmp (dataflow_of old).nodes (changes_in (state_found below minimum new))
-
-    -- nothing refuses the read of a view at a time, and the bag is the query there
-    pub record IsRead (v : ℕ) (t : T) (bag : List Entry) : Type 0 where
-      pub accepted : read_refusal_found v t ≡ None
-      pub is_bag : IsBag bag
-      pub query : Alike bag (query_found v t)
-
-    -- nothing refuses the question for the changes of a view, and the updates are these
-    pub record AreListed (cmp : T → T → Ordering) (v : ℕ) (us : List (Update T)) : Type 0 where
-      pub accepted : changes_refusal_found v ≡ None
-      pub differences : AreDifferencesFound cmp v us

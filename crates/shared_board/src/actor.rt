@@ -74,9 +74,9 @@ impl<T: Minimum, P: Protocol<Event = Doing<T>>> Model for Actor<T, P> {
 
 impl<T: Minimum, P: BoardProtocol<T>> Actor<T, P> {
     // The actor of a pass that has seen nothing. It looks once, so that it knows the terms of the
-    // board. A board that is away, or on other terms, cannot be there, and is answered with
-    // `OutOfMemory`.
-    pub(crate) fn first(
+    // board. A board on other terms, which cannot be there, is answered with `OutOfMemory`.
+    pub(crate) fn first<R: Wait>(
+        rt: &R,
         hub: Arc<Hub<P>, Global>,
         pass: Pass<P>,
         number: usize,
@@ -91,9 +91,7 @@ impl<T: Minimum, P: BoardProtocol<T>> Actor<T, P> {
         ensures hub { IfOk result (λ actor. actor.hub ≡ pass.hub) }
         ensures refused { IfErr result (λ refusal. refusal ≡ OutOfMemory) }
     {
-        let Ok(mut tenure) = hub.try_enter(pass) else {
-            return Err(Refusal::OutOfMemory);
-        };
+        let mut tenure = hub.enter(rt, pass);
         let board = tenure.state();
         let right = board.is_on(plan, workers, clients);
         board.look(number);

@@ -13,15 +13,16 @@ use lattice::Minimum;
 use plan::Plan;
 use std::alloc::Global;
 use std::boxed::Box;
-use std::sync::Arc;
+use std::sync::{Arc, Wait};
 use update::Refusal;
 
 /// Opens a hub with a board of a plan on which nothing has happened yet. The answer has an actor
 /// for each worker, in the order of their numbers, and then one for each client. Each has looked
 /// once, so it knows the plan. Refused only with `OutOfMemory`.
 ///
-/// Never waits. Cost: that of `Board::open`, and one tenure for each actor.
-pub fn open<T: Minimum, P: BoardProtocol<T>>(
+/// Cost: that of `Board::open`, and one tenure for each actor.
+pub fn open<T: Minimum, P: BoardProtocol<T>, R: Wait>(
+    rt: &R,
     alloc: Global,
     plan: &Plan,
     workers: usize,
@@ -46,7 +47,7 @@ pub fn open<T: Minimum, P: BoardProtocol<T>>(
     for pass in passes {
         let number = actors.len();
         let own = Arc::try_clone(&hub)?;
-        actors.push(Actor::first(own, pass, number, plan, workers, clients)?)?;
+        actors.push(Actor::first(rt, own, pass, number, plan, workers, clients)?)?;
     }
     Ok(actors)
 }

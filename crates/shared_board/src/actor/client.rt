@@ -12,8 +12,8 @@ ghost use Rattle.histories.specs.declared.event.Event.TheVariants.{Advance, Allo
 ghost use Rattle.histories.specs.Histories.{IsInput};
 ghost use Rattle.histories.specs.Histories.Dataflows.{node_of};
 ghost use Rattle.histories.specs.Histories.States.{change_to};
-ghost use Rattle.shared_board.specs.Calls.{IsAnswered, IsDone};
-ghost use Rattle.shared_board.specs.Found.{AreListed, IsChangesRefusalFound, IsRead, IsReadRefusalFound, WasQuiet, WasTooLarge, feed_refusal_found, frontier_found};
+ghost use Rattle.shared_board.specs.Calls.{AreListed, IsAnswered, IsDone, IsRead};
+ghost use Rattle.shared_board.specs.Found.{IsChangesRefusalFound, IsReadRefusalFound, WasQuiet, WasTooLarge, feed_refusal_found, frontier_found};
 ghost use Rattle.shared_board.specs.Tenures.{advance_refusal_in, allow_refusal_in, state_found, terms_in};
 
 use crate::actor::Actor;

@@ -1,15 +1,15 @@
-use Rattle.std.proofs.Common.{◌∷◌, rules, ◌≡◌, sym, ap, ◌∙◌, subst, ℕ}
+use Rattle.std.proofs.Common.{◌∷◌, rules, ◌≡◌, sym, ap, ◌∙◌}
 use Rattle.hub.specs.Histories.{entry}
 use Rattle.hub.specs.Known.{Known}
 use Rattle.shared_board.specs.declared.event.Doing.{Doing}
-use Rattle.shared_board.specs.Tenures.{SharedState, StandsFor, Terms, doing, terms_for, terms_of_board}
+use Rattle.shared_board.specs.Tenures.{terms_for, terms_of_board}
 use Rattle.shared_board.proofs.ActorLemmas.{after_first}
 use Rattle.shared_board.proofs.actor.Actor.first.Goals as goal
 
 pub invariant_of-result : goal.invariant_of-result
 invariant_of-result g c =
-    let t = c.in-Ok.ensures.found in
-    let held = c.in-Ok.tenure in
+    let t = c.enter-tenure.ensures.found in
+    let held = c.enter-tenure.result in
     let same : c.deref_mut.result.now ≡ held.state.value = search rules in
     let asked : c.deref-2.result.now ≡ c.deref_mut.result.now = search rules in
     let on : terms_of_board c.deref_mut.result.now ≡ terms_for c.args.plan.now c.args.workers c.args.clients = ap terms_of_board (sym asked) ∙ c.is_on-right.ensures.0 c.if-not-right.false in
@@ -17,13 +17,3 @@ invariant_of-result g c =
     (ap (λ (k : Known (Doing g.row.T.Denot)). k.number) c.requires.pass) (ap (λ (k : Known (Doing g.row.T.Denot)). k.seen) c.requires.pass)
     held.state.value c.deref_mut.result.now c.look.new.self held.hub held.number held.found t.0.0 t.0.1 t.0.2 (g.met.P.BoardProtocol.stands_for held.state held.found t.1) same on c.requires.actor c.look.ensures.terms c.look.ensures.stands c.look.ensures.looked c.leave-pass.result (c.leave-pass.ensures ∙ ap (λ (d : Doing _). record { hub = held.hub; number = held.number; seen = entry held.number d ∷ held.found }) (g.met.P.BoardProtocol.last_is _)) in
     (after.its_hub ∙ ap (λ (k : Known (Doing g.row.T.Denot)). k.hub) c.requires.pass, after.its_number, after.actor, λ n e. after.counted n (sym (c.accepted-accepted.ensures ∙ search rules) ∙ e))
-
-pub leave-pass-requires : goal.leave-pass-requires
-leave-pass-requires g c =
-    let t = c.in-Ok.ensures.found in
-    let held = c.in-Ok.tenure in
-    let same : c.deref_mut.result.now ≡ held.state.value = search rules in
-    let found = subst (λ (b : SharedState g.row.T.Denot). StandsFor g.T.PartialOrder.below g.T.Minimum.least g.T.Ord.cmp b held.found) (sym same) (g.met.P.BoardProtocol.stands_for held.state held.found t.1) in
-    let own : c.args.number ≡ held.number = sym (t.0.1 ∙ ap (λ (k : Known (Doing g.row.T.Denot)). k.number) c.requires.pass) in
-    g.met.P.BoardProtocol.may_stand _ _ (subst (λ (d : Doing _). StandsFor g.T.PartialOrder.below g.T.Minimum.least g.T.Ord.cmp c.look.new.self (entry held.number d ∷ held.found)) (sym (g.met.P.BoardProtocol.last_is _))
-    (subst (λ (x : Terms × ℕ). StandsFor g.T.PartialOrder.below g.T.Minimum.least g.T.Ord.cmp c.look.new.self (entry x.1 (doing x.0 c.look.new.self.board.last) ∷ held.found)) (λ i. (sym c.look.ensures.terms i, own i)) (c.look.ensures.stands held.found found)))
