@@ -3,6 +3,7 @@
 //! If the second output, standard error, fails, nothing else changes: the status alone then says
 //! what went wrong.
 ghost use Rattle.std.specs.Prelude.{◌≡◌, ℕ, List, Some, IfErr, OnOk, option_map};
+ghost use Rattle.grammar.specs.Scripts.{Answers, script_of};
 ghost use Rattle.script.specs.Engines.{failures};
 ghost use Rattle.script.specs.Outs.{IsBeginning};
 ghost use Rattle.script.specs.declared.fault.RunFault.TheVariants.{Refused};
@@ -29,19 +30,19 @@ use std::sync::Wait;
 /// Status 4 comes only if the changes give some node a bound of 2 to the 63 or more. Then exactly
 /// the text of the lines before the one that asked for the number was written.
 ///
-/// Cost: that of parsing the script and of running it.
+/// Cost: that of parsing the script and of running it. The bytes are given back before it runs.
 pub fn act<R: Wait, W: Out, E: Out>(
     runtime: &R,
     alloc: Global,
     action: Action<'_>,
-    bytes: Option<&[u8]>,
+    bytes: Option<Vec<u8>>,
     out: &mut W,
     error: &mut E,
 ) -> u8
     requires { IsInRange action }
     ensures { Acts (λ taken failures. W.took out.old taken failures out.new)
         (asked_text action.entry) (IsPartBeforeOverflow action.entry)
-        (option_map (λ b. b.now) bytes.entry) result }
+        (option_map (λ b. b.items) bytes) result }
 {
     match bytes {
         Some(bytes) => act_on(runtime, alloc, action, bytes, out, error),
@@ -53,21 +54,28 @@ pub fn act<R: Wait, W: Out, E: Out>(
     }
 }
 
+// Parses the bytes of the file, which nobody needs any more then.
+fn parsed(alloc: Global, bytes: Vec<u8>) -> Result<Script, Fault>
+    ensures { Answers (λ script. script) result (script_of bytes.items) }
+{
+    parse(alloc, bytes.as_slice())
+}
+
 // Parses the bytes of the file and carries out the action.
 fn act_on<R: Wait, W: Out, E: Out>(
     runtime: &R,
     alloc: Global,
     action: Action<'_>,
-    bytes: &[u8],
+    bytes: Vec<u8>,
     out: &mut W,
     error: &mut E,
 ) -> u8
     requires { IsInRange action }
     ensures { Acts (λ taken failures. W.took out.old taken failures out.new)
         (asked_text action.entry) (IsPartBeforeOverflow action.entry)
-        (Some bytes.now) result }
+        (Some bytes.items) result }
 {
-    match parse(alloc, bytes) {
+    match parsed(alloc, bytes) {
         Ok(script) => carry_out(runtime, alloc, action, &script, out, error),
         Err(fault) => refuse(alloc, fault, error),
     }

@@ -123,14 +123,7 @@ fn perform<R: Files + AllocGlobal + Print + Eprint + Wait>(
     };
     let mut error = MemoryOut::new(alloc);
     let status = match fs::read(rt, action.file()) {
-        Ok(bytes) => act(
-            rt,
-            alloc,
-            action,
-            Some(bytes.as_slice()),
-            &mut out,
-            &mut error,
-        ),
+        Ok(bytes) => act(rt, alloc, action, Some(bytes), &mut out, &mut error),
         Err(_unread) => act(rt, alloc, action, None, &mut out, &mut error),
     };
     if let Ok(line) = str::from_utf8(error.bytes()) {
