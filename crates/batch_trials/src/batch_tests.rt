@@ -2,7 +2,7 @@
 //! updates are in the right order.
 use crate::batches::sealed;
 use antichain::Antichain;
-use batch::{Batch, BatchReader, Builder, copy_runs, merge};
+use batch::{Batch, BatchReader, Builder, copy_runs, merge, seal_slice};
 use lattice::Bitime;
 use std::alloc::Global;
 use std::ops::Range;
@@ -164,6 +164,65 @@ fn sealing_what_is_passed_takes_memory(rt: HostRuntime) -> Result<(), Fail> {
     let rest = sealed_passed(&mut builder, &upper, &Antichain::new(rt.alloc()))?;
     assert_eq!(rt; rest.len(), 1);
     assert!(rt; rest.diff(0) == 2);
+    Ok(())
+}
+
+// The batch of a list that stays, between (0, 0) and (6, 6).
+fn sealed_slice(alloc: Global, updates: &[Update<Bitime>]) -> Result<Batch<Bitime>, Refusal> {
+    let lower = Antichain::from_elem(alloc, at((0, 0)));
+    let upper = Antichain::from_elem(alloc, at((6, 6)));
+    seal_slice(alloc, 0, 0, updates, &lower, &upper)
+}
+
+// A list in the order of a batch, and one of the same updates in another, one of them in two parts.
+fn two_slices(alloc: Global) -> Result<(Batch<Bitime>, Batch<Bitime>), Refusal> {
+    let ordered = list(
+        alloc,
+        &[((0, 5), &[7], 4), ((5, 0), &[7], 2), ((2, 0), &[7, 0], 4)],
+    )?;
+    let mixed = list(
+        alloc,
+        &[
+            ((2, 0), &[7, 0], 4),
+            ((5, 0), &[7], 2),
+            ((0, 5), &[7], 3),
+            ((0, 5), &[7], 1),
+        ],
+    )?;
+    Ok((sealed_slice(alloc, &ordered)?, sealed_slice(alloc, &mixed)?))
+}
+
+// Both are sealed as one batch.
+#[test]
+fn sealing_lists_that_stay_takes_memory(rt: HostRuntime) -> Result<(), Fail> {
+    let (first, second) = match two_slices(rt.alloc()) {
+        Err(Refusal::OutOfMemory) => two_slices(rt.alloc())?,
+        done => done?,
+    };
+    for batch in [&first, &second] {
+        assert_eq!(rt; batch.len(), 3);
+        assert!(rt; batch.diff(0) == 4 && batch.diff(1) == 2 && batch.diff(2) == 4);
+        assert!(rt; batch.time(0) == at((0, 5)) && batch.time(1) == at((5, 0)));
+        assert_eq!(rt; batch.row(2).columns(), [7, 0].as_slice());
+    }
+    Ok(())
+}
+
+// Memory is ample here, so a total that is too large is not told as want of memory. A difference of 0
+// is not sealed.
+#[test]
+fn lists_that_stay_are_refused_as_others_are(rt: HostRuntime) -> Result<(), Fail> {
+    let outside = list(rt.alloc(), &[((6, 6), &[7], 1)])?;
+    let refused = sealed_slice(rt.alloc(), &outside);
+    assert!(rt; matches!(refused, Err(Refusal::Stray)));
+    let large = list(
+        rt.alloc(),
+        &[((0, 0), &[7], 9223372036854775807), ((0, 0), &[7], 1)],
+    )?;
+    let refused = sealed_slice(rt.alloc(), &large);
+    assert!(rt; matches!(refused, Err(Refusal::Overflow)));
+    let nothing = list(rt.alloc(), &[((0, 0), &[7], 0)])?;
+    assert_eq!(rt; sealed_slice(rt.alloc(), &nothing)?.len(), 0);
     Ok(())
 }
 

@@ -2,11 +2,11 @@
 //! workers, boards or batches, and it stores no differences.
 //!
 //! It keeps the accepted changes of each input, in the order in which they came, the inputs'
-//! frontiers, and from which times on each view may be read. Each answer is computed from these, from scratch. The invariant is what the query
-//! requires: each input has a list, at its index among the inputs, and the rows in it have the
-//! input's width. Nothing computed is stored, so nothing can be out of date. This engine is slow,
-//! but it is easy to see why it is right. It tests commands with the same function as a board
-//! (crate `machine`), so both refuse alike.
+//! frontiers, and from which times on each view may be read. Each answer is computed from these,
+//! from scratch. The invariant is what the query requires: each input has a list, at its index among
+//! the inputs, and the rows in it have the input's width. Nothing computed is stored, so nothing can
+//! be out of date. This engine is slow, but it is easy to see why it is right. It tests commands with
+//! the same function as a board (crate `machine`), so both refuse alike.
 ghost use Rattle.std.specs.Prelude.{◌≡◌, ◌<◌, ◌++◌, ℕ, List, [], ◌∷◌, None, Some, length, map, replicate, set, slice_index_or, IfErr, IfOk, IsTrue, OnErr, OnOk};
 ghost use Rattle.lattice.specs.declared.product.Pair.{Pair};
 ghost use Rattle.lattice.specs.Frontiers.{is_beyond};
