@@ -1,22 +1,9 @@
-use Rattle.std.proofs.Common.{◌≡◌, ◌≤◌, ◌^◌, [], ◌∷◌, IfErr, IsTrue, OnOk, sym, subst, ◌∙◌}
-use Rattle.lattice.specs.Frontiers.{all_beyond}
+use Rattle.std.proofs.Common.{◌≤◌, ◌^◌, subst, ◌∙◌}
+use Rattle.std.specs.Prelude.{IfErr, OnOk}
 use Rattle.update.specs.Refusals.{IsMemoryOrOverflow}
 use Rattle.update.specs.Updates.{size}
-use Rattle.histories.specs.Histories.States.{times}
-use Rattle.operator.specs.Reductions.{have_width}
 use Rattle.desk.specs.Desks.{IsReducedWith}
 use Rattle.desk.proofs.desk.Desk.reduce_list.Goals as goal
-
-pub reduce-taken-requires-clause-there : goal.reduce-taken-requires-clause-there
-reduce-taken-requires-clause-there g c =
-    let r = c.requires.there in
-    let vec = sym (c.as_slice.ensures.value ∙ c.in_ok-updates.ensures.updates) in
-    (r.0, (r.1, subst (λ us. IsTrue (have_width r.0.width us)) vec r.2))
-
-pub reduce-taken-requires-clause-later : goal.reduce-taken-requires-clause-later
-reduce-taken-requires-clause-later g c =
-    let vec = sym (c.as_slice.ensures.value ∙ c.in_ok-updates.ensures.updates) in
-    subst (λ us. IsTrue (all_beyond g.T.PartialOrder.below (g.T.Minimum.least ∷ []) (times us))) vec c.requires.later
 
 pub returns-clause-reduced : goal.returns-clause-reduced
 returns-clause-reduced g c =
