@@ -1,0 +1,11 @@
+use Rattle.std.proofs.Common.{subst}
+use Rattle.shared_board.specs.Calls.{AreListed, IsAnswered}
+use Rattle.shared_board.specs.Found.{IsChangesRefusalFound}
+use Rattle.session.proofs.client.Client.changes.Goals as goal
+
+pub returns : goal.returns
+returns g c =
+    let below = g.T.PartialOrder.below in
+    let least = g.T.Minimum.least in
+    let new = c.try_changes.new.self in
+    subst (λ k. IsAnswered k new (λ us. AreListed below least k new g.T.Ord.cmp c.args.view us.items) (IsChangesRefusalFound below least k new c.args.view) c.try_changes.result) c.self.view_is c.try_changes.ensures

@@ -1,0 +1,7 @@
+use Rattle.std.proofs.Common.{subst}
+use Rattle.session.specs.Clients.{HasAskedLarge}
+use Rattle.session.proofs.client.Client.is_too_large.Goals as goal
+
+pub returns : goal.returns
+returns g c =
+    subst (λ k. HasAskedLarge g.T.PartialOrder.below g.T.Minimum.least k c.try_is_too_large.new.self g.T.Ord.cmp c.try_is_too_large.result) c.self.view_is c.try_is_too_large.ensures

@@ -1,0 +1,7 @@
+use Rattle.std.proofs.Common.{subst}
+use Rattle.session.specs.Clients.{HasRead}
+use Rattle.session.proofs.client.Client.read.Goals as goal
+
+pub returns : goal.returns
+returns g c =
+    subst (λ k. HasRead g.T.PartialOrder.below g.T.Minimum.least k c.try_read.new.self c.args.view c.args.time c.try_read.result) c.self.view_is c.try_read.ensures

@@ -1,0 +1,196 @@
+//! A client: it changes inputs and asks views.
+//!
+//! Each call tries once to enter the board. It is refused with `Busy` if another one has the board
+//! just then; nothing has happened then, and the call can be made again. Else it is one event of
+//! this client, and its answer is right for all that its tenure found. `specs/Clients` says what
+//! each answer and each refusal means. The invariant is that the actor is no worker, so a client
+//! never does a worker's part.
+ghost use Rattle.std.specs.Prelude.{◌≡◌, ◌⊎◌, ◌≤◌, ◌<◌, IfErr, IfOk, IsTrue, OnOk, length};
+ghost use Rattle.update.specs.declared.refusal.Refusal.TheVariants.{OutOfMemory};
+ghost use Rattle.plan.specs.Nodes.{is_output};
+ghost use Rattle.histories.specs.Histories.{IsInput};
+ghost use Rattle.histories.specs.Histories.Dataflows.{node_of};
+ghost use Rattle.shared_board.specs.Calls.{AreListed, HasLooked, IsAnswered, IsBusy};
+ghost use Rattle.shared_board.specs.Found.{IsChangesRefusalFound, dataflow_of};
+ghost use Rattle.shared_board.specs.Tenures.{terms_in};
+ghost use Rattle.session.specs.Clients.{HasAskedLarge, HasAskedQuiet, HasRead, IsAdvanced, IsClosed, IsFed, IsGivenUp, IsProbed, row_fed};
+
+use antichain::Antichain;
+use lattice::Minimum;
+use plan::NodeId;
+use row::Row;
+use shared_board::{Actor, BoardProtocol};
+use std::alloc::Global;
+use std::marker::Model;
+use update::{Bag, Refusal, Times, Update};
+
+/// A client of a board. A contract sees what it has seen.
+#[derive(Drop)]
+pub struct Client<T: Minimum, P: BoardProtocol<T>> {
+    actor: Actor<T, P>,
+}
+
+impl<T: Minimum, P: BoardProtocol<T>> Model for Client<T, P> {
+    ghost use Rattle.std.specs.Prelude.{◌≤◌};
+    ghost use Rattle.hub.specs.Known.{Known};
+    ghost use Rattle.shared_board.specs.Tenures.{terms_in};
+    ghost use Rattle.shared_board.specs.declared.event.Doing.{Doing};
+
+    ghost Value = { Known (Doing T) };
+
+    ghost view = { λ c. c.actor };
+
+    ghost invariant = { λ c. (terms_in c.actor.seen).dataflow.workers ≤ c.actor.number };
+}
+
+// The elements of a frontier.
+fn times_of<T: Minimum>(alloc: Global, frontier: &Antichain<T>) -> Result<Times<T>, Refusal>
+    ensures made { IfOk result (λ times. times ≡ frontier.now) }
+    ensures only { IfErr result (λ refusal. refusal ≡ OutOfMemory) }
+{
+    let mut times = Vec::with_capacity(alloc, frontier.len())?;
+    for t in frontier.elements() {
+        times.push(*t)?;
+    }
+    Ok(Times::from(times))
+}
+
+impl<T: Minimum, P: BoardProtocol<T>> Client<T, P> {
+    /// The client of an actor that is no worker of its board: workers have the numbers below. Takes
+    /// no memory.
+    pub fn new(actor: Actor<T, P>) -> Client<T, P>
+        requires client { (terms_in actor.seen).dataflow.workers ≤ actor.number }
+        ensures { result ≡ actor }
+    {
+        Client { actor }
+    }
+
+    // The client looks, if the board is there, and is refused memory.
+    fn look_without_memory(&mut self) -> Result<(), Refusal>
+        ensures never { OnOk result ⊥ }
+        ensures refused { IfErr result (λ refusal. IsBusy self.old self.new refusal
+            ⊎ (HasLooked self.old self.new × (refusal ≡ OutOfMemory))) }
+    {
+        self.actor.try_look()?;
+        Err(Refusal::OutOfMemory)
+    }
+
+    /// Changes an input's table: a row of these columns, in order, comes so many times more from
+    /// this time on, or fewer. Refused with `WrongWidth`, `ZeroWeight`, `WeightTooLarge`,
+    /// `TimePassed`, `InputFull` and `OutOfMemory`, tested in this order.
+    ///
+    /// Cost: a copy of the columns, and that of `Board::feed`.
+    pub fn feed(
+        &mut self,
+        alloc: Global,
+        input: NodeId,
+        columns: &[i64],
+        time: T,
+        diff: i64,
+    ) -> Result<(), Refusal>
+        requires input { IsInput (dataflow_of self.old) input }
+        ensures { IsFed T.below T.least self.old self.new
+            (row_fed input columns.now time diff) result }
+    {
+        self.actor.known();
+        let Ok(row) = Row::new(alloc, columns) else {
+            self.actor.try_look()?;
+            return Err(Refusal::WrongWidth);
+        };
+        self.actor.try_feed(input, Update { time, row, diff })
+    }
+
+    /// Moves an input's frontier forward: from then on it changes only at or after an element of
+    /// this frontier. Refused with `NotForward`, and with `OutOfMemory`, which may come in its
+    /// place.
+    pub fn advance(
+        &mut self,
+        alloc: Global,
+        input: NodeId,
+        frontier: &Antichain<T>,
+    ) -> Result<(), Refusal>
+        requires input { IsInput (dataflow_of self.old) input }
+        ensures { IsAdvanced T.below T.least self.old self.new input frontier.now result }
+    {
+        match times_of(alloc, frontier) {
+            Ok(times) => self.actor.try_advance(input, times),
+            Err(_refusal) => self.look_without_memory(),
+        }
+    }
+
+    /// Closes an input: it takes no more changes. Refused with `Busy` alone. Takes no memory.
+    pub fn close_input(&mut self, input: NodeId) -> Result<(), Refusal>
+        requires input { IsInput (dataflow_of self.old) input }
+        ensures { IsClosed T.below T.least self.old self.new input result }
+    {
+        self.actor.try_close(input)
+    }
+
+    /// Readers of a view give up its past: from then on it may be read only at or after an element
+    /// of this frontier. Refused with `NotForward`, and with `OutOfMemory`, which may come in its
+    /// place.
+    pub fn allow(
+        &mut self,
+        alloc: Global,
+        view: NodeId,
+        frontier: &Antichain<T>,
+    ) -> Result<(), Refusal>
+        requires within { view < length (dataflow_of self.old).nodes }
+        requires view { IsTrue (is_output (node_of (dataflow_of self.old) view)) }
+        ensures { IsGivenUp T.below T.least self.old self.new view frontier.now result }
+    {
+        match times_of(alloc, frontier) {
+            Ok(times) => self.actor.try_allow(view, times),
+            Err(_refusal) => self.look_without_memory(),
+        }
+    }
+
+    /// A view's frontier: at the times that it has passed the view changes no more. Refused with
+    /// `OutOfMemory`.
+    pub fn probe(&mut self, view: NodeId) -> Result<Antichain<T>, Refusal>
+        requires within { view < length (dataflow_of self.old).nodes }
+        ensures { IsProbed T.below T.least self.old self.new view result }
+    {
+        self.actor.try_frontier(view)
+    }
+
+    /// A view's rows at a time: the query, computed from scratch, on the changes fed up to that
+    /// time. Refused with `NotPassed`, then `GivenUp`; then with `OutOfMemory`, or with `Overflow`
+    /// if a row's count does not fit in 64 bits. That it has passed is found in the tenure of the
+    /// rows.
+    pub fn read(&mut self, view: NodeId, time: T) -> Result<Bag, Refusal>
+        requires within { view < length (dataflow_of self.old).nodes }
+        requires view { IsTrue (is_output (node_of (dataflow_of self.old) view)) }
+        ensures { HasRead T.below T.least self.old self.new view time result }
+    {
+        self.actor.try_read(view, time)
+    }
+
+    /// A view's changes at the times that its frontier has passed, consolidated. Refused with
+    /// `GivenUp`; then with `OutOfMemory`, or with `Overflow` if a total does not fit in 64 bits.
+    pub fn changes(&mut self, view: NodeId) -> Result<Vec<Update<T>>, Refusal>
+        requires within { view < length (dataflow_of self.old).nodes }
+        requires view { IsTrue (is_output (node_of (dataflow_of self.old) view)) }
+        ensures { IsAnswered self.old self.new
+            (λ us. AreListed T.below T.least self.old self.new T.cmp view us.items)
+            (IsChangesRefusalFound T.below T.least self.old self.new view) result }
+    {
+        self.actor.try_changes(view)
+    }
+
+    /// Whether no accepted change is still in flight: then each view's frontier is that of its
+    /// inputs. Refused with `Busy` alone. Takes no memory.
+    pub fn quiet(&mut self) -> Result<bool, Refusal>
+        ensures { HasAskedQuiet T.below T.least self.old self.new result }
+    {
+        self.actor.try_is_quiet()
+    }
+
+    /// Whether a worker told that a number is too large with the changes accepted so far. Refused
+    /// with `Busy` alone. Takes no memory.
+    pub fn is_too_large(&mut self) -> Result<bool, Refusal>
+        ensures { HasAskedLarge T.below T.least self.old self.new T.cmp result }
+    {
+        self.actor.try_is_too_large()
+    }
+}
