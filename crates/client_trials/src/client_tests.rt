@@ -6,10 +6,10 @@ ghost use Rattle.plan.specs.declared.node.Node.TheVariants.{Input, Output};
 ghost use Rattle.shared_board.specs.Tenures.{terms_for, terms_in};
 
 use antichain::Antichain;
-use lattice::Minimum;
+use lattice::Bitime;
 use plan::{Node, NodeId, Plan, PlanBuilder};
 use session::Client;
-use shared_board::{Actor, Boards, open};
+use shared_board::{Actor, BitemporalBoards, open};
 use std::alloc::Global;
 use std::process::Abort;
 use std::sync::Wait;
@@ -31,17 +31,23 @@ fn viewed(alloc: Global) -> Result<Plan, Refusal>
 
 // A client of that board, who knows the plan.
 #[derive(Drop)]
-struct Caller<T: Minimum> {
-    client: Client<T, Boards<T>>,
+struct Caller {
+    client: Client<Bitime, BitemporalBoards>,
     ghost knows: { terms_in client.seen ≡ terms_for (Input 1 ∷ Output 0 ∷ []) 1 1 },
 }
 
-impl<T: Minimum> Caller<T> {
-    fn feed(&mut self, alloc: Global, columns: &[i64], time: T, diff: i64) -> Result<(), Refusal> {
+impl Caller {
+    fn feed(
+        &mut self,
+        alloc: Global,
+        columns: &[i64],
+        time: Bitime,
+        diff: i64,
+    ) -> Result<(), Refusal> {
         self.client.feed(alloc, NodeId::new(0), columns, time, diff)
     }
 
-    fn advance(&mut self, alloc: Global, time: T) -> Result<(), Refusal> {
+    fn advance(&mut self, alloc: Global, time: Bitime) -> Result<(), Refusal> {
         let frontier = Antichain::from_elem(alloc, time);
         self.client.advance(alloc, NodeId::new(0), &frontier)
     }
@@ -50,20 +56,20 @@ impl<T: Minimum> Caller<T> {
         self.client.close_input(NodeId::new(0))
     }
 
-    fn allow(&mut self, alloc: Global, time: T) -> Result<(), Refusal> {
+    fn allow(&mut self, alloc: Global, time: Bitime) -> Result<(), Refusal> {
         let frontier = Antichain::from_elem(alloc, time);
         self.client.allow(alloc, NodeId::new(1), &frontier)
     }
 
-    fn probe(&mut self) -> Result<Antichain<T>, Refusal> {
+    fn probe(&mut self) -> Result<Antichain<Bitime>, Refusal> {
         self.client.probe(NodeId::new(1))
     }
 
-    fn read(&mut self, time: T) -> Result<Bag, Refusal> {
+    fn read(&mut self, time: Bitime) -> Result<Bag, Refusal> {
         self.client.read(NodeId::new(1), time)
     }
 
-    fn changes(&mut self) -> Result<Vec<Update<T>>, Refusal> {
+    fn changes(&mut self) -> Result<Vec<Update<Bitime>>, Refusal> {
         self.client.changes(NodeId::new(1))
     }
 
@@ -77,10 +83,10 @@ impl<T: Minimum> Caller<T> {
 }
 
 // Opens the board, and gives the actor of the worker and the client.
-fn opened<T: Minimum, R: Wait>(
+fn opened<R: Wait>(
     rt: &R,
     alloc: Global,
-) -> Result<(Actor<T, Boards<T>>, Caller<T>), Refusal> {
+) -> Result<(Actor<Bitime, BitemporalBoards>, Caller), Refusal> {
     let mut actors = open(rt, alloc, &viewed(alloc)?, 1, 1)?;
     let actor = actors.pop().unwrap();
     let worker = actors.pop().unwrap();
@@ -89,11 +95,11 @@ fn opened<T: Minimum, R: Wait>(
 }
 
 // The client changes the input until it is closed.
-fn changes_inputs<T: Minimum, R: Wait + Abort>(
+fn changes_inputs<R: Wait + Abort>(
     rt: &R,
     alloc: Global,
-    start: T,
-    later: T,
+    start: Bitime,
+    later: Bitime,
 ) -> Result<(), Refusal> {
     let (_worker, mut client) = opened(rt, alloc)?;
     client.feed(alloc, &[7], start, 2)?;
@@ -126,12 +132,12 @@ fn changes_inputs<T: Minimum, R: Wait + Abort>(
 
 // The worker has carried nothing on, so what was fed can't be read yet, and the view may still change
 // from the least time on.
-fn asks_views<T: Minimum, R: Wait + Abort>(
+fn asks_views<R: Wait + Abort>(
     rt: &R,
     alloc: Global,
-    start: T,
-    later: T,
-) -> Result<Antichain<T>, Refusal> {
+    start: Bitime,
+    later: Bitime,
+) -> Result<Antichain<Bitime>, Refusal> {
     let (_worker, mut client) = opened(rt, alloc)?;
     assert!(rt; client.quiet()?);
     client.feed(alloc, &[7], start, 2)?;
