@@ -27,24 +27,8 @@ use std::process::ExitCode;
 use std::sync::Wait;
 use std::{env, fs, io, str};
 
-// How large the block is from which the system's allocator learns, in bytes.
-const LARGE_BLOCK: usize = 8 << 20;
-
-// Takes a large block and gives it back at once, without a byte written.
-//
-// A late correction takes lists of some megabytes and gives them back, and so does the next one. The
-// allocator of glibc hands such memory to the system each time, and each time takes it page by page
-// again: with one account of 20,000 postings that was a third of a correction's time. Once a block
-// of this size came back, it keeps up to twice as much for the next one. If the block is refused,
-// then nothing is lost but this.
-fn keep_freed_memory(alloc: Global) {
-    let block: Result<Vec<u8>, AllocError> = Vec::with_capacity(alloc, LARGE_BLOCK);
-    drop(block);
-}
-
 fn main(rt: HostRuntime) -> ExitCode {
     let alloc = rt.alloc();
-    keep_freed_memory(alloc);
     let status = match arguments(&rt, alloc) {
         Ok(given) => answer(&rt, alloc, given.as_slice()),
         Err(unread) => misread(&rt, &unread),
