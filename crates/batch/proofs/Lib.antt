@@ -7,6 +7,7 @@ pub mod SealLemmas
 pub mod SumsLemmas
 pub mod TieLemmas
 pub mod SealedLemmas
+pub mod TimesLemmas
 pub mod CompactionLemmas
 pub mod MergingLemmas
 pub mod ChangeLemmas

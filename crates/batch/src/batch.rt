@@ -66,8 +66,8 @@ impl<T: Lattice> Batch<T> {
         }
     }
 
-    // The updates, in order. Takes no memory.
-    pub(crate) fn columns(&self) -> &Columns<T>
+    /// The updates, in order, column by column. Takes no memory.
+    pub fn columns(&self) -> &Columns<T>
         ensures value { result.now ≡ self.now.updates }
         ensures sealed { IsSealed T.cmp self.now.updates }
     {

@@ -232,7 +232,7 @@ pub(crate) fn unmoved<T: Minimum>(
 }
 
 // Whether the upper frontier is beyond the lower one, and each update's time is between them.
-pub(crate) fn is_interval<T: Lattice>(
+fn is_interval<T: Lattice>(
     updates: &[Update<T>],
     lower: &Antichain<T>,
     upper: &Antichain<T>,

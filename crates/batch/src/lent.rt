@@ -1,8 +1,9 @@
-//! A batch of updates that stay with their owner, such as a bundle that may have to be taken again.
+//! A batch of a list that stays with its owner, such as a bundle that may have to be taken again.
 //!
 //! What an arrangement gives was sealed there, so it has a batch's order already. One pass sees that.
-//! Its columns are then copied as they stand: nothing is sorted, and no second list is made. Any other
-//! list is copied, and the copy is sealed as a builder does it.
+//! Its columns are then copied as they stand: nothing is sorted, and no second list is made. A short
+//! list comes one by one, and is written column by column. Any other list is copied, and the copy is
+//! sealed as a builder does it.
 ghost use Rattle.std.specs.Prelude.{◌≡◌, ◌≢◌, ◌≤◌, ◌<◌, ◌-◌, ◌↔◌, ◌⊎◌, ◌∷◌, [], List, ℤ, Bool, Err, pos, length, slice_index_or, FitsSigned, IfOk, IfErr, OnOk, IsTrue};
 ghost use Rattle.std.specs.Int.{w64};
 ghost use Rattle.std.specs.List.{list_all};
@@ -11,14 +12,14 @@ ghost use Rattle.update.specs.Bags.{Alike};
 ghost use Rattle.update.specs.Updates.{as_of, total_where, HasLargeTotal, size};
 ghost use Rattle.update.specs.declared.refusal.Refusal.{Refusal};
 ghost use Rattle.batch.specs.Batches.{IsSealed, by_row_then_time};
-ghost use Rattle.batch.specs.Intervals.{all_between, is_interval_of};
+ghost use Rattle.batch.specs.Intervals.{all_between, is_between, is_interval_of};
 
 use crate::Batch;
-use crate::builder::{is_interval, unmoved};
+use crate::builder::unmoved;
 use crate::plain::in_columns;
-use crate::seal::{known_times, sealed_list};
-use antichain::Antichain;
-use columns::Columns;
+use crate::seal::sealed_list;
+use antichain::{Antichain, is_beyond};
+use columns::{Columns, Form, UpdateList};
 use lattice::{Lattice, Minimum};
 use std::alloc::Global;
 use update::{Refusal, Update};
@@ -57,43 +58,129 @@ fn are_sealed<T: Lattice>(updates: &[Update<T>]) -> bool
     true
 }
 
-// Copies of updates. Refused only if memory is refused.
-fn copies_of<T: Lattice>(alloc: Global, updates: &[Update<T>]) -> Result<Vec<Update<T>>, Refusal>
-    ensures copied { IfOk result (λ copies. copies.items ≡ updates.now) }
+// Whether the update at a place of columns has a difference and comes after the one before it. `run`
+// is the number of a run: that of the one before it makes this cheap.
+fn is_packed_in_place<T: Lattice>(columns: &Columns<T>, i: usize, run: usize) -> bool
+    requires { i < length columns.now }
+    ensures fits { (d : Update T) → FitsSigned w64 (slice_index_or columns.now i d).diff }
+    ensures nonzero { IsTrue result
+        → (d : Update T) → (slice_index_or columns.now i d).diff ≢ pos 0 }
+    ensures behind { IsTrue result → 0 < i → (d : Update T)
+        → by_row_then_time T.cmp (slice_index_or columns.now (i - 1) d) (slice_index_or columns.now i d)
+        ≡ Less }
+{
+    if columns.diff(i) == 0 {
+        return false;
+    }
+    if i == 0 {
+        return true;
+    }
+    let rows = columns.compare_rows(i - 1, run, columns, i, run);
+    rows.then(columns.time(i - 1).cmp(&columns.time(i))).is_lt()
+}
+
+// Whether columns are sealed as they stand.
+fn are_columns_sealed<T: Lattice>(columns: &Columns<T>) -> bool
+    ensures sealed { IsTrue result → IsSealed T.cmp columns.now }
+    ensures fits { IsTrue result → HasLargeTotal T.below columns.now → ⊥ }
+{
+    let mut run = 0;
+    for i in 0..columns.len() {
+        if !is_packed_in_place(columns, i, run) {
+            return false;
+        }
+        run = columns.run_near(i, run);
+    }
+    true
+}
+
+// Whether a list is sealed as it stands.
+fn is_sealed<T: Lattice>(list: &UpdateList<T>) -> bool
+    ensures sealed { IsTrue result → IsSealed T.cmp list.now }
+    ensures fits { IsTrue result → HasLargeTotal T.below list.now → ⊥ }
+{
+    match list.form() {
+        Form::Plain(updates) => are_sealed(updates.as_slice()),
+        Form::Packed(columns) => are_columns_sealed(columns),
+    }
+}
+
+// A copy of a list, column by column, with no more memory than it needs. Refused only if memory is
+// refused.
+fn columns_of<T: Lattice>(alloc: Global, list: &UpdateList<T>) -> Result<Columns<T>, Refusal>
+    ensures made { IfOk result (λ made. made ≡ list.now) }
     ensures only { IfErr result (λ refused. refused ≡ Refusal.OutOfMemory) }
 {
-    let mut copies = Vec::with_capacity(alloc, updates.len())?;
-    for update in updates {
-        copies.push(update.copy())?;
+    match list.form() {
+        Form::Plain(updates) => in_columns(alloc, updates.as_slice()),
+        Form::Packed(columns) => columns.to_columns(alloc),
     }
-    Ok(copies)
+}
+
+// Whether a time is beyond the lower frontier and passed by the upper one.
+fn lies_between<T: Lattice>(time: T, lower: &[T], upper: &[T]) -> bool
+    ensures { result ≡ is_between T.below lower.now upper.now time }
+{
+    is_beyond(lower, &time) && !is_beyond(upper, &time)
+}
+
+// Whether each update's time lies between the frontiers.
+fn is_list_between<T: Lattice>(list: &UpdateList<T>, lower: &[T], upper: &[T]) -> bool
+    ensures { result ≡ all_between T.below lower.now upper.now list.now }
+{
+    for i in 0..list.len() {
+        if !lies_between(list.time(i), lower, upper) {
+            return false;
+        }
+    }
+    true
+}
+
+// Whether the upper frontier is beyond the lower one, and each update's time is between them.
+fn is_list_interval<T: Lattice>(
+    list: &UpdateList<T>,
+    lower: &Antichain<T>,
+    upper: &Antichain<T>,
+) -> bool
+    ensures { result ≡ is_interval_of T.below lower.now upper.now list.now }
+{
+    upper.is_beyond(lower) && is_list_between(list, lower.elements(), upper.elements())
+}
+
+// Tells the prover that each time is at or after the least one. Costs nothing.
+fn known_list<T: Minimum>(list: &UpdateList<T>)
+    ensures { IsTrue (list_all (λ u. T.below T.least u.time) list.now) }
+{
+    for i in 0..list.len() {
+        list.time(i).known();
+    }
 }
 
 // Columns of the only sealed list that has the totals of these updates.
-fn sealed_columns<T: Lattice>(alloc: Global, updates: &[Update<T>]) -> Result<Columns<T>, Refusal>
+fn sealed_columns<T: Lattice>(alloc: Global, list: &UpdateList<T>) -> Result<Columns<T>, Refusal>
     ensures sealed { IfOk result (λ out. IsSealed T.cmp out) }
     ensures totals { IfOk result (λ out. (p : List ℤ → T → Bool)
-        → total_where p out ≡ total_where p updates.now) }
+        → total_where p out ≡ total_where p list.now) }
     ensures among { IfOk result (λ out. (p : List ℤ → T → Bool)
-        → IsTrue (list_all (λ u. p u.row u.time) updates.now)
+        → IsTrue (list_all (λ u. p u.row u.time) list.now)
         → IsTrue (list_all (λ u. p u.row u.time) out)) }
-    ensures size { IfOk result (λ out. size out ≤ size updates.now) }
-    ensures fits { OnOk result (HasLargeTotal T.below updates.now → ⊥) }
-    ensures overflow { result ≡ Err Refusal.Overflow → HasLargeTotal T.below updates.now }
+    ensures size { IfOk result (λ out. size out ≤ size list.now) }
+    ensures fits { OnOk result (HasLargeTotal T.below list.now → ⊥) }
+    ensures overflow { result ≡ Err Refusal.Overflow → HasLargeTotal T.below list.now }
     ensures only { IfErr result
         (λ refused. (refused ≡ Refusal.OutOfMemory) ⊎ (refused ≡ Refusal.Overflow)) }
 {
-    if are_sealed(updates) {
-        return in_columns(alloc, updates);
+    if is_sealed(list) {
+        return columns_of(alloc, list);
     }
-    let copies = copies_of(alloc, updates)?;
+    let copies = list.to_vec(alloc)?;
     let sealed = sealed_list(copies)?;
     in_columns(alloc, sealed.as_slice())
 }
 
-/// Seals updates that stay with their owner. The batch is that of a
-/// [`Builder`](crate::Builder) of this worker and node to which they were pushed, as
-/// [`Builder::seal`](crate::Builder::seal) makes it.
+/// Seals a list that stays with its owner. The batch is that of a [`Builder`](crate::Builder) of this
+/// worker and node to which its updates were pushed, as [`Builder::seal`](crate::Builder::seal) makes
+/// it.
 ///
 /// - [`Refusal::Stray`] if and only if `upper` is not beyond `lower`, or the time of an update is not
 ///   between them, even if another update cancels it.
@@ -105,12 +192,12 @@ fn sealed_columns<T: Lattice>(alloc: Global, updates: &[Update<T>]) -> Result<Co
 ///
 /// Cost: if the updates are in a batch's order, some comparisons of each with the one before it, one
 /// with each element of the frontiers, and a copy. Otherwise also n log n comparisons in their
-/// number.
-pub fn seal_slice<T: Minimum>(
+/// number. It does not matter in which form the list is.
+pub fn seal_list<T: Minimum>(
     alloc: Global,
     worker: usize,
     node: usize,
-    updates: &[Update<T>],
+    list: &UpdateList<T>,
     lower: &Antichain<T>,
     upper: &Antichain<T>,
 ) -> Result<Batch<T>, Refusal>
@@ -125,25 +212,25 @@ pub fn seal_slice<T: Minimum>(
     ensures between { IfOk result
         (λ batch. IsTrue (all_between T.below lower.now upper.now batch.updates)) }
     ensures totals { IfOk result (λ batch. (p : List ℤ → T → Bool)
-        → total_where p batch.updates ≡ total_where p updates.now) }
+        → total_where p batch.updates ≡ total_where p list.now) }
     ensures sums { IfOk result (λ batch. (t : T)
-        → Alike (as_of T.below t batch.updates) (as_of T.below t updates.now)) }
+        → Alike (as_of T.below t batch.updates) (as_of T.below t list.now)) }
     ensures among { IfOk result (λ batch. (p : List ℤ → T → Bool)
-        → IsTrue (list_all (λ u. p u.row u.time) updates.now)
+        → IsTrue (list_all (λ u. p u.row u.time) list.now)
         → IsTrue (list_all (λ u. p u.row u.time) batch.updates)) }
-    ensures size { IfOk result (λ batch. size batch.updates ≤ size updates.now) }
-    ensures fits { OnOk result (HasLargeTotal T.below updates.now → ⊥) }
+    ensures size { IfOk result (λ batch. size batch.updates ≤ size list.now) }
+    ensures fits { OnOk result (HasLargeTotal T.below list.now → ⊥) }
     ensures stray { (result ≡ Err Refusal.Stray)
-        ↔ (IsTrue (is_interval_of T.below lower.now upper.now updates.now) → ⊥) }
-    ensures overflow { result ≡ Err Refusal.Overflow → HasLargeTotal T.below updates.now }
+        ↔ (IsTrue (is_interval_of T.below lower.now upper.now list.now) → ⊥) }
+    ensures overflow { result ≡ Err Refusal.Overflow → HasLargeTotal T.below list.now }
     ensures only { IfErr result (λ refused. (refused ≡ Refusal.OutOfMemory)
         ⊎ ((refused ≡ Refusal.Stray) ⊎ (refused ≡ Refusal.Overflow))) }
 {
-    if !is_interval(updates, lower, upper) {
+    if !is_list_interval(list, lower, upper) {
         return Err(Refusal::Stray);
     }
-    let columns = sealed_columns(alloc, updates)?;
-    known_times(updates);
+    let columns = sealed_columns(alloc, list)?;
+    known_list(list);
     let description = unmoved(alloc, worker, node, lower, upper)?;
     Ok(Batch::of(description, columns))
 }

@@ -17,7 +17,7 @@
 //! at a time, but what happened to a key.
 //!
 //! - A [`Builder`] gathers updates in any order. It seals all of them between two frontiers, or
-//!   those that a frontier has passed, and then it keeps the others. [`seal_slice`] seals a list that
+//!   those that a frontier has passed, and then it keeps the others. [`seal_list`] seals a list that
 //!   stays with its owner.
 //! - A [`Batch`] has a [`Description`], which names its worker, its node and the interval that it
 //!   covers. It is read by index through [`BatchReader`], which is all that operators will know of
@@ -53,7 +53,7 @@ pub use description::Description;
 pub use laws::{
     compacted_rows_are_apart, sealed_lists_are_determined, seeks_find_the_rows_of_a_key,
 };
-pub use lent::seal_slice;
+pub use lent::seal_list;
 pub use merging::Merging;
 pub use reader::BatchReader;
 pub use whole_merge::merge;

@@ -2,13 +2,14 @@
 //! updates are in the right order.
 use crate::batches::sealed;
 use antichain::Antichain;
-use batch::{Batch, BatchReader, Builder, copy_runs, merge, seal_slice};
+use batch::{Batch, BatchReader, Builder, copy_runs, merge, seal_list};
+use columns::{Columns, UpdateList};
 use lattice::Bitime;
 use std::alloc::Global;
 use std::ops::Range;
 use std::process::Abort;
 use std::test::Fail;
-use trials::sketches::{at, list};
+use trials::sketches::{Change, at, list};
 use update::{Refusal, Update};
 
 // Checks that the batch has these updates, in this order.
@@ -168,61 +169,78 @@ fn sealing_what_is_passed_takes_memory(rt: HostRuntime) -> Result<(), Fail> {
 }
 
 // The batch of a list that stays, between (0, 0) and (6, 6).
-fn sealed_slice(alloc: Global, updates: &[Update<Bitime>]) -> Result<Batch<Bitime>, Refusal> {
+fn sealed_list(alloc: Global, list: &UpdateList<Bitime>) -> Result<Batch<Bitime>, Refusal> {
     let lower = Antichain::from_elem(alloc, at((0, 0)));
     let upper = Antichain::from_elem(alloc, at((6, 6)));
-    seal_slice(alloc, 0, 0, updates, &lower, &upper)
+    seal_list(alloc, 0, 0, list, &lower, &upper)
 }
 
-// A list in the order of a batch, and one of the same updates in another, one of them in two parts.
-fn two_slices(alloc: Global) -> Result<(Batch<Bitime>, Batch<Bitime>), Refusal> {
-    let ordered = list(
-        alloc,
-        &[((0, 5), &[7], 4), ((5, 0), &[7], 2), ((2, 0), &[7, 0], 4)],
-    )?;
-    let mixed = list(
-        alloc,
-        &[
-            ((2, 0), &[7, 0], 4),
-            ((5, 0), &[7], 2),
-            ((0, 5), &[7], 3),
-            ((0, 5), &[7], 1),
-        ],
-    )?;
-    Ok((sealed_slice(alloc, &ordered)?, sealed_slice(alloc, &mixed)?))
+// These changes column by column.
+fn packed(alloc: Global, changes: &[Change]) -> Result<UpdateList<Bitime>, Refusal> {
+    let mut columns = Columns::new(alloc);
+    columns.append(&list(alloc, changes)?)?;
+    match UpdateList::packed(alloc, columns) {
+        Ok(list) => Ok(list),
+        Err(_columns) => Err(Refusal::OutOfMemory),
+    }
 }
 
-// Both are sealed as one batch.
+// These changes, in the order of a batch.
+const ORDERED: &[Change] = &[((0, 5), &[7], 4), ((5, 0), &[7], 2), ((2, 0), &[7, 0], 4)];
+
+// The same in another order, one of them in two parts.
+const MIXED: &[Change] = &[
+    ((2, 0), &[7, 0], 4),
+    ((5, 0), &[7], 2),
+    ((0, 5), &[7], 3),
+    ((0, 5), &[7], 1),
+];
+
+// The batches of a plain list and of columns.
+fn two_lists(alloc: Global, changes: &[Change]) -> Result<(Batch<Bitime>, Batch<Bitime>), Refusal> {
+    let plain: UpdateList<Bitime> = list(alloc, changes)?.into();
+    let columns = packed(alloc, changes)?;
+    Ok((sealed_list(alloc, &plain)?, sealed_list(alloc, &columns)?))
+}
+
+// In either order and form they are sealed as one batch.
 #[test]
 fn sealing_lists_that_stay_takes_memory(rt: HostRuntime) -> Result<(), Fail> {
-    let (first, second) = match two_slices(rt.alloc()) {
-        Err(Refusal::OutOfMemory) => two_slices(rt.alloc())?,
-        done => done?,
-    };
-    for batch in [&first, &second] {
-        assert_eq!(rt; batch.len(), 3);
-        assert!(rt; batch.diff(0) == 4 && batch.diff(1) == 2 && batch.diff(2) == 4);
-        assert!(rt; batch.time(0) == at((0, 5)) && batch.time(1) == at((5, 0)));
-        assert_eq!(rt; batch.row(2).columns(), [7, 0].as_slice());
+    for changes in [ORDERED, MIXED] {
+        let (first, second) = match two_lists(rt.alloc(), changes) {
+            Err(Refusal::OutOfMemory) => two_lists(rt.alloc(), changes)?,
+            done => done?,
+        };
+        for batch in [&first, &second] {
+            assert_eq!(rt; batch.len(), 3);
+            assert!(rt; batch.diff(0) == 4 && batch.diff(1) == 2 && batch.diff(2) == 4);
+            assert!(rt; batch.time(0) == at((0, 5)) && batch.time(1) == at((5, 0)));
+            assert_eq!(rt; batch.row(2).columns(), [7, 0].as_slice());
+        }
     }
     Ok(())
+}
+
+// How both forms of these changes are refused.
+fn refused(alloc: Global, changes: &[Change], with: &Refusal) -> Result<bool, Refusal> {
+    let plain: UpdateList<Bitime> = list(alloc, changes)?.into();
+    let columns = packed(alloc, changes)?;
+    let first = sealed_list(alloc, &plain);
+    let second = sealed_list(alloc, &columns);
+    Ok(matches!(first, Err(by) if by == *with) && matches!(second, Err(by) if by == *with))
 }
 
 // Memory is ample here, so a total that is too large is not told as want of memory. A difference of 0
 // is not sealed.
 #[test]
 fn lists_that_stay_are_refused_as_others_are(rt: HostRuntime) -> Result<(), Fail> {
-    let outside = list(rt.alloc(), &[((6, 6), &[7], 1)])?;
-    let refused = sealed_slice(rt.alloc(), &outside);
-    assert!(rt; matches!(refused, Err(Refusal::Stray)));
-    let large = list(
-        rt.alloc(),
-        &[((0, 0), &[7], 9223372036854775807), ((0, 0), &[7], 1)],
-    )?;
-    let refused = sealed_slice(rt.alloc(), &large);
-    assert!(rt; matches!(refused, Err(Refusal::Overflow)));
-    let nothing = list(rt.alloc(), &[((0, 0), &[7], 0)])?;
-    assert_eq!(rt; sealed_slice(rt.alloc(), &nothing)?.len(), 0);
+    let outside: &[Change] = &[((6, 6), &[7], 1)];
+    assert!(rt; refused(rt.alloc(), outside, &Refusal::Stray)?);
+    let large: &[Change] = &[((0, 0), &[7], 9223372036854775807), ((0, 0), &[7], 1)];
+    assert!(rt; refused(rt.alloc(), large, &Refusal::Overflow)?);
+    let nothing: &[Change] = &[((0, 0), &[7], 0)];
+    let (plain, columns) = two_lists(rt.alloc(), nothing)?;
+    assert!(rt; plain.len() == 0 && columns.len() == 0);
     Ok(())
 }
 

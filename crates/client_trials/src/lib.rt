@@ -1,5 +1,9 @@
-//! Tests of the clients of a session, by public calls alone. No caller but them knows what stands here.
+//! Tests of sessions and their clients, by public calls alone. No caller but them knows what stands here.
 #![tactic(auto)]
 
 #[cfg(test)]
+mod caller;
+#[cfg(test)]
 mod client_tests;
+#[cfg(test)]
+mod session_tests;

@@ -35,6 +35,15 @@ impl Column {
         Ok(Column { items })
     }
 
+    /// A copy, with no more memory than it needs. Refused only with `OutOfMemory`.
+    pub(crate) fn copy(&self, alloc: Global) -> Result<Column, Refusal>
+        ensures copied { IfOk result (λ copy. copy ≡ self.now) }
+        ensures refused { IfErr result (λ refusal. refusal ≡ OutOfMemory) }
+    {
+        let items = Vec::from_slice(alloc, self.items.as_slice())?;
+        Ok(Column { items })
+    }
+
     /// Puts an item at a place, and drops what stood from there on. Refused only with
     /// `OutOfMemory`.
     pub(crate) fn put(&mut self, place: usize, item: i64) -> Result<(), Refusal>

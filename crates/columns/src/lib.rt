@@ -33,4 +33,4 @@ mod seeking;
 mod table;
 
 pub use columns::Columns;
-pub use list::UpdateList;
+pub use list::{Form, UpdateList};

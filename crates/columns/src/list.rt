@@ -5,9 +5,10 @@
 //! half the memory or less while they wait. A list has one of the two forms, and a contract sees
 //! neither. A caller that wants the updates one by one asks for a vector: that copies a list of
 //! columns, and moves any other one. A caller that collects columns gets a list of columns without a
-//! copy if it has none yet.
+//! copy if it has none yet. One that reads a list without taking it looks at its form.
 ghost use Rattle.std.specs.Prelude.{◌≡◌, ◌<◌, ◌++◌, length, slice_get, IfErr, IfOk, IsSomeAnd, OnErr, OnOk};
 ghost use Rattle.update.specs.declared.refusal.Refusal.TheVariants.{OutOfMemory};
+ghost use Rattle.columns.specs.Lists.{listed};
 
 use crate::columns::Columns;
 use lattice::Lattice;
@@ -16,12 +17,12 @@ use std::marker::Model;
 use std::mem;
 use update::{Refusal, Update};
 
-// The form of a list.
+/// The form of a list.
 #[derive(Drop)]
-pub(crate) enum Form<T> {
-    // One by one, each with its row.
+pub enum Form<T> {
+    /// One by one, each with its row.
     Plain(Vec<Update<T>>),
-    // Column by column. They lie behind a box, so that a short list takes no more room.
+    /// Column by column. They lie behind a box, so that a short list takes no more room.
     Packed(Box<Columns<T>>),
 }
 
@@ -59,6 +60,13 @@ impl<T: Lattice> UpdateList<T> {
             }),
             Err(refused) => Err(refused.value),
         }
+    }
+
+    /// The form of the list, for one who reads it as it stands. Takes no memory.
+    pub fn form(&self) -> &Form<T>
+        ensures { listed result.now ≡ self.now }
+    {
+        &self.form
     }
 
     /// The number of updates. Takes no memory.
@@ -112,7 +120,7 @@ impl<T: Lattice> UpdateList<T> {
 
     /// A copy, in the same form. Refused only with `OutOfMemory`.
     ///
-    /// Cost: one step for each column of each row.
+    /// Cost: linear in the updates. Columns are copied as they stand.
     pub fn copy(&self, alloc: Global) -> Result<UpdateList<T>, Refusal>
         ensures copied { IfOk result (λ copy. copy ≡ self.now) }
         ensures refused { IfErr result (λ refusal. refusal ≡ OutOfMemory) }
@@ -174,8 +182,7 @@ fn packed_copy<T: Lattice>(alloc: Global, columns: &Columns<T>) -> Result<Update
     ensures copied { IfOk result (λ copy. copy ≡ columns.now) }
     ensures refused { IfErr result (λ refusal. refusal ≡ OutOfMemory) }
 {
-    let mut copy = Columns::new(alloc);
-    copy.append_columns(columns)?;
+    let copy = columns.to_columns(alloc)?;
     match UpdateList::packed(alloc, copy) {
         Ok(list) => Ok(list),
         Err(_copy) => Err(Refusal::OutOfMemory),

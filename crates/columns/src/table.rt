@@ -77,6 +77,18 @@ fn put_row(columns: &mut Vec<Column>, height: usize, row: &[i64]) -> Result<(), 
     Ok(())
 }
 
+// Copies of columns. Refused only with `OutOfMemory`.
+fn copies_of(alloc: Global, columns: &[Column]) -> Result<Vec<Column>, Refusal>
+    ensures copied { IfOk result (λ copies. copies.items ≡ columns.now) }
+    ensures refused { IfErr result (λ refusal. refusal ≡ OutOfMemory) }
+{
+    let mut copies = Vec::with_capacity(alloc, columns.len())?;
+    for column in columns {
+        copies.push(column.copy(alloc)?)?;
+    }
+    Ok(copies)
+}
+
 // Gives memory back where no more than a quarter of it is used.
 fn shrink_columns(columns: &mut Vec<Column>)
     ensures { columns.new.items ≡ columns.old.items }
@@ -108,6 +120,16 @@ impl Table {
             columns: Vec::new(alloc),
             widths,
         })
+    }
+
+    /// A copy of all rows, with no more memory than they need. Refused only with `OutOfMemory`.
+    pub(crate) fn copy(&self, alloc: Global) -> Result<Table, Refusal>
+        ensures copied { IfOk result (λ copy. copy ≡ self.now) }
+        ensures refused { IfErr result (λ refusal. refusal ≡ OutOfMemory) }
+    {
+        let columns = copies_of(alloc, self.columns.as_slice())?;
+        let widths = Vec::from_slice(alloc, self.widths.as_slice())?;
+        Ok(Table { columns, widths })
     }
 
     /// The number of rows. Takes no memory.

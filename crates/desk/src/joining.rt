@@ -49,35 +49,31 @@ fn next_end<T: Minimum>(
     antichain_of(alloc, end)
 }
 
-// Pairs a bundle that came at the left port with all that was taken at the right one. Its list is lent:
-// the bundle has it still. `_start` is not used: generic code with a local antichain needs the type in
+// Pairs a bundle that came at the left port with all that was taken at the right one. Its list is lent.
+// `_start` is not used: generic code with a local antichain needs the type in
 // its signature.
 fn pair_left<T: Minimum>(
     alloc: Global,
     _start: &Antichain<T>,
     arrangements: &Vec<Option<Arrangement<T>>>,
     joining: &mut Joining<T>,
-    list: &mut UpdateList<T>,
+    list: &UpdateList<T>,
     left: NodeId,
     right: NodeId,
 ) -> Result<Vec<Update<T>>, Refusal>
     requires next { IsNextAt T.below T.least 0 arrangements.now.items left right joining.old
-        list.old }
+        list.now }
     ensures paired { IfOk result (λ out. IsPaired T.below T.least T.joined T.cmp 0
-        arrangements.now.items left right joining.old list.old out.items joining.new) }
+        arrangements.now.items left right joining.old list.now out.items joining.new) }
     ensures same { OnErr result (joining.new ≡ joining.old) }
-    ensures left { list.new ≡ list.old }
     ensures refused { IfErr result (IsMemoryOrOverflow (ArePairsLarge T.below T.least 0
-        arrangements.now.items right joining.old list.old)) }
+        arrangements.now.items right joining.old list.now)) }
 {
     joining.known();
     let source = arrangement_at(arrangements, left);
     let end = next_end(alloc, source, joining.left())?;
-    let updates = list.take_vec(alloc)?;
     let other = arrangement_at(arrangements, right);
-    let pairs = joining.take_left(alloc, updates.as_slice(), &end, other.trace());
-    *list = updates.into();
-    pairs
+    joining.take_left(alloc, list, &end, other.trace())
 }
 
 // Pairs a bundle that came at the right port with all that was taken at the left one. `_start` is not
@@ -87,27 +83,23 @@ fn pair_right<T: Minimum>(
     _start: &Antichain<T>,
     arrangements: &Vec<Option<Arrangement<T>>>,
     joining: &mut Joining<T>,
-    list: &mut UpdateList<T>,
+    list: &UpdateList<T>,
     left: NodeId,
     right: NodeId,
 ) -> Result<Vec<Update<T>>, Refusal>
     requires next { IsNextAt T.below T.least 1 arrangements.now.items right left joining.old
-        list.old }
+        list.now }
     ensures paired { IfOk result (λ out. IsPaired T.below T.least T.joined T.cmp 1
-        arrangements.now.items right left joining.old list.old out.items joining.new) }
+        arrangements.now.items right left joining.old list.now out.items joining.new) }
     ensures same { OnErr result (joining.new ≡ joining.old) }
-    ensures left { list.new ≡ list.old }
     ensures refused { IfErr result (IsMemoryOrOverflow (ArePairsLarge T.below T.least 1
-        arrangements.now.items left joining.old list.old)) }
+        arrangements.now.items left joining.old list.now)) }
 {
     joining.known();
     let source = arrangement_at(arrangements, right);
     let end = next_end(alloc, source, joining.right())?;
-    let updates = list.take_vec(alloc)?;
     let other = arrangement_at(arrangements, left);
-    let pairs = joining.take_right(alloc, updates.as_slice(), &end, other.trace());
-    *list = updates.into();
-    pairs
+    joining.take_right(alloc, list, &end, other.trace())
 }
 
 impl<T: Minimum> Desk<T> {
@@ -116,19 +108,18 @@ impl<T: Minimum> Desk<T> {
         &mut self,
         alloc: Global,
         node: NodeId,
-        list: &mut UpdateList<T>,
+        list: &UpdateList<T>,
         left: NodeId,
         right: NodeId,
     ) -> Result<Vec<Update<T>>, Refusal>
         requires next { (j : JoiningView T) × (slice_get self.old.joins node ≡ Some (Some j))
-            × IsNextAt T.below T.least 0 self.old.arrangements left right j list.old }
+            × IsNextAt T.below T.least 0 self.old.arrangements left right j list.now }
         ensures joined { IfOk result (λ out. IsJoinedWith T.below T.least T.joined T.cmp 0
-            node left right list.old out.items self.old self.new) }
+            node left right list.now out.items self.old self.new) }
         ensures same { OnErr result (self.new ≡ self.old) }
-        ensures left { list.new ≡ list.old }
         ensures refused { IfErr result (IsMemoryOrOverflow ((j : JoiningView T)
             → slice_get self.old.joins node ≡ Some (Some j)
-            → ArePairsLarge T.below T.least 0 self.old.arrangements right j list.old)) }
+            → ArePairsLarge T.below T.least 0 self.old.arrangements right j list.now)) }
     {
         match &mut self.joins[node.number()] {
             Some(joining) => {
@@ -144,19 +135,18 @@ impl<T: Minimum> Desk<T> {
         &mut self,
         alloc: Global,
         node: NodeId,
-        list: &mut UpdateList<T>,
+        list: &UpdateList<T>,
         left: NodeId,
         right: NodeId,
     ) -> Result<Vec<Update<T>>, Refusal>
         requires next { (j : JoiningView T) × (slice_get self.old.joins node ≡ Some (Some j))
-            × IsNextAt T.below T.least 1 self.old.arrangements right left j list.old }
+            × IsNextAt T.below T.least 1 self.old.arrangements right left j list.now }
         ensures joined { IfOk result (λ out. IsJoinedWith T.below T.least T.joined T.cmp 1
-            node right left list.old out.items self.old self.new) }
+            node right left list.now out.items self.old self.new) }
         ensures same { OnErr result (self.new ≡ self.old) }
-        ensures left { list.new ≡ list.old }
         ensures refused { IfErr result (IsMemoryOrOverflow ((j : JoiningView T)
             → slice_get self.old.joins node ≡ Some (Some j)
-            → ArePairsLarge T.below T.least 1 self.old.arrangements left j list.old)) }
+            → ArePairsLarge T.below T.least 1 self.old.arrangements left j list.now)) }
     {
         match &mut self.joins[node.number()] {
             Some(joining) => {
@@ -168,31 +158,30 @@ impl<T: Minimum> Desk<T> {
     }
 
     // The pairs of a bundle with all that a join has taken at its other port. The join has then taken
-    // up to where the batch ends that the bundle was. The bundle stays as it is, so that it can be taken
+    // up to where the batch ends that the bundle was. The bundle is lent, so that it can be taken
     // again. If it is refused, then nothing has changed.
     pub(crate) fn join(
         &mut self,
         alloc: Global,
         plan: &Plan,
-        bundle: &mut Bundle<T>,
+        bundle: &Bundle<T>,
         more: bool,
         left: NodeId,
         right: NodeId,
     ) -> Result<Vec<Update<T>>, Refusal>
         requires someones { IsSomeones T.below T.joined T.least plan.now self.old
-            (Taken bundle.old more) }
-        requires joins { node_at plan.now bundle.old.place.node ≡ Join left right }
+            (Taken bundle.now more) }
+        requires joins { node_at plan.now bundle.now.place.node ≡ Join left right }
         ensures leads { IfOk result (λ out. Leads T.below T.joined T.least plan.now
-            self.old (Taken bundle.old more) self.new (Ready bundle.old.place.node out.items)) }
+            self.old (Taken bundle.now more) self.new (Ready bundle.now.place.node out.items)) }
         ensures same { OnErr result (self.new ≡ self.old) }
-        ensures left { bundle.new ≡ bundle.old }
         ensures refused { IfErr result (IsMemoryOrOverflow (IsTooLarge T.below T.joined T.least T.cmp
-            plan.now self.old (Taken bundle.old more))) }
+            plan.now self.old (Taken bundle.now more))) }
     {
         let node = bundle.place.node;
         if bundle.place.port == 0 {
-            return self.join_left(alloc, node, &mut bundle.updates, left, right);
+            return self.join_left(alloc, node, &bundle.updates, left, right);
         }
-        self.join_right(alloc, node, &mut bundle.updates, left, right)
+        self.join_right(alloc, node, &bundle.updates, left, right)
     }
 }

@@ -100,43 +100,21 @@ impl<T: Minimum> Desk<T> {
         }
     }
 
-    // A reduction takes updates: their times are pending from then on. Nothing else on the desk
-    // changes.
-    fn reduce(&mut self, alloc: Global, node: NodeId, updates: &[Update<T>]) -> Result<(), Refusal>
+    // A reduction takes the updates of a list, which is lent: their times are pending from then on.
+    // Nothing else on the desk changes.
+    fn reduce(&mut self, alloc: Global, node: NodeId, list: &UpdateList<T>) -> Result<(), Refusal>
         requires there { (r : ReducingView T) × (slice_get self.old.reductions node ≡ Some (Some r))
-            × IsTrue (have_width r.width updates.now) }
-        requires later { IsTrue (all_beyond T.below (T.least ∷ []) (times updates.now)) }
+            × IsTrue (have_width r.width list.now) }
+        requires later { IsTrue (all_beyond T.below (T.least ∷ []) (times list.now)) }
         ensures reduced { OnOk result
-            (IsReducedWith T.below T.joined T.least node updates.now self.old self.new) }
+            (IsReducedWith T.below T.joined T.least node list.now self.old self.new) }
         ensures same { OnErr result (self.new ≡ self.old) }
-        ensures refused { IfErr result (IsMemoryOrOverflow (2 ^ 63 ≤ size updates.now)) }
+        ensures refused { IfErr result (IsMemoryOrOverflow (2 ^ 63 ≤ size list.now)) }
     {
         match &mut self.reductions[node.number()] {
-            Some(reduction) => reduction.take(alloc, &self.start, updates),
+            Some(reduction) => reduction.take(alloc, &self.start, list),
             None => unreachable!(),
         }
-    }
-
-    // A reduction takes the updates of a list. It is lent: its owner has it still.
-    fn reduce_list(
-        &mut self,
-        alloc: Global,
-        node: NodeId,
-        list: &mut UpdateList<T>,
-    ) -> Result<(), Refusal>
-        requires there { (r : ReducingView T) × (slice_get self.old.reductions node ≡ Some (Some r))
-            × IsTrue (have_width r.width list.old) }
-        requires later { IsTrue (all_beyond T.below (T.least ∷ []) (times list.old)) }
-        ensures reduced { OnOk result
-            (IsReducedWith T.below T.joined T.least node list.old self.old self.new) }
-        ensures same { OnErr result (self.new ≡ self.old) }
-        ensures left { list.new ≡ list.old }
-        ensures refused { IfErr result (IsMemoryOrOverflow (2 ^ 63 ≤ size list.old)) }
-    {
-        let updates = list.take_vec(alloc)?;
-        let taken = self.reduce(alloc, node, updates.as_slice());
-        *list = updates.into();
-        taken
     }
 
     // Lays what a bundle makes on the desk, at a node that is no join. If it is refused, then nothing
@@ -162,7 +140,7 @@ impl<T: Minimum> Desk<T> {
         let operator = plan.node(node);
         match operator {
             Node::Arrange { .. } => self.arrange(alloc, node, &mut bundle.updates),
-            Node::Reduce { .. } => self.reduce_list(alloc, node, &mut bundle.updates),
+            Node::Reduce { .. } => self.reduce(alloc, node, &bundle.updates),
             _ => self.gather(alloc, operator, node, &mut bundle.updates),
         }
     }

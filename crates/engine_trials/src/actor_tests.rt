@@ -4,9 +4,8 @@
 ghost use Rattle.std.specs.Prelude.{◌≡◌, ◌∷◌, [], ℕ, None, IfOk};
 ghost use Rattle.plan.specs.declared.node.Node.TheVariants.{Input, Output};
 ghost use Rattle.hub.specs.Known.{Known};
-ghost use Rattle.histories.specs.declared.event.Event.TheVariants.{Look};
 ghost use Rattle.shared_board.specs.declared.event.Doing.{Doing};
-ghost use Rattle.shared_board.specs.Tenures.{Adds, IsActor, IsFirst, Terms, state_left, terms_for, terms_in};
+ghost use Rattle.shared_board.specs.Tenures.{IsActor, IsFirst, Terms, state_left, terms_for, terms_in};
 
 use antichain::Antichain;
 use lattice::{Bitime, Minimum};
@@ -90,9 +89,6 @@ fn looks_take_nothing_in_hand<T: Minimum>()
     ensures first { (t : Terms) (k : ℕ) (a : Known (Doing T)) → IsFirst t k a
         → IsActor T.below T.least a
         → (state_left T.below T.least a).hand a.number ≡ None }
-    ensures again { (a b : Known (Doing T)) → Adds a (Look a.number) b → IsActor T.below T.least b
-        → (state_left T.below T.least a).hand a.number ≡ None
-        → (state_left T.below T.least b).hand b.number ≡ None }
 {
     others_change_nothing_of_a_worker::<T>();
 }
@@ -119,38 +115,11 @@ impl<T: Minimum> Model for Idle<T> {
         × ((state_left T.below T.least w.actor).hand w.actor.number ≡ None) };
 }
 
-// What a worker finds: a bundle, which it has in hand from then on, with whether more wait, or
-// nothing.
-#[derive(Drop)]
-enum Found<T: Minimum> {
-    Something(Bundle<T>, bool),
-    Nothing(Idle<T>),
-}
-
 impl<T: Minimum> Idle<T> {
-    // Takes the first bundle at the input.
-    fn take<R: Wait>(self, rt: &R) -> Result<Found<T>, Refusal> {
-        looks_take_nothing_in_hand::<T>();
-        let Idle { mut actor } = self;
-        match actor.take_first(rt, NodeId::new(0))? {
-            Some((bundle, more)) => Ok(Found::Something(bundle, more)),
-            None => {
-                actor.known();
-                Ok(Found::Nothing(Idle { actor }))
-            }
-        }
-    }
-
     // Takes a piece if the board is there.
     fn try_take(self, pick: usize) -> Option<Result<Taken<T>, Refusal>> {
         let Idle { mut actor } = self;
         actor.try_take_piece(pick)
-    }
-
-    // Turns to what it holds at the input.
-    fn turn<R: Wait>(self, rt: &R) -> Result<Option<Antichain<T>>, Refusal> {
-        let Idle { mut actor } = self;
-        actor.turn(rt, NodeId::new(0))
     }
 }
 
@@ -241,38 +210,40 @@ fn actors_take_memory(rt: HostRuntime) -> Result<(), Fail> {
     Ok(())
 }
 
-// The worker holds nothing before it took something. So there is nothing to turn to.
-fn turned<T: Minimum, R: Wait>(rt: &R, alloc: Global) -> Result<Option<Antichain<T>>, Refusal> {
-    let (worker, _client) = opened(rt, alloc)?;
-    worker.turn(rt)
+// What the worker gets that asks for the piece of a number after the client has fed changes at these
+// times. Nobody else is at the board then.
+fn is_tried<T: Minimum, R: Wait + Abort>(
+    rt: &R,
+    alloc: Global,
+    times: &[T],
+    pick: usize,
+) -> Result<Taken<T>, Refusal> {
+    let (worker, mut client) = opened(rt, alloc)?;
+    for time in times {
+        client.feed(rt, alloc, *time)?;
+    }
+    let Some(taken) = worker.try_take(pick) else {
+        panic!(rt; "nobody else has the board")
+    };
+    taken
 }
 
-// The worker finds nothing at the input until the client has fed changes at these times. Then it
-// takes the first, and hears whether more wait.
+// A worker that is given a bundle, with whether more wait.
 fn is_taken<T: Minimum, R: Wait + Abort>(
     rt: &R,
     alloc: Global,
     times: &[T],
 ) -> Result<(Bundle<T>, bool), Refusal> {
-    let (worker, mut client) = opened(rt, alloc)?;
-    let Found::Nothing(worker) = worker.take(rt)? else {
-        panic!(rt; "a bundle waits before the client fed anything")
-    };
-    for time in times {
-        client.feed(rt, alloc, *time)?;
+    match is_tried(rt, alloc, times, 0)? {
+        Taken::Bundled { bundle, more } => Ok((bundle, more)),
+        _ => panic!(rt; "no bundle waits after the client fed a change"),
     }
-    let Found::Something(bundle, more) = worker.take(rt)? else {
-        panic!(rt; "no bundle waits after the client fed a change")
-    };
-    Ok((bundle, more))
 }
 
 // The clauses tell what a worker takes from the history that it has seen. No clause says that this
 // history has what the client did: an actor that is refused each time meets its contract.
 #[test]
 fn a_worker_takes_what_a_client_fed(rt: HostRuntime) -> Result<(), Fail> {
-    let upper: Option<Antichain<Bitime>> = turned(&rt, rt.alloc())?;
-    assert!(rt; upper.is_none());
     let (bundle, more) = is_taken(&rt, rt.alloc(), &[at(0, 0)])?;
     assert!(rt; !more);
     let place = bundle.place;
@@ -295,24 +266,6 @@ fn a_worker_hears_that_more_waits(rt: HostRuntime) -> Result<(), Fail> {
     assert!(rt; more);
     assert!(rt; bundle.stamp.as_slice() == [at(0, 1)].as_slice());
     Ok(())
-}
-
-// What the worker gets that asks for the piece of a number after the client has fed changes at these
-// times. Nobody else is at the board then.
-fn is_tried<T: Minimum, R: Wait + Abort>(
-    rt: &R,
-    alloc: Global,
-    times: &[T],
-    pick: usize,
-) -> Result<Taken<T>, Refusal> {
-    let (worker, mut client) = opened(rt, alloc)?;
-    for time in times {
-        client.feed(rt, alloc, *time)?;
-    }
-    let Some(taken) = worker.try_take(pick) else {
-        panic!(rt; "nobody else has the board")
-    };
-    taken
 }
 
 // No clause says that what was fed waits, or that a worker who comes alone finds the board.

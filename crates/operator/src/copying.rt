@@ -1,5 +1,6 @@
-//! A copy of a batch, as it goes to those who read its node: one plain list. Those who read it turn to it
-//! at once, and want a list.
+//! A copy of a batch, as it goes to those who read its node. A long one goes column by column, as it
+//! stands in the batch: so it takes half the memory or less until the last of them has read it. A short
+//! one is a plain list, which is one block.
 ghost use Rattle.std.specs.Prelude.{◌≡◌, IfErr, IfOk};
 ghost use Rattle.update.specs.declared.refusal.Refusal.TheVariants.{OutOfMemory};
 
@@ -9,10 +10,11 @@ use lattice::Lattice;
 use std::alloc::Global;
 use update::Refusal;
 
-/// A copy of the updates of a batch, as a plain list. Refused only with `OutOfMemory`.
-///
-/// Cost: linear in the updates.
-pub fn updates_of<T: Lattice>(alloc: Global, batch: &Batch<T>) -> Result<UpdateList<T>, Refusal>
+// A copy of so many updates goes column by column.
+const MANY: usize = 64;
+
+// A copy of the updates of a batch, one by one.
+fn plain_copy<T: Lattice>(alloc: Global, batch: &Batch<T>) -> Result<UpdateList<T>, Refusal>
     ensures same { IfOk result (λ list. list ≡ batch.now.updates) }
     ensures refused { IfErr result (λ refusal. refusal ≡ OutOfMemory) }
 {
@@ -20,4 +22,29 @@ pub fn updates_of<T: Lattice>(alloc: Global, batch: &Batch<T>) -> Result<UpdateL
     let mut list = Vec::with_capacity(alloc, batch.len())?;
     copy_runs(&mut list, batch, 0..runs)?;
     Ok(list.into())
+}
+
+// A copy of the updates of a batch, column by column.
+fn packed_copy<T: Lattice>(alloc: Global, batch: &Batch<T>) -> Result<UpdateList<T>, Refusal>
+    ensures same { IfOk result (λ list. list ≡ batch.now.updates) }
+    ensures refused { IfErr result (λ refusal. refusal ≡ OutOfMemory) }
+{
+    let columns = batch.columns().to_columns(alloc)?;
+    match UpdateList::packed(alloc, columns) {
+        Ok(list) => Ok(list),
+        Err(_columns) => Err(Refusal::OutOfMemory),
+    }
+}
+
+/// A copy of the updates of a batch. Refused only with `OutOfMemory`.
+///
+/// Cost: linear in the updates. A long list is copied column by column: no row is made.
+pub fn updates_of<T: Lattice>(alloc: Global, batch: &Batch<T>) -> Result<UpdateList<T>, Refusal>
+    ensures same { IfOk result (λ list. list ≡ batch.now.updates) }
+    ensures refused { IfErr result (λ refusal. refusal ≡ OutOfMemory) }
+{
+    if batch.len() < MANY {
+        return plain_copy(alloc, batch);
+    }
+    packed_copy(alloc, batch)
 }

@@ -24,7 +24,8 @@ ghost use Rattle.operator.specs.Joins.{IsSide, IsBatchOf, IsFitting};
 
 use crate::frontier::antichain_of;
 use antichain::Antichain;
-use batch::{Batch, seal_slice};
+use batch::{Batch, seal_list};
+use columns::UpdateList;
 use join::JoinState;
 use lattice::{Lattice, Minimum};
 use spine::Spine;
@@ -75,7 +76,7 @@ fn least_time<T: Minimum>(alloc: Global) -> Result<Vec<T>, Refusal>
 // The batch of these updates between two frontiers. A join asks for no worker and no node.
 fn sealed_between<T: Minimum>(
     alloc: Global,
-    updates: &[Update<T>],
+    updates: &UpdateList<T>,
     lower: &[T],
     upper: &Antichain<T>,
 ) -> Result<Batch<T>, Refusal>
@@ -87,7 +88,7 @@ fn sealed_between<T: Minimum>(
     ensures refused { IfErr result (IsMemoryOrOverflow (2 ^ 63 ≤ size updates.now)) }
 {
     let from = antichain_of(alloc, lower)?;
-    seal_slice(alloc, 0, 0, updates, &from, upper)
+    seal_list(alloc, 0, 0, updates, &from, upper)
 }
 
 impl<T: Minimum> Joining<T> {
@@ -185,12 +186,12 @@ impl<T: Minimum> Joining<T> {
     ///   the right side has acknowledged, is at least 2^63.
     /// - [`Refusal::OutOfMemory`] only if memory was refused: for pairs, or for frontiers.
     ///
-    /// Cost: as for [`seal_slice`], and then as [`JoinState::take_left`]. Updates that an arrangement gave
+    /// Cost: as for [`seal_list`], and then as [`JoinState::take_left`]. Updates that an arrangement gave
     /// are not sorted again.
     pub fn take_left(
         &mut self,
         alloc: Global,
-        updates: &[Update<T>],
+        updates: &UpdateList<T>,
         upper: &Antichain<T>,
         right: &Spine<T>,
     ) -> Result<Vec<Update<T>>, Refusal>
@@ -231,7 +232,7 @@ impl<T: Minimum> Joining<T> {
     pub fn take_right(
         &mut self,
         alloc: Global,
-        updates: &[Update<T>],
+        updates: &UpdateList<T>,
         upper: &Antichain<T>,
         left: &Spine<T>,
     ) -> Result<Vec<Update<T>>, Refusal>

@@ -27,15 +27,15 @@ ghost use Rattle.operator.specs.Reductions.{HasRoom, StandIn, SumsToReceived, Is
 
 use crate::frontier::put_in_all;
 use antichain::Antichain;
-use batch::{Batch, seal_slice};
-use columns::Columns;
+use batch::{Batch, seal_list};
+use columns::{Columns, UpdateList};
 use lattice::Minimum;
 use plan::Kind;
 use reduce::ReduceState;
 use spine::Spine;
 use std::alloc::Global;
 use std::marker::Model;
-use update::{Refusal, Update};
+use update::Refusal;
 
 /// A reduction at one worker. A contract sees the state of the reduction, by how many columns the
 /// plan reduces, and how many columns the rows have that it takes.
@@ -75,7 +75,7 @@ fn columns_of(kind: Kind, key: usize, width: usize) -> usize
 fn sealed<T: Minimum>(
     alloc: Global,
     start: &Antichain<T>,
-    updates: &[Update<T>],
+    updates: &UpdateList<T>,
 ) -> Result<Batch<T>, Refusal>
     requires start { start.now ≡ T.least ∷ [] }
     requires later { IsTrue (all_beyond T.below (T.least ∷ []) (times updates.now)) }
@@ -85,7 +85,7 @@ fn sealed<T: Minimum>(
     ensures refused { IfErr result (IsMemoryOrOverflow (2 ^ 63 ≤ size updates.now)) }
 {
     let end = Antichain::new(alloc);
-    seal_slice(alloc, 0, 0, updates, start, &end)
+    seal_list(alloc, 0, 0, updates, start, &end)
 }
 
 impl<T: Minimum> Reducing<T> {
@@ -143,13 +143,13 @@ impl<T: Minimum> Reducing<T> {
     /// - [`Refusal::OutOfMemory`] only if memory for the times, or for the histories of the keys,
     ///   was refused.
     ///
-    /// Cost: as for [`seal_slice`]; for each of their keys that of [`ReduceState::take`]. Updates that an
+    /// Cost: as for [`seal_list`]; for each of their keys that of [`ReduceState::take`]. Updates that an
     /// arrangement gave are not sorted again.
     pub fn take(
         &mut self,
         alloc: Global,
         start: &Antichain<T>,
-        updates: &[Update<T>],
+        updates: &UpdateList<T>,
     ) -> Result<(), Refusal>
         requires start { start.now ≡ T.least ∷ [] }
         requires later { IsTrue (all_beyond T.below (T.least ∷ []) (times updates.now)) }

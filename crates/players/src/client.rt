@@ -1,8 +1,8 @@
-//! The client of a board, who knows the plan.
+//! The client of a session, who knows the plan.
 //!
 //! Its calls ask for a node that is an input or a view. That is tested here, so a test need not be
-//! proved to name one: any other node is refused with `UnknownName`. All else is as the actor answers it
-//! ([`shared_board::Actor`]): one tenure for each call, for which it waits.
+//! proved to name one: any other node is refused with `UnknownName`. All else is as the session's client
+//! answers it ([`session::Client`]): one tenure for each call, for which it waits.
 ghost use Rattle.std.specs.Prelude.{◌≡◌, ◌≤◌, ◌<◌, IsTrue, length};
 ghost use Rattle.std.specs.Bool.{OnTrue};
 ghost use Rattle.plan.specs.Nodes.{is_input, is_output, node_at};
@@ -11,17 +11,20 @@ ghost use Rattle.shared_board.specs.Tenures.{terms_in};
 use antichain::Antichain;
 use lattice::Minimum;
 use plan::{NodeId, Plan};
-use shared_board::{Actor, BoardProtocol};
+use session::Client as Caller;
+use shared_board::BoardProtocol;
+use std::alloc::Global;
 use std::sync::Wait;
-use update::{Bag, Refusal, Times, Update};
+use update::{Bag, Refusal, Update};
 
-/// The client of a board.
+/// The client of a session. It makes each call by the twin that waits, or by the one that does not.
 #[derive(Drop)]
 pub struct Client<T: Minimum, P: BoardProtocol<T>> {
-    actor: Actor<T, P>,
+    alloc: Global,
+    client: Caller<T, P>,
     plan: Plan,
-    ghost knows: { (terms_in actor.seen).dataflow.nodes ≡ plan },
-    ghost client: { (terms_in actor.seen).dataflow.workers ≤ actor.number },
+    waits: bool,
+    ghost knows: { (terms_in client.seen).dataflow.nodes ≡ plan },
 }
 
 // Whether the node is an input of the plan.
@@ -39,12 +42,21 @@ fn is_view(plan: &Plan, id: NodeId) -> bool
 }
 
 impl<T: Minimum, P: BoardProtocol<T>> Client<T, P> {
-    /// The client of an actor that knows the plan of its board, and is no worker there.
-    pub fn new(actor: Actor<T, P>, plan: Plan) -> Client<T, P>
-        requires knows { (terms_in actor.seen).dataflow.nodes ≡ plan }
-        requires client { (terms_in actor.seen).dataflow.workers ≤ actor.number }
+    /// The client of a session of this plan. It waits in each call.
+    pub fn new(alloc: Global, client: Caller<T, P>, plan: Plan) -> Client<T, P>
+        requires knows { (terms_in client.seen).dataflow.nodes ≡ plan }
     {
-        Client { actor, plan }
+        Client {
+            alloc,
+            client,
+            plan,
+            waits: true,
+        }
+    }
+
+    /// From now on it waits in each call, or in none.
+    pub fn set_waiting(&mut self, waits: bool) {
+        self.waits = waits;
     }
 
     /// Feeds a change.
@@ -57,7 +69,14 @@ impl<T: Minimum, P: BoardProtocol<T>> Client<T, P> {
         if !is_input(&self.plan, input) {
             return Err(Refusal::UnknownName);
         }
-        self.actor.feed(rt, input, update)
+        let Update { time, row, diff } = update;
+        let columns = row.columns();
+        if self.waits {
+            return self
+                .client
+                .feed_wait(rt, self.alloc, input, columns, time, diff);
+        }
+        self.client.feed(self.alloc, input, columns, time, diff)
     }
 
     /// Moves the frontier of an input.
@@ -65,12 +84,15 @@ impl<T: Minimum, P: BoardProtocol<T>> Client<T, P> {
         &mut self,
         rt: &R,
         input: NodeId,
-        times: Times<T>,
+        frontier: &Antichain<T>,
     ) -> Result<(), Refusal> {
         if !is_input(&self.plan, input) {
             return Err(Refusal::UnknownName);
         }
-        self.actor.advance(rt, input, times)
+        if self.waits {
+            return self.client.advance_wait(rt, self.alloc, input, frontier);
+        }
+        self.client.advance(self.alloc, input, frontier)
     }
 
     /// The frontier of a view.
@@ -78,7 +100,10 @@ impl<T: Minimum, P: BoardProtocol<T>> Client<T, P> {
         if !is_view(&self.plan, view) {
             return Err(Refusal::UnknownName);
         }
-        self.actor.frontier(rt, view)
+        if self.waits {
+            return self.client.probe_wait(rt, view);
+        }
+        self.client.probe(view)
     }
 
     /// The rows of a view at a time.
@@ -86,7 +111,10 @@ impl<T: Minimum, P: BoardProtocol<T>> Client<T, P> {
         if !is_view(&self.plan, view) {
             return Err(Refusal::UnknownName);
         }
-        self.actor.read(rt, view, time)
+        if self.waits {
+            return self.client.read_wait(rt, view, time);
+        }
+        self.client.read(view, time)
     }
 
     /// The changes of a view.
@@ -94,6 +122,17 @@ impl<T: Minimum, P: BoardProtocol<T>> Client<T, P> {
         if !is_view(&self.plan, view) {
             return Err(Refusal::UnknownName);
         }
-        self.actor.changes(rt, view)
+        if self.waits {
+            return self.client.changes_wait(rt, view);
+        }
+        self.client.changes(view)
+    }
+
+    /// Whether all that was fed has reached the views.
+    pub fn is_quiet<R: Wait>(&mut self, rt: &R) -> Result<bool, Refusal> {
+        if self.waits {
+            return Ok(self.client.quiet_wait(rt));
+        }
+        self.client.quiet()
     }
 }

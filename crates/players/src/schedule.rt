@@ -1,8 +1,11 @@
-//! Orders of steps: one worker alone, and workers and pieces that are drawn. Between drawn steps a
-//! worker tidies, with little fuel.
+//! Orders of steps: one worker alone, workers and pieces that are drawn, and rounds of all workers. Between
+//! drawn steps a worker tidies, with little fuel.
+use crate::client::Client;
 use lattice::Minimum;
+use session::{Move, drive};
 use shared_board::BoardProtocol;
 use std::alloc::Global;
+use std::sync::Wait;
 use steps::{Step, Worker};
 use trials::Draws;
 use update::Refusal;
@@ -53,17 +56,39 @@ fn drawn_step<T: Minimum, P: BoardProtocol<T>>(
     Ok(step)
 }
 
-/// Makes so many drawn steps.
+// A move that is drawn: a step, with a piece that is drawn, or tidying with little fuel.
+fn drawn_move(draws: &mut Draws, worker: usize, i: u64) -> Move {
+    if i % 2 == 0 {
+        return Move::Step {
+            worker,
+            pick: draws.below(20) as usize,
+        };
+    }
+    Move::Tidy {
+        worker,
+        fuel: draws.below(3),
+    }
+}
+
+/// Makes so many drawn steps, with tidying behind each of them: a schedule that is drawn.
 pub fn drawn_steps<T: Minimum, P: BoardProtocol<T>>(
     alloc: Global,
     workers: &mut [Worker<T, P>],
     draws: &mut Draws,
     count: u64,
 ) -> Result<(), Refusal> {
-    for _ in 0..count {
-        let _step = drawn_step(alloc, workers, draws)?;
+    if workers.is_empty() {
+        return Err(Refusal::BadWorkers);
     }
-    Ok(())
+    let mut moves = Vec::new(alloc);
+    let mut worker = 0;
+    for i in 0..count.saturating_mul(2) {
+        if i % 2 == 0 {
+            worker = draws.below(workers.len() as u64) as usize;
+        }
+        moves.push(drawn_move(draws, worker, i))?;
+    }
+    drive(alloc, workers, &moves)
 }
 
 /// Makes drawn steps until one of them finds the board quiet. `false` if none of 100,000 does.
@@ -74,6 +99,38 @@ pub fn until_quiet<T: Minimum, P: BoardProtocol<T>>(
 ) -> Result<bool, Refusal> {
     for _ in 0..100_000 {
         if let Step::Idle { quiet: true } = drawn_step(alloc, workers, draws)? {
+            return Ok(true);
+        }
+    }
+    Ok(false)
+}
+
+// A round: each worker makes a step with the last of its pieces, and tidies with fuel for one unit. The
+// number of the piece is one less than a multiple of each number of pieces up to 20.
+fn round(alloc: Global, workers: usize) -> Result<Vec<Move>, Refusal> {
+    let mut moves = Vec::new(alloc);
+    for worker in 0..workers {
+        moves.push(Move::Step {
+            worker,
+            pick: 232_792_559,
+        })?;
+        moves.push(Move::Tidy { worker, fuel: 1 })?;
+    }
+    Ok(moves)
+}
+
+/// Drives all workers round by round, until the client finds the board quiet. `false` if it is not in
+/// 10,000 rounds.
+pub fn driven_until_quiet<T: Minimum, P: BoardProtocol<T>, R: Wait>(
+    rt: &R,
+    alloc: Global,
+    workers: &mut [Worker<T, P>],
+    client: &mut Client<T, P>,
+) -> Result<bool, Refusal> {
+    let moves = round(alloc, workers.len())?;
+    for _ in 0..10_000 {
+        drive(alloc, workers, &moves)?;
+        if client.is_quiet(rt)? {
             return Ok(true);
         }
     }

@@ -1,1 +1,4 @@
 pub mod ClientLemmas
+pub mod TurnLemmas
+pub mod OpeningLemmas
+pub mod MoveLemmas

@@ -1,19 +1,21 @@
 //! A client: it changes inputs and asks views.
 //!
-//! Each call tries once to enter the board. It is refused with `Busy` if another one has the board
+//! Each call here tries once to enter the board. It is refused with `Busy` if another one has the board
 //! just then; nothing has happened then, and the call can be made again. Else it is one event of
 //! this client, and its answer is right for all that its tenure found. `specs/Clients` says what
 //! each answer and each refusal means. The invariant is that the actor is no worker, so a client
-//! never does a worker's part.
+//! never does a worker's part. Each call has a twin that waits (`waiting`).
 ghost use Rattle.std.specs.Prelude.{◌≡◌, ◌⊎◌, ◌≤◌, ◌<◌, IfErr, IfOk, IsTrue, OnOk, length};
 ghost use Rattle.update.specs.declared.refusal.Refusal.TheVariants.{OutOfMemory};
 ghost use Rattle.plan.specs.Nodes.{is_output};
 ghost use Rattle.histories.specs.Histories.{IsInput};
 ghost use Rattle.histories.specs.Histories.Dataflows.{node_of};
-ghost use Rattle.shared_board.specs.Calls.{AreListed, HasLooked, IsAnswered, IsBusy};
+ghost use Rattle.shared_board.specs.Calls.{AreListed, HasLooked, IsAnswered, IsBusy, IsDone};
 ghost use Rattle.shared_board.specs.Found.{IsChangesRefusalFound, dataflow_of};
 ghost use Rattle.shared_board.specs.Tenures.{terms_in};
 ghost use Rattle.session.specs.Clients.{HasAskedLarge, HasAskedQuiet, HasRead, IsAdvanced, IsClosed, IsFed, IsGivenUp, IsProbed, row_fed};
+
+mod waiting;
 
 use antichain::Antichain;
 use lattice::Minimum;
@@ -89,7 +91,7 @@ impl<T: Minimum, P: BoardProtocol<T>> Client<T, P> {
         diff: i64,
     ) -> Result<(), Refusal>
         requires input { IsInput (dataflow_of self.old) input }
-        ensures { IsFed T.below T.least self.old self.new
+        ensures { IsFed T.below T.least self.old self.new (IsDone self.old self.new)
             (row_fed input columns.now time diff) result }
     {
         self.actor.known();
@@ -110,7 +112,7 @@ impl<T: Minimum, P: BoardProtocol<T>> Client<T, P> {
         frontier: &Antichain<T>,
     ) -> Result<(), Refusal>
         requires input { IsInput (dataflow_of self.old) input }
-        ensures { IsAdvanced T.below T.least self.old self.new input frontier.now result }
+        ensures { IsAdvanced T.below T.least self.old self.new (IsDone self.old self.new) input frontier.now result }
     {
         match times_of(alloc, frontier) {
             Ok(times) => self.actor.try_advance(input, times),
@@ -121,7 +123,7 @@ impl<T: Minimum, P: BoardProtocol<T>> Client<T, P> {
     /// Closes an input: it takes no more changes. Refused with `Busy` alone. Takes no memory.
     pub fn close_input(&mut self, input: NodeId) -> Result<(), Refusal>
         requires input { IsInput (dataflow_of self.old) input }
-        ensures { IsClosed T.below T.least self.old self.new input result }
+        ensures { IsClosed T.below T.least self.old self.new (IsDone self.old self.new) input result }
     {
         self.actor.try_close(input)
     }
@@ -137,7 +139,7 @@ impl<T: Minimum, P: BoardProtocol<T>> Client<T, P> {
     ) -> Result<(), Refusal>
         requires within { view < length (dataflow_of self.old).nodes }
         requires view { IsTrue (is_output (node_of (dataflow_of self.old) view)) }
-        ensures { IsGivenUp T.below T.least self.old self.new view frontier.now result }
+        ensures { IsGivenUp T.below T.least self.old self.new (IsDone self.old self.new) view frontier.now result }
     {
         match times_of(alloc, frontier) {
             Ok(times) => self.actor.try_allow(view, times),
@@ -149,7 +151,7 @@ impl<T: Minimum, P: BoardProtocol<T>> Client<T, P> {
     /// `OutOfMemory`.
     pub fn probe(&mut self, view: NodeId) -> Result<Antichain<T>, Refusal>
         requires within { view < length (dataflow_of self.old).nodes }
-        ensures { IsProbed T.below T.least self.old self.new view result }
+        ensures { IsProbed T.below T.least self.old self.new (IsAnswered self.old self.new) view result }
     {
         self.actor.try_frontier(view)
     }
@@ -161,7 +163,7 @@ impl<T: Minimum, P: BoardProtocol<T>> Client<T, P> {
     pub fn read(&mut self, view: NodeId, time: T) -> Result<Bag, Refusal>
         requires within { view < length (dataflow_of self.old).nodes }
         requires view { IsTrue (is_output (node_of (dataflow_of self.old) view)) }
-        ensures { HasRead T.below T.least self.old self.new view time result }
+        ensures { HasRead T.below T.least self.old self.new (IsAnswered self.old self.new) view time result }
     {
         self.actor.try_read(view, time)
     }
@@ -181,7 +183,7 @@ impl<T: Minimum, P: BoardProtocol<T>> Client<T, P> {
     /// Whether no accepted change is still in flight: then each view's frontier is that of its
     /// inputs. Refused with `Busy` alone. Takes no memory.
     pub fn quiet(&mut self) -> Result<bool, Refusal>
-        ensures { HasAskedQuiet T.below T.least self.old self.new result }
+        ensures { HasAskedQuiet T.below T.least self.old self.new (IsAnswered self.old self.new) result }
     {
         self.actor.try_is_quiet()
     }
@@ -189,7 +191,7 @@ impl<T: Minimum, P: BoardProtocol<T>> Client<T, P> {
     /// Whether a worker told that a number is too large with the changes accepted so far. Refused
     /// with `Busy` alone. Takes no memory.
     pub fn is_too_large(&mut self) -> Result<bool, Refusal>
-        ensures { HasAskedLarge T.below T.least self.old self.new T.cmp result }
+        ensures { HasAskedLarge T.below T.least self.old self.new (IsAnswered self.old self.new) T.cmp result }
     {
         self.actor.try_is_too_large()
     }

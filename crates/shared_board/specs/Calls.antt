@@ -1,5 +1,5 @@
--- How a call of an actor that does not wait ends, in the words of its clause: of the actor as it was
--- before the call, and as it is then.
+-- How a call of an actor ends, in the words of its clause: of the actor as it was before the call, and
+-- as it is then. A call that waits has its turn. One that does not may find the board away.
 use Rattle.std.specs.Prelude.{◌≡◌, ◌⊎◌, ℕ, Bool, List, Option, None, Result, Ok, Err}
 use Rattle.std.specs.declared.cmp.Ordering.{Ordering}
 use Rattle.update.specs.Bags.{Alike, Entry, IsBag}
@@ -22,17 +22,26 @@ module _ {T : Type 0} (old new : Known (Doing T)) where
   abbrev pub HasLooked : Type 0
   HasLooked = Adds old (Look old.number) new
 
-  -- a change. Ok: it was done, and nothing refuses it in what was found. Err: the board was away, or it
-  -- is refused there, and the actor looked
-  abbrev pub IsDone : Event T → Option Refusal → (Refusal → Type 0) → Result (Unit {0}) Refusal → Type 0
-  IsDone event fault Refused (Ok done) = Adds old event new × (fault ≡ None)
-  IsDone event fault Refused (Err refusal) = IsBusy refusal ⊎ (HasLooked × Refused refusal)
+  -- a change, in the actor's turn. Ok: it was done, and nothing refuses it in what was found. Err: it is
+  -- refused there, and the actor looked
+  abbrev pub IsDoneInTurn : Event T → Option Refusal → (Refusal → Type 0) → Result (Unit {0}) Refusal → Type 0
+  IsDoneInTurn event fault Refused (Ok done) = Adds old event new × (fault ≡ None)
+  IsDoneInTurn event fault Refused (Err refusal) = HasLooked × Refused refusal
 
-  -- a question. Ok: the answer is right for what was found. Err: the board was away, or the question is
-  -- refused there. In both cases but for a board that was away the actor looked
+  -- a question, in the actor's turn: it looked. Ok: the answer is right for what was found. Err: the
+  -- question is refused there
+  abbrev pub IsAnsweredInTurn : {A : Type 0} → (A → Type 0) → (Refusal → Type 0) → Result A Refusal → Type 0
+  IsAnsweredInTurn Found Refused (Ok answer) = HasLooked × Found answer
+  IsAnsweredInTurn Found Refused (Err refusal) = HasLooked × Refused refusal
+
+  -- the same without waiting: the board was away, or it was the actor's turn
+  abbrev pub IsDone : Event T → Option Refusal → (Refusal → Type 0) → Result (Unit {0}) Refusal → Type 0
+  IsDone event fault Refused (Ok done) = IsDoneInTurn event fault Refused (Ok done)
+  IsDone event fault Refused (Err refusal) = IsBusy refusal ⊎ IsDoneInTurn event fault Refused (Err refusal)
+
   abbrev pub IsAnswered : {A : Type 0} → (A → Type 0) → (Refusal → Type 0) → Result A Refusal → Type 0
-  IsAnswered Found Refused (Ok answer) = HasLooked × Found answer
-  IsAnswered Found Refused (Err refusal) = IsBusy refusal ⊎ (HasLooked × Refused refusal)
+  IsAnswered Found Refused (Ok answer) = IsAnsweredInTurn Found Refused (Ok answer)
+  IsAnswered Found Refused (Err refusal) = IsBusy refusal ⊎ IsAnsweredInTurn Found Refused (Err refusal)
 
 module _ {T : Type 0} (below : T → T → Bool) (minimum : T) (old new : Known (Doing T)) where
   -- nothing refuses the read of a view at a time, and the bag is the query there

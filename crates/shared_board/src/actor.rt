@@ -3,26 +3,23 @@
 //! Each call is one tenure, and so one event of this actor. What others did since its last tenure
 //! lies below that event, and the answers are right for all that was done by then. Each call waits
 //! until the board is at home, but those that say `try`.
-ghost use Rattle.std.specs.Prelude.{◌≡◌, ◌≤◌, ◌<◌, ◌+◌, ◌↔◌, [], false, ℕ, None, Some, IfOk, IfErr, IfSome, OnOk, OnErr, IsTrue, length};
-ghost use Rattle.std.specs.List.{list_any};
+ghost use Rattle.std.specs.Prelude.{◌≡◌, ◌≤◌, ◌<◌, ◌+◌, ◌↔◌, [], ℕ, None, Some, IfOk, IfErr, OnOk, OnErr, IsTrue, length};
 ghost use Rattle.std.specs.Arc.{arc_value};
 ghost use Rattle.hub.specs.Passes.{hub_id};
 ghost use Rattle.antichain.specs.Antichains.{SameElements};
 ghost use Rattle.update.specs.Bags.{Alike, IsBag};
 ghost use Rattle.update.specs.Refusals.{IsRefusalBy};
 ghost use Rattle.update.specs.declared.refusal.Refusal.TheVariants.{OutOfMemory};
-ghost use Rattle.plan.specs.Changes.{has_passed};
 ghost use Rattle.plan.specs.Nodes.{is_output};
-ghost use Rattle.histories.specs.declared.event.Event.TheVariants.{Advance, Allow, Feed, Give, Look, Take, TakeHeld};
-ghost use Rattle.histories.specs.Histories.{IsGive, IsInput};
+ghost use Rattle.histories.specs.declared.event.Event.TheVariants.{Advance, Allow, Feed, Look};
+ghost use Rattle.histories.specs.Histories.{IsInput};
 ghost use Rattle.histories.specs.Histories.Dataflows.{node_of};
 ghost use Rattle.histories.specs.Histories.Outstanding.{frontier};
 ghost use Rattle.histories.specs.Histories.Promises.{changes_in};
-ghost use Rattle.histories.specs.Histories.States.{change_to, held_at, place, queue};
-ghost use Rattle.shared_board.specs.Found.{AreDifferencesFound, IsChangesRefusalFound, IsReadRefusalFound, WasQuiet, WasTooLarge, changes_refusal_found, feed_refusal_found, frontier_found, input_frontier_found, query_found, read_refusal_found};
+ghost use Rattle.histories.specs.Histories.States.{change_to};
+ghost use Rattle.shared_board.specs.Found.{AreDifferencesFound, IsChangesRefusalFound, IsReadRefusalFound, WasQuiet, WasTooLarge, changes_refusal_found, feed_refusal_found, frontier_found, query_found, read_refusal_found};
 ghost use Rattle.shared_board.specs.Large.{HasNoSmallBound};
-ghost use Rattle.shared_board.specs.Tenures.{Adds, IsActor, IsFirst, WaitsOrNotIn, terms_for, terms_in, state_found, state_left, advance_refusal_in, allow_refusal_in};
-ghost use Rattle.shared_board.specs.Widths.{are_wide_for};
+ghost use Rattle.shared_board.specs.Tenures.{Adds, IsActor, IsFirst, terms_for, terms_in, state_found, state_left, advance_refusal_in, allow_refusal_in};
 
 mod attempt;
 mod client;
@@ -33,7 +30,6 @@ use crate::protocol::BoardProtocol;
 use antichain::Antichain;
 use hub::{Hub, Pass, Protocol};
 use lattice::Minimum;
-use machine::{Bundle, CutEmission, Ungiven};
 use plan::{NodeId, Plan};
 use std::alloc::Global;
 use std::marker::{Model, PhantomData};
@@ -306,98 +302,6 @@ impl<T: Minimum, P: BoardProtocol<T>> Actor<T, P> {
         let mut tenure = self.hub.enter(rt, pass);
         let board = tenure.state();
         let answer = board.is_quiet(self.number);
-        self.accepted = board.accepted();
-        self.pass = Some(tenure.leave());
-        answer
-    }
-
-    /// A worker with nothing in hand takes the first bundle that waits for it at a node. With it
-    /// comes whether more wait there. `None` if no bundle waits. Refused only with `OutOfMemory`.
-    /// The event is a take only if there is a bundle in the answer; otherwise it is a look.
-    pub fn take_first<R: Wait>(
-        &mut self,
-        rt: &R,
-        node: NodeId,
-    ) -> Result<Option<(Bundle<T>, bool)>, Refusal>
-        requires worker { self.old.number < (terms_in self.old.seen).dataflow.workers }
-        requires free { (state_left T.below T.least self.old).hand self.old.number ≡ None }
-        ensures taken { IfOk result (λ found. IfSome found (λ t. (t.0.place.node ≡ node)
-            × (t.0.place.worker ≡ self.old.number) × Adds self.old (Take 0 t.0) self.new)) }
-        ensures more { IfOk result (λ found. IfSome found (λ t.
-            WaitsOrNotIn t.1 node self.old.number (state_left T.below T.least self.new))) }
-        ensures none { IfOk result (λ found. found ≡ None
-            → Adds self.old (Look self.old.number) self.new
-            × ((port : ℕ) → queue (place node port self.old.number)
-            (state_found T.below T.least self.new).in_flight ≡ [])) }
-        ensures refused { IfErr result (λ refusal. (refusal ≡ OutOfMemory)
-            × Adds self.old (Look self.old.number) self.new) }
-    {
-        let Some(pass) = self.pass.take() else {
-            unreachable!()
-        };
-        let mut tenure = self.hub.enter(rt, pass);
-        let board = tenure.state();
-        let answer = board.take_first(self.number, node);
-        self.accepted = board.accepted();
-        self.pass = Some(tenure.leave());
-        answer
-    }
-
-    /// A worker with nothing in hand turns to the times that it holds at a node, if the node's
-    /// input frontier has passed one of them. The answer is that frontier, as the tenure found it.
-    /// Refused only with `OutOfMemory`. The event is a turn only if there is a frontier in the
-    /// answer; otherwise it is a look.
-    pub fn turn<R: Wait>(&mut self, rt: &R, node: NodeId) -> Result<Option<Antichain<T>>, Refusal>
-        requires worker { self.old.number < (terms_in self.old.seen).dataflow.workers }
-        requires within { node < length (terms_in self.old.seen).dataflow.nodes }
-        requires free { (state_left T.below T.least self.old).hand self.old.number ≡ None }
-        ensures turned { IfOk result (λ found. IfSome found (λ upper.
-            Adds self.old (TakeHeld self.old.number node) self.new
-            × SameElements upper (input_frontier_found T.below T.least self.old self.new node))) }
-        ensures none { IfOk result (λ found. found ≡ None
-            → Adds self.old (Look self.old.number) self.new
-            × (list_any (has_passed T.below
-            (input_frontier_found T.below T.least self.old self.new node))
-            (held_at node self.old.number (state_found T.below T.least self.new).held) ≡ false)) }
-        ensures refused { IfErr result (λ refusal. (refusal ≡ OutOfMemory)
-            × Adds self.old (Look self.old.number) self.new) }
-    {
-        let Some(pass) = self.pass.take() else {
-            unreachable!()
-        };
-        let mut tenure = self.hub.enter(rt, pass);
-        let board = tenure.state();
-        let answer = board.turn(self.number, node);
-        self.accepted = board.accepted();
-        self.pass = Some(tenure.leave());
-        answer
-    }
-
-    /// A worker gives what it computed at the node that it has in hand. The give must be allowed in
-    /// the state that the worker left last; then it is allowed whatever others have done meanwhile.
-    /// The rows of each bundle must have the width of the node that its place reads. Refused only with `OutOfMemory`; then all arguments come back, and the event is a look.
-    pub fn give<R: Wait>(
-        &mut self,
-        rt: &R,
-        cut: CutEmission<T>,
-        held: Times<T>,
-    ) -> Result<(), Ungiven<T>>
-        requires own { cut.given.worker ≡ self.old.number }
-        requires worker { self.old.number < (terms_in self.old.seen).dataflow.workers }
-        requires within { cut.given.node < length (terms_in self.old.seen).dataflow.nodes }
-        requires allowed { IsGive T.below (terms_in self.old.seen).dataflow
-            (state_left T.below T.least self.old) cut.given held cut.sent }
-        requires wide { IsTrue (are_wide_for (terms_in self.old.seen).dataflow cut.sent) }
-        ensures given { OnOk result (Adds self.old (Give cut.given held cut.sent) self.new) }
-        ensures returned { IfErr result (λ r. Adds self.old (Look self.old.number) self.new
-            × (r ≡ record { cut = cut; held = held })) }
-    {
-        let Some(pass) = self.pass.take() else {
-            unreachable!()
-        };
-        let mut tenure = self.hub.enter(rt, pass);
-        let board = tenure.state();
-        let answer = board.give(cut, held);
         self.accepted = board.accepted();
         self.pass = Some(tenure.leave());
         answer

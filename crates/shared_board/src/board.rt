@@ -8,23 +8,22 @@
 //! `too_large` records that a worker found a number too large. A bound may shrink when a change is
 //! accepted, so the board counts the changes that it accepted. A report counts only if no change
 //! was accepted since the worker last looked. The next accepted change clears it.
-ghost use Rattle.std.specs.Prelude.{◌≡◌, ◌<◌, ◌↔◌, ℕ, ◌≤◌, ◌+◌, ◌^◌, List, [], ◌∷◌, ◌++◌, false, None, Some, IfOk, IfErr, IfSome, OnOk, OnErr, IsTrue, length, get_or};
-ghost use Rattle.std.specs.List.{list_any};
+ghost use Rattle.std.specs.Prelude.{◌≡◌, ◌<◌, ◌↔◌, ℕ, ◌≤◌, ◌+◌, ◌^◌, List, [], ◌∷◌, ◌++◌, false, None, Some, IfOk, IfErr, OnOk, OnErr, IsTrue, length};
 ghost use Rattle.hub.specs.declared.view.Entry.{Entry};
 ghost use Rattle.hub.specs.Histories.{entry};
 ghost use Rattle.antichain.specs.Antichains.{SameElements};
 ghost use Rattle.update.specs.Bags.{Alike, IsBag};
 ghost use Rattle.update.specs.Refusals.{IsRefusalBy};
 ghost use Rattle.update.specs.declared.refusal.Refusal.TheVariants.{OutOfMemory};
-ghost use Rattle.plan.specs.Changes.{AreDifferences, has_passed, query_at};
+ghost use Rattle.plan.specs.Changes.{AreDifferences, query_at};
 ghost use Rattle.plan.specs.Nodes.{is_output};
-ghost use Rattle.histories.specs.declared.event.Event.TheVariants.{Advance, Allow, Feed, Give, Look, Take, TakeHeld};
+ghost use Rattle.histories.specs.declared.event.Event.TheVariants.{Advance, Allow, Feed, Give, Look};
 ghost use Rattle.histories.specs.Histories.{IsInput, IsGive};
 ghost use Rattle.histories.specs.Histories.Dataflows.{node_of};
-ghost use Rattle.histories.specs.Histories.Outstanding.{frontier, input_frontier};
+ghost use Rattle.histories.specs.Histories.Outstanding.{frontier};
 ghost use Rattle.histories.specs.Histories.Promises.{changes_in};
 ghost use Rattle.histories.specs.Histories.Readings.{IsQuiet};
-ghost use Rattle.histories.specs.Histories.States.{change_to, held_at, place, queue};
+ghost use Rattle.histories.specs.Histories.States.{change_to, place};
 ghost use Rattle.shared_board.specs.declared.event.Doing.{Doing};
 ghost use Rattle.shared_board.specs.Large.{HasNoSmallBound};
 ghost use Rattle.shared_board.specs.Tenures.{IsKeptBeside, StandsFor, WaitsOrNot, doing, left_by, terms_for, terms_of_board, feed_refusal_in, advance_refusal_in, allow_refusal_in, read_refusal_in, changes_refusal_in, IsReadRefusalIn, IsChangesRefusalIn};
@@ -35,7 +34,7 @@ mod taking;
 
 use antichain::Antichain;
 use lattice::Minimum;
-use machine::{Board, Bundle, CutEmission, Ungiven};
+use machine::{Board, CutEmission, Ungiven};
 use plan::{NodeId, Plan};
 use std::alloc::Global;
 use std::marker::Model;
@@ -331,93 +330,11 @@ impl<T: Minimum> SharedBoard<T> {
         quiet
     }
 
-    /// A worker with nothing in hand takes the first bundle that waits for it at a node. With it
-    /// comes whether more wait there. `None` if no bundle waits; then the event is a look. Refused
-    /// only with `OutOfMemory`; then it is a look too.
-    pub fn take_first(
-        &mut self,
-        worker: usize,
-        node: NodeId,
-    ) -> Result<Option<(Bundle<T>, bool)>, Refusal>
-        requires worker { worker < self.old.board.dataflow.workers }
-        requires free { get_or self.old.board.hand worker None ≡ None }
-        ensures terms { terms_of_board self.new ≡ terms_of_board self.old }
-        ensures beside { IsKeptBeside self.old self.new }
-        ensures taken { IfOk result (λ found. IfSome found (λ t.
-            (t.0.place.node ≡ node) × (t.0.place.worker ≡ worker)
-            × (self.new.board.last ≡ Take 0 t.0))) }
-        ensures more { IfOk result (λ found. IfSome found (λ t.
-            WaitsOrNot t.1 node worker self.new.board.stations)) }
-        ensures none { IfOk result (λ found. found ≡ None → (self.new.board.last ≡ Look worker)
-            × ((es : List (Entry (Doing T))) → StandsFor T.below T.least T.cmp self.old es
-            → (port : ℕ) → queue (place node port worker)
-            (left_by T.below T.least self.old.board.dataflow es).in_flight ≡ [])) }
-        ensures refused { IfErr result (λ refusal. (refusal ≡ OutOfMemory)
-            × (self.new.board.last ≡ Look worker)) }
-        ensures stands { (es : List (Entry (Doing T))) → StandsFor T.below T.least T.cmp self.old es
-            → StandsFor T.below T.least T.cmp self.new
-            (entry worker (doing (terms_of_board self.old) self.new.board.last) ∷ es) }
-    {
-        match self.board.waiting_at(node, worker) {
-            Some(site) => {
-                let bundle = self.board.take(site, 0)?;
-                let more = self.has_waiting(node, worker);
-                Ok(Some((bundle, more)))
-            }
-            None => {
-                self.board.look(worker);
-                Ok(None)
-            }
-        }
-    }
-
     // Whether a bundle waits for a worker at a node.
     fn has_waiting(&self, node: NodeId, worker: usize) -> bool
         ensures { WaitsOrNot result node worker self.now.board.stations }
     {
         self.board.waiting_at(node, worker).is_some()
-    }
-
-    /// A worker with nothing in hand turns to the times that it holds at a node, if the node's
-    /// input frontier has passed one of them, and gets that frontier. Otherwise the event is a
-    /// look. Refused only with `OutOfMemory`; then it is a look too.
-    pub fn turn(&mut self, worker: usize, node: NodeId) -> Result<Option<Antichain<T>>, Refusal>
-        requires worker { worker < self.old.board.dataflow.workers }
-        requires within { node < length self.old.board.dataflow.nodes }
-        requires free { get_or self.old.board.hand worker None ≡ None }
-        ensures terms { terms_of_board self.new ≡ terms_of_board self.old }
-        ensures beside { IsKeptBeside self.old self.new }
-        ensures turned { IfOk result (λ found. IfSome found (λ upper.
-            (self.new.board.last ≡ TakeHeld worker node)
-            × ((es : List (Entry (Doing T))) → StandsFor T.below T.least T.cmp self.old es
-            → SameElements upper (input_frontier T.below self.old.board.dataflow
-            (left_by T.below T.least self.old.board.dataflow es) node)))) }
-        ensures none { IfOk result (λ found. found ≡ None → (self.new.board.last ≡ Look worker)
-            × ((es : List (Entry (Doing T))) → StandsFor T.below T.least T.cmp self.old es
-            → list_any (has_passed T.below (input_frontier T.below self.old.board.dataflow
-            (left_by T.below T.least self.old.board.dataflow es) node))
-            (held_at node worker
-            (left_by T.below T.least self.old.board.dataflow es).held) ≡ false)) }
-        ensures refused { IfErr result (λ refusal. (refusal ≡ OutOfMemory)
-            × (self.new.board.last ≡ Look worker)) }
-        ensures stands { (es : List (Entry (Doing T))) → StandsFor T.below T.least T.cmp self.old es
-            → StandsFor T.below T.least T.cmp self.new
-            (entry worker (doing (terms_of_board self.old) self.new.board.last) ∷ es) }
-    {
-        if !self.board.is_ready(worker, node) {
-            self.board.look(worker);
-            return Ok(None);
-        }
-        match self.board.input_frontier(node) {
-            Ok(upper) => {
-                self.board.take_held(worker, node);
-                Ok(Some(upper))
-            }
-            Err(refusal) => {
-                self.board.look(worker);
-                Err(refusal)
-            }
-        }
     }
 
     /// A worker gives what it computed at the node that it has in hand. The rows of each bundle must

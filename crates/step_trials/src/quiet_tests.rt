@@ -22,9 +22,10 @@ fn stepped<T: Minimum, P: BoardProtocol<T>, R: Abort>(
     alloc: Global,
     crew: &mut Vec<Worker<T, P>>,
 ) -> Result<bool, Refusal> {
-    let Some(mut worker) = crew.pop() else {
+    if crew.is_empty() {
         panic!(rt; "no worker is left")
-    };
+    }
+    let mut worker = crew.remove(0);
     let Some(quiet) = until_idle(alloc, &mut worker)? else {
         panic!(rt; "the worker does not come to an end")
     };

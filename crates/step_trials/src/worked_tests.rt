@@ -1,5 +1,6 @@
 //! Worked examples with 1, 2, 3 and 16 workers, in orders of steps that are drawn.
 use crate::worked::Worked;
+use antichain::Antichain;
 use lattice::Bitime;
 use plan::{Kind, Node};
 use std::alloc::Global;
@@ -40,7 +41,7 @@ pub(crate) fn worked(
     Ok(Worked {
         plan: built(alloc, nodes)?,
         changes: lists(alloc, changes)?,
-        frontier: Vec::from_slice(alloc, frontier)?,
+        frontier: Antichain::least_of(alloc, frontier)?,
         want: list(alloc, want)?,
         times: grid(alloc)?,
     })

@@ -1,5 +1,6 @@
 //! How many updates a spine shows its readers once its worker has tidied. Clauses say where the holds are
 //! then, and that nothing is left to merge. That so few updates are left is shown here.
+use antichain::Antichain;
 use lattice::Bitime;
 use plan::{Kind, NodeId, Plan};
 use players::{BoardClient, BoardWorker, Crew, opened, until_idle};
@@ -34,7 +35,7 @@ fn close_before<R: Wait + Abort>(
     input: NodeId,
     time: Bitime,
 ) -> Result<(), Refusal> {
-    client.advance(rt, input, Vec::from_slice(alloc, &[time])?.into())?;
+    client.advance(rt, input, &Antichain::from_elem(alloc, time))?;
     assert_eq!(rt; until_idle(alloc, worker)?, Some(true));
     Ok(())
 }

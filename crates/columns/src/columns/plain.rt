@@ -128,6 +128,26 @@ impl<T: Lattice> Columns<T> {
         Ok(())
     }
 
+    /// A copy of all updates, column by column, with no more memory than they need. Refused only with
+    /// `OutOfMemory`.
+    ///
+    /// Cost: the columns are copied as they stand. No row is made, and none is compared.
+    pub fn to_columns(&self, alloc: Global) -> Result<Columns<T>, Refusal>
+        ensures copied { IfOk result (λ copy. copy ≡ self.now) }
+        ensures refused { IfErr result (λ refusal. refusal ≡ OutOfMemory) }
+    {
+        let times = Vec::from_slice(alloc, self.times.as_slice())?;
+        let diffs = Vec::from_slice(alloc, self.diffs.as_slice())?;
+        let starts = Vec::from_slice(alloc, self.starts.as_slice())?;
+        let rows = self.rows.copy(alloc)?;
+        Ok(Columns {
+            times,
+            diffs,
+            starts,
+            rows,
+        })
+    }
+
     /// Copies of all updates, each with its row. Refused only with `OutOfMemory`.
     ///
     /// Cost: one step for each column of each row. So many updates take 104 bytes each.

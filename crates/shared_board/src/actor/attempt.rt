@@ -90,10 +90,11 @@ impl<T: Minimum, P: BoardProtocol<T>> Actor<T, P> {
         }
     }
 
-    /// A worker gives what it computed at the node that it has in hand, as [`give`](Actor::give)
-    /// says, if the board is there. The outer `Err` has all arguments, since another actor had the
-    /// board, and the actor has seen nothing. So has the inner one, since memory was refused; then the
-    /// event is a look.
+    /// A worker gives what it computed at the node that it has in hand, if the board is there. The
+    /// give must be allowed in the state that the worker left last; then it is allowed whatever others
+    /// have done meanwhile. The rows of each bundle must have the width of the node that its place
+    /// reads. The outer `Err` has all arguments, since another actor had the board, and the actor has
+    /// seen nothing. So has the inner one, since memory was refused; then the event is a look.
     pub fn try_give(
         &mut self,
         cut: CutEmission<T>,

@@ -1,12 +1,10 @@
-use Rattle.std.proofs.Common.{rules, ◌≡◌, ◌⊎◌, ◌*◌, ◌^◌, ◌≤◌, ◌+◌, ◌-◌, IsTrue, sym, subst, ◌∙◌}
+use Rattle.std.proofs.Common.{rules, ◌≡◌, ◌+◌, ◌-◌, IsTrue, sym, subst}
 use Rattle.lattice.specs.Frontiers.{all_beyond}
-use Rattle.update.specs.Updates.{IsConsolidated, size}
+use Rattle.update.specs.Updates.{IsConsolidated}
 use Rattle.update.specs.Refusals.{IsMemoryOrOverflow}
-use Rattle.batch.specs.Intervals.{all_times_beyond, is_interval_of}
 use Rattle.trace.specs.Readings.{all_updates}
 use Rattle.join.specs.Pairs.{pairs}
 use Rattle.join.specs.Sides.{all_rows_have}
-use Rattle.operator.specs.Arrangements.{times_from}
 use Rattle.operator_laws.specs.Joining.{IsAnswer}
 use Rattle.desk.specs.Joinings.{ArePairsLarge, IsEndAfter, IsNextOf, IsPaired, taken_up_to}
 use Rattle.desk.proofs.PairingLemmas.{ends_there, next_interval, next_there, other_readable, other_rows, other_later, side_from}
@@ -24,8 +22,8 @@ next_end-requires g c =
 pub arrangement_at-other-requires : goal.arrangement_at-other-requires
 arrangement_at-other-requires g c = (c.requires.next.opposite, c.requires.next.opposite_there)
 
-pub take_left-pairs-requires : goal.take_left-pairs-requires
-take_left-pairs-requires g c =
+pub take_left-requires : goal.take_left-requires
+take_left-requires g c =
     let below = g.T.PartialOrder.below in
     let least = g.T.Minimum.least in
     let j = c.args.joining.now in
@@ -37,12 +35,9 @@ take_left-pairs-requires g c =
     let spine = c.trace.result.now in
     let value = c.trace.ensures.value in
     let there = c.arrangement_at-other.ensures.there in
-    let vec = sym (c.as_slice.ensures.value ∙ c.in_ok-updates.ensures.updates) in
     let ends = subst (λ F. IsEndAfter below least source F end) c.left.ensures.value c.in_ok-end.ensures.ends in
-    let rows = subst (λ us. IsTrue (all_rows_have j.left_width us)) vec y.rows in
-    let times = subst (λ us. IsTrue (times_from below least us)) vec y.times in
-    let between = subst (λ us. IsTrue (is_interval_of below j.state.left end us)) vec (next_interval y source c.arrangement_at-source.ensures.there g.met.T.PartialOrder.order end ends) in
-    (search rules, (rows, (times, (between, (other_readable y other there known spine value, (other_rows y other there known spine value, subst (λ us. IsTrue (all_times_beyond below spine.since us)) vec (other_later y other there known spine value g.met.T.PartialOrder.order)))))))
+    let between = next_interval y source c.arrangement_at-source.ensures.there g.met.T.PartialOrder.order end ends in
+    (search rules, (y.rows, (y.times, (between, (other_readable y other there known spine value, (other_rows y other there known spine value, other_later y other there known spine value g.met.T.PartialOrder.order))))))
 
 pub returns-clause-paired : goal.returns-clause-paired
 returns-clause-paired g c =
@@ -57,19 +52,18 @@ returns-clause-paired g c =
     let other = c.arrangement_at-other.result.now in
     let end = c.in_ok-end.end in
     let ends = subst (λ F. IsEndAfter below least source F end) c.left.ensures.value c.in_ok-end.ensures.ends in
-    if_ok_from c.take_left-pairs.result (λ out. IsPaired below least joined cmp 0 c.args.arrangements.now.items c.args.left c.args.right j us out.items c.take_left-pairs.new.self) (λ out e. record {
+    if_ok_from c.take_left.result (λ out. IsPaired below least joined cmp 0 c.args.arrangements.now.items c.args.left c.args.right j us out.items c.take_left.new.self) (λ out e. record {
       fitting = c.known.ensures.fitting;
       upper = end;
-      looked = c.take_left-pairs.new.self.state.looked;
-      moved = on_ok_back {P = c.take_left-pairs.new.self ≡ taken_up_to 0 end c.take_left-pairs.new.self.state.looked j} c.take_left-pairs.result out e c.take_left-pairs.ensures.acknowledged;
+      looked = c.take_left.new.self.state.looked;
+      moved = on_ok_back {P = c.take_left.new.self ≡ taken_up_to 0 end c.take_left.new.self.state.looked j} c.take_left.result out e c.take_left.ensures.acknowledged;
       forward = subst (λ F. IsTrue (all_beyond below F end)) c.left.ensures.value c.in_ok-end.ensures.forward;
       ends = λ a there. ends_there c.args.arrangements.now.items c.args.left source a j.state.left end c.arrangement_at-source.ensures.there there ends;
       answers = λ a there inserted later taken reading.
           let side = side_from y other c.arrangement_at-other.ensures.there c.trace.ensures.known c.trace.result.now c.trace.ensures.value a there inserted later taken reading in
-          subst (λ us. IsAnswer below (pairs joined j.state.key us (all_updates taken)) us (all_updates taken) out.items) (c.as_slice.ensures.value ∙ c.in_ok-updates.ensures.updates)
-          (if_ok_back c.take_left-pairs.result (λ out. IsAnswer below (pairs joined j.state.key c.as_slice.result.now (all_updates taken)) c.as_slice.result.now (all_updates taken) out.items) out e (c.take_left-pairs.ensures.answer inserted taken side));
-      consolidated = if_ok_back c.take_left-pairs.result (λ out. IsConsolidated cmp out.items) out e c.take_left-pairs.ensures.consolidated;
-      wide = if_ok_back c.take_left-pairs.result (λ out. IsTrue (all_rows_have (j.left_width + j.right_width - j.state.key) out.items)) out e c.take_left-pairs.ensures.width;
+          if_ok_back c.take_left.result (λ out. IsAnswer below (pairs joined j.state.key us (all_updates taken)) us (all_updates taken) out.items) out e (c.take_left.ensures.answer inserted taken side);
+      consolidated = if_ok_back c.take_left.result (λ out. IsConsolidated cmp out.items) out e c.take_left.ensures.consolidated;
+      wide = if_ok_back c.take_left.result (λ out. IsTrue (all_rows_have (j.left_width + j.right_width - j.state.key) out.items)) out e c.take_left.ensures.width;
     })
 
 pub returns-clause-refused : goal.returns-clause-refused
@@ -78,6 +72,6 @@ returns-clause-refused g c =
     let least = g.T.Minimum.least in
     let y = c.requires.next in
     let other = c.arrangement_at-other.result.now in
-    if_err_from c.take_left-pairs.result _ (IsMemoryOrOverflow (ArePairsLarge below least 0 c.args.arrangements.now.items c.args.right c.args.joining.now c.args.list.now)) (λ refusal refused. memory_or {Q = ArePairsLarge below least 0 c.args.arrangements.now.items c.args.right c.args.joining.now c.args.list.now} (λ large a there inserted later taken reading.
+    if_err_from c.take_left.result _ (IsMemoryOrOverflow (ArePairsLarge below least 0 c.args.arrangements.now.items c.args.right c.args.joining.now c.args.list.now)) (λ refusal refused. memory_or {Q = ArePairsLarge below least 0 c.args.arrangements.now.items c.args.right c.args.joining.now c.args.list.now} (λ large a there inserted later taken reading.
     let side = side_from y other c.arrangement_at-other.ensures.there c.trace.ensures.known c.trace.result.now c.trace.ensures.value a there inserted later taken reading in
-    subst (λ us. (2 ^ 63 ≤ size us) ⊎ (2 ^ 63 ≤ size us * size (all_updates taken))) (c.as_slice.ensures.value ∙ c.in_ok-updates.ensures.updates) (large inserted taken side)) refused) c.take_left-pairs.ensures.refused
+    large inserted taken side) refused) c.take_left.ensures.refused

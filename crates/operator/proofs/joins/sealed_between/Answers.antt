@@ -8,22 +8,22 @@ use Rattle.operator.proofs.joins.sealed_between.Goals as goal
 
 pub returns-clause-lower : goal.returns-clause-lower
 returns-clause-lower g c =
-    IfOk-weaker c.seal_slice.result _ _ (λ b e. ap (λ (d : DescriptionState g.row.T.Denot). d.lower) e ∙ c.in_ok-from.ensures.is) c.seal_slice.ensures.described
+    IfOk-weaker c.seal_list.result _ _ (λ b e. ap (λ (d : DescriptionState g.row.T.Denot). d.lower) e ∙ c.in_ok-from.ensures.is) c.seal_list.ensures.described
 
 pub returns-clause-upper : goal.returns-clause-upper
 returns-clause-upper g c =
-    IfOk-weaker c.seal_slice.result _ _ (λ b e. ap (λ (d : DescriptionState g.row.T.Denot). d.upper) e) c.seal_slice.ensures.described
+    IfOk-weaker c.seal_list.result _ _ (λ b e. ap (λ (d : DescriptionState g.row.T.Denot). d.upper) e) c.seal_list.ensures.described
 
 pub returns-clause-stands : goal.returns-clause-stands
 returns-clause-stands g c =
     sealed_stands g.T.PartialOrder.below (λ (b : BatchState g.row.T.Denot). b.updates) c.args.updates.now c.args.updates.now refl
-    c.seal_slice.result c.seal_slice.ensures.sums c.seal_slice.ensures.size c.seal_slice.ensures.among
+    c.seal_list.result c.seal_list.ensures.sums c.seal_list.ensures.size c.seal_list.ensures.among
 
 pub returns-clause-refused : goal.returns-clause-refused
 returns-clause-refused g c =
     let below = g.T.PartialOrder.below in
     let whole = subst (λ from. IsTrue (is_interval_of below from c.args.upper.now c.args.updates.now)) (sym c.in_ok-from.ensures.is) c.requires.interval in
-    seal_refused c.seal_slice.result
-    (λ e. c.seal_slice.ensures.stray.0 e whole)
-    (λ e. large_size below c.args.updates.now (c.seal_slice.ensures.overflow e))
-    c.seal_slice.ensures.only
+    seal_refused c.seal_list.result
+    (λ e. c.seal_list.ensures.stray.0 e whole)
+    (λ e. large_size below c.args.updates.now (c.seal_list.ensures.overflow e))
+    c.seal_list.ensures.only

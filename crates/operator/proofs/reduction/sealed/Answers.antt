@@ -9,8 +9,8 @@ returns-clause-refused g c =
     let below = g.T.PartialOrder.below in
     let us = c.args.updates.now in
     let whole = subst (λ z. is_interval_of below c.args.start.now z us ≡ true) (sym c.new-end.ensures) (subst (λ z. is_interval_of below z [] us ≡ true) (sym c.requires.start) (from_start below (g.T.Minimum.least ∷ []) us (sym (times_beyond below (g.T.Minimum.least ∷ []) us) ∙ c.requires.later))) in
-    seal_refused c.seal_slice.result (λ e. c.seal_slice.ensures.stray.0 e whole) (λ e. large_size below us (c.seal_slice.ensures.overflow e)) c.seal_slice.ensures.only
+    seal_refused c.seal_list.result (λ e. c.seal_list.ensures.stray.0 e whole) (λ e. large_size below us (c.seal_list.ensures.overflow e)) c.seal_list.ensures.only
 
 pub returns-clause-same : goal.returns-clause-same
 returns-clause-same g c =
-    ok_both c.seal_slice.result (λ batch s a l. record { sums = s; among = a; smaller = l }) c.seal_slice.ensures.sums c.seal_slice.ensures.among c.seal_slice.ensures.size
+    ok_both c.seal_list.result (λ batch s a l. record { sums = s; among = a; smaller = l }) c.seal_list.ensures.sums c.seal_list.ensures.among c.seal_list.ensures.size

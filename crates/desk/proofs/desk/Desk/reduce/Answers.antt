@@ -13,7 +13,7 @@ use Rattle.desk.proofs.desk.Desk.reduce.Goals as goal
 pub take-requires : goal.take-requires
 take-requires g c =
     let r = c.requires.there in
-    let us = c.args.updates.now in
+    let us = c.args.list.now in
     let there = subst (λ (x : DeskView g.row.T.Denot). slice_get x.reductions c.args.node ≡ Some (Some r.0)) (sym c.self.view_is) r.1 in
     let mine = found_at c.self.inside.reductions.items c.number.result c.args.node c.index_mut.result.now (Some r.0) c.number.ensures c.index_mut.ensures.value there in
     let same = same_Some r.0 c.in-Some.reduction (sym mine ∙ c.in-Some.is) in (
@@ -53,8 +53,8 @@ returns-clause-reduced g c =
     let here = there ∙ ap Some (sym mine ∙ c.in-Some.is) in
     let after = record d { reductions = set d.reductions c.number.result (Some c.take.new.self) } in
     on_ok_three c.take.result (λ kept stands pending.
-    subst (λ x. IsReducedWith below joined least n c.args.updates.now x after) c.self.view_is
-    (reduced_after below joined least n d c.in-Some.reduction c.take.new.self c.args.updates.now g.met.T.PartialOrder.order c.number.result c.number.ensures here kept stands pending))
+    subst (λ x. IsReducedWith below joined least n c.args.list.now x after) c.self.view_is
+    (reduced_after below joined least n d c.in-Some.reduction c.take.new.self c.args.list.now g.met.T.PartialOrder.order c.number.result c.number.ensures here kept stands pending))
     c.take.ensures.kept c.take.ensures.stands c.take.ensures.pending
 
 pub returns-clause-same : goal.returns-clause-same

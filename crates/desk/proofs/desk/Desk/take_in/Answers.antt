@@ -29,8 +29,8 @@ arrange-requires g c =
       ),
     )
 
-pub reduce_list-requires : goal.reduce_list-requires
-reduce_list-requires g c =
+pub reduce-requires : goal.reduce-requires
+reduce-requires g c =
     let below = g.T.PartialOrder.below in
     let joined = g.T.Lattice.joined in
     let least = g.T.Minimum.least in
@@ -68,9 +68,9 @@ returns-in-Arrange-clause-leads g c =
 
 pub returns-in-Reduce-clause-leads : goal.returns-in-Reduce-clause-leads
 returns-in-Reduce-clause-leads g c =
-    on_ok_by c.reduce_list.result
-    (reduced_leads g.T.PartialOrder.below g.T.Lattice.joined g.T.Minimum.least g.met.T.PartialOrder.order c.args.plan.now c.args.self.now c.reduce_list.new.self c.args.bundle.now c.args.more g.T.Lattice.met g.met.T.Lattice.bounds c.in-Reduce.kind c.in-Reduce.source
-    (sym c.node-operator.ensures ∙ c.in-Reduce.is)) c.reduce_list.ensures.reduced
+    on_ok_by c.reduce.result
+    (reduced_leads g.T.PartialOrder.below g.T.Lattice.joined g.T.Minimum.least g.met.T.PartialOrder.order c.args.plan.now c.args.self.now c.reduce.new.self c.args.bundle.now c.args.more g.T.Lattice.met g.met.T.Lattice.bounds c.in-Reduce.kind c.in-Reduce.source
+    (sym c.node-operator.ensures ∙ c.in-Reduce.is)) c.reduce.ensures.reduced
 
 pub returns-in-Reduce-clause-refused : goal.returns-in-Reduce-clause-refused
 returns-in-Reduce-clause-refused g c =
@@ -80,8 +80,8 @@ returns-in-Reduce-clause-refused g c =
     let p = c.args.plan.now in
     let d = c.args.self.now in
     let b = c.args.bundle.now in
-    if_err_from c.reduce_list.result (IsMemoryOrOverflow (2 ^ 63 ≤ size b.updates)) (IsMemoryOrOverflow (IsTooLarge below joined least g.T.Ord.cmp p d (Taken b c.args.more)))
-    (λ e m. memory_or (bundle_too_large below joined least g.met.T.PartialOrder.order g.T.Ord.cmp p d b c.args.more c.in-Reduce.kind c.in-Reduce.source (sym c.node-operator.ensures ∙ c.in-Reduce.is)) m) c.reduce_list.ensures.refused
+    if_err_from c.reduce.result (IsMemoryOrOverflow (2 ^ 63 ≤ size b.updates)) (IsMemoryOrOverflow (IsTooLarge below joined least g.T.Ord.cmp p d (Taken b c.args.more)))
+    (λ e m. memory_or (bundle_too_large below joined least g.met.T.PartialOrder.order g.T.Ord.cmp p d b c.args.more c.in-Reduce.kind c.in-Reduce.source (sym c.node-operator.ensures ∙ c.in-Reduce.is)) m) c.reduce.ensures.refused
 
 pub returns-in_default-clause-leads : goal.returns-in_default-clause-leads
 returns-in_default-clause-leads g c =
