@@ -147,7 +147,8 @@ impl<T: Minimum> Accounts<T> {
         requires { node < length self.old.nodes }
         ensures kept { self.new ≡ self.old }
         ensures beyond { IfOk result (λ found. (t : T)
-            → is_beyond T.below found t ≡ is_beyond T.below (input_front_of T.below self.old node) t) }
+            → is_beyond T.below found t
+            ≡ is_beyond T.below (input_front_of T.below self.old node) t) }
         ensures refused { IfErr result (λ refusal. refusal ≡ OutOfMemory) }
     {
         self.tally.input_times_of(node)

@@ -31,7 +31,8 @@ fn is_in_place<T: Lattice>(updates: &[Update<T>], i: usize) -> bool
     ensures nonzero { IsTrue result
         → (d : Update T) → (slice_index_or updates.now i d).diff ≢ pos 0 }
     ensures behind { IsTrue result → 0 < i → (d : Update T)
-        → by_row_then_time T.cmp (slice_index_or updates.now (i - 1) d) (slice_index_or updates.now i d)
+        → by_row_then_time T.cmp (slice_index_or updates.now (i - 1) d)
+        (slice_index_or updates.now i d)
         ≡ Less }
 {
     if updates[i].diff == 0 {
@@ -66,7 +67,8 @@ fn is_packed_in_place<T: Lattice>(columns: &Columns<T>, i: usize, run: usize) ->
     ensures nonzero { IsTrue result
         → (d : Update T) → (slice_index_or columns.now i d).diff ≢ pos 0 }
     ensures behind { IsTrue result → 0 < i → (d : Update T)
-        → by_row_then_time T.cmp (slice_index_or columns.now (i - 1) d) (slice_index_or columns.now i d)
+        → by_row_then_time T.cmp (slice_index_or columns.now (i - 1) d)
+        (slice_index_or columns.now i d)
         ≡ Less }
 {
     if columns.diff(i) == 0 {

@@ -226,7 +226,8 @@ impl Table {
     pub(crate) fn compare_key(&self, number: usize, key: &[i64]) -> Ordering
         requires { number < length self.now }
         ensures { result
-            ≡ slice_cmp int_cmp (take (length key.now) (slice_index_or self.now number [])) key.now }
+            ≡ slice_cmp int_cmp (take (length key.now) (slice_index_or self.now number []))
+            key.now }
     {
         let width = (self.widths[number] as usize).min(key.len());
         for i in 0..width {

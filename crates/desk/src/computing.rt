@@ -54,11 +54,13 @@ impl<T: Minimum> Desk<T> {
     // Computes what a bundle makes, or what is to be given at a node that the worker turned to.
     fn begin(&mut self, alloc: Global, plan: &Plan, hand: &mut Hand<T>) -> Result<(), Refusal>
         requires someones { IsSomeones T.below T.joined T.least plan.now self.old hand.old }
-        ensures leads { Leads T.below T.joined T.least plan.now self.old hand.old self.new hand.new }
+        ensures leads { Leads T.below T.joined T.least plan.now
+            self.old hand.old self.new hand.new }
         ensures computed { OnOk result (IsComputed hand.new) }
         ensures node { hand_node hand.new ≡ hand_node hand.old }
         ensures passed { IsTrue (gives_passed hand.old) → IsTrue (gives_passed hand.new) }
-        ensures refused { IfErr result (IsMemoryOrOverflow (IsTooLarge T.below T.joined T.least T.cmp
+        ensures refused { IfErr result (IsMemoryOrOverflow
+            (IsTooLarge T.below T.joined T.least T.cmp
             plan.now self.old hand.old)) }
     {
         if self.passes_on(plan, hand) {
@@ -98,11 +100,13 @@ impl<T: Minimum> Desk<T> {
     fn settle(&mut self, alloc: Global, plan: &Plan, hand: &mut Hand<T>) -> Result<(), Refusal>
         requires someones { IsSomeones T.below T.joined T.least plan.now self.old hand.old }
         requires computed { IsComputed hand.old }
-        ensures leads { Leads T.below T.joined T.least plan.now self.old hand.old self.new hand.new }
+        ensures leads { Leads T.below T.joined T.least plan.now
+            self.old hand.old self.new hand.new }
         ensures computed { IsComputed hand.new }
         ensures node { hand_node hand.new ≡ hand_node hand.old }
         ensures passed { IsTrue (gives_passed hand.old) → IsTrue (gives_passed hand.new) }
-        ensures refused { IfErr result (IsMemoryOrOverflow (IsTooLarge T.below T.joined T.least T.cmp
+        ensures refused { IfErr result (IsMemoryOrOverflow
+            (IsTooLarge T.below T.joined T.least T.cmp
             plan.now self.old hand.old)) }
     {
         let Hand::Kept { node, more } = hand else {
@@ -136,11 +140,13 @@ impl<T: Minimum> Desk<T> {
     /// that the frontier has passed.
     pub fn compute(&mut self, alloc: Global, plan: &Plan, hand: &mut Hand<T>) -> Result<(), Refusal>
         requires someones { IsSomeones T.below T.joined T.least plan.now self.old hand.old }
-        ensures leads { Leads T.below T.joined T.least plan.now self.old hand.old self.new hand.new }
+        ensures leads { Leads T.below T.joined T.least plan.now
+            self.old hand.old self.new hand.new }
         ensures computed { OnOk result (IsComputed hand.new) }
         ensures node { hand_node hand.new ≡ hand_node hand.old }
         ensures passed { IsTrue (gives_passed hand.old) → IsTrue (gives_passed hand.new) }
-        ensures refused { IfErr result (IsMemoryOrOverflow (IsTooLarge T.below T.joined T.least T.cmp
+        ensures refused { IfErr result (IsMemoryOrOverflow
+            (IsTooLarge T.below T.joined T.least T.cmp
             plan.now self.old hand.old)) }
     {
         if is_computed(hand) {

@@ -69,13 +69,15 @@ impl<T: Minimum> Desk<T> {
         requires someones { IsSomeones T.below T.joined T.least plan.now self.old
             (Turned node upper.now) }
         requires reduces { (kind : Kind) × (node_at plan.now node ≡ Reduce kind source) }
-        requires there { (r : ReducingView T) × (slice_get self.old.reductions node ≡ Some (Some r)) }
+        requires there { (r : ReducingView T)
+            × (slice_get self.old.reductions node ≡ Some (Some r)) }
         requires read { (a : ArrangementState T)
             × (slice_get self.old.arrangements source ≡ Some (Some a)) }
         ensures leads { IfOk result (λ out. Leads T.below T.joined T.least plan.now
             self.old (Turned node upper.now) self.new (Ready node out)) }
         ensures same { OnErr result (self.new ≡ self.old) }
-        ensures refused { IfErr result (IsMemoryOrOverflow (IsTooLarge T.below T.joined T.least T.cmp
+        ensures refused { IfErr result (IsMemoryOrOverflow
+            (IsTooLarge T.below T.joined T.least T.cmp
             plan.now self.old (Turned node upper.now))) }
     {
         let source = arrangement_at(&self.arrangements, source).trace();
@@ -102,7 +104,8 @@ impl<T: Minimum> Desk<T> {
         ensures passed { IfOk result (λ hand. IsTrue (gives_passed hand)) }
         ensures kept { OnErr result (Leads T.below T.joined T.least plan.now
             self.old (Turned node upper.now) self.new (Turned node upper.now)) }
-        ensures refused { IfErr result (IsMemoryOrOverflow (IsTooLarge T.below T.joined T.least T.cmp
+        ensures refused { IfErr result (IsMemoryOrOverflow
+            (IsTooLarge T.below T.joined T.least T.cmp
             plan.now self.old (Turned node upper.now))) }
     {
         match plan.node(node) {

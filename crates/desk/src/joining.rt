@@ -175,7 +175,8 @@ impl<T: Minimum> Desk<T> {
         ensures leads { IfOk result (λ out. Leads T.below T.joined T.least plan.now
             self.old (Taken bundle.now more) self.new (Ready bundle.now.place.node out.items)) }
         ensures same { OnErr result (self.new ≡ self.old) }
-        ensures refused { IfErr result (IsMemoryOrOverflow (IsTooLarge T.below T.joined T.least T.cmp
+        ensures refused { IfErr result (IsMemoryOrOverflow
+            (IsTooLarge T.below T.joined T.least T.cmp
             plan.now self.old (Taken bundle.now more))) }
     {
         let node = bundle.place.node;

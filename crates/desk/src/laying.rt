@@ -84,7 +84,8 @@ impl<T: Minimum> Desk<T> {
         node: NodeId,
         list: &mut UpdateList<T>,
     ) -> Result<(), Refusal>
-        requires there { (a : ArrangementState T) × (slice_get self.old.arrangements node ≡ Some (Some a))
+        requires there { (a : ArrangementState T)
+            × (slice_get self.old.arrangements node ≡ Some (Some a))
             × IsTrue (rows_have a.width list.old) }
         requires times { IsTrue (times_from T.below T.least list.old) }
         ensures laid { OnOk result ((p : Dataflow) (source key : ℕ)
@@ -133,7 +134,8 @@ impl<T: Minimum> Desk<T> {
             (Taken bundle.old more) self.new (Kept bundle.old.place.node more)) }
         ensures same { OnErr result (self.new ≡ self.old) }
         ensures left { OnErr result (bundle.new ≡ bundle.old) }
-        ensures refused { IfErr result (IsMemoryOrOverflow (IsTooLarge T.below T.joined T.least T.cmp
+        ensures refused { IfErr result (IsMemoryOrOverflow
+            (IsTooLarge T.below T.joined T.least T.cmp
             plan.now self.old (Taken bundle.old more))) }
     {
         let node = bundle.place.node;
@@ -164,7 +166,8 @@ impl<T: Minimum> Desk<T> {
             self.old (Taken bundle.old more) self.new (Kept bundle.old.place.node more)) }
         ensures same { OnErr result (self.new ≡ self.old) }
         ensures left { OnErr result (bundle.new ≡ bundle.old) }
-        ensures refused { IfErr result (IsMemoryOrOverflow (IsTooLarge T.below T.joined T.least T.cmp
+        ensures refused { IfErr result (IsMemoryOrOverflow
+            (IsTooLarge T.below T.joined T.least T.cmp
             plan.now self.old (Taken bundle.old more))) }
     {
         match plan.node(bundle.place.node) {

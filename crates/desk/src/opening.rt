@@ -137,7 +137,8 @@ impl<T: Minimum> Desk<T> {
 
     // A desk on which nothing lies yet.
     fn empty(alloc: Global) -> Desk<T>
-        ensures { result ≡ record { gathered = []; arrangements = []; joins = []; reductions = [] } }
+        ensures { result
+            ≡ record { gathered = []; arrangements = []; joins = []; reductions = [] } }
     {
         Desk {
             gathered: Vec::new(alloc),
@@ -229,7 +230,8 @@ impl<T: Minimum> Desk<T> {
         requires join { node_at plan.now node ≡ Join left right }
         requires before { IsLaidOut T.below T.joined T.least plan.now self.old node }
         ensures laid_out { OnOk result (IsLaidOut T.below T.joined T.least plan.now self.new node) }
-        ensures made { IfOk result (λ j. IsFirstJoin T.below T.joined T.least plan.now node left right j
+        ensures made { IfOk result (λ j.
+            IsFirstJoin T.below T.joined T.least plan.now node left right j
             × HasOwnHolds T.below T.joined T.least plan.now self.new left right j) }
         ensures only { IfErr result (λ refused. refused ≡ OutOfMemory) }
     {

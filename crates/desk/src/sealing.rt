@@ -88,7 +88,8 @@ impl<T: Minimum> Desk<T> {
             self.old (Turned node upper.now) self.new (Sealed node batch)) }
         ensures kept { OnErr result (Leads T.below T.joined T.least plan.now
             self.old (Turned node upper.now) self.new (Turned node upper.now)) }
-        ensures refused { IfErr result (IsMemoryOrOverflow (IsTooLarge T.below T.joined T.least T.cmp
+        ensures refused { IfErr result (IsMemoryOrOverflow
+            (IsTooLarge T.below T.joined T.least T.cmp
             plan.now self.old (Turned node upper.now))) }
     {
         seal_at(alloc, &self.start, &mut self.arrangements, node, upper)

@@ -102,7 +102,8 @@ fn move_hold_at<T: Minimum>(
         × MayMove T.below T.least a number logical.now boundary.now }
     requires frontiers { IsFrontier T.below T.cmp logical.now
         × IsFrontier T.below T.cmp boundary.now }
-    ensures moved { (a : ArrangementState T) → slice_get arrangements.old.items source ≡ Some (Some a)
+    ensures moved { (a : ArrangementState T)
+        → slice_get arrangements.old.items source ≡ Some (Some a)
         → OnOk result ((b : ArrangementState T) × (arrangements.new.items
         ≡ set arrangements.old.items source (Some b))
         × HasMoved T.below number logical.now boundary.now a b) }
@@ -149,7 +150,8 @@ fn settle_at<T: Minimum>(
         × (slice_get arrangements.old.items node ≡ Some (Some a)) × MayRise T.below a level.now }
     ensures settled { (a : ArrangementState T)
         → slice_get arrangements.old.items node ≡ Some (Some a)
-        → (b : ArrangementState T) × (arrangements.new.items ≡ set arrangements.old.items node (Some b))
+        → (b : ArrangementState T)
+        × (arrangements.new.items ≡ set arrangements.old.items node (Some b))
         × IsSettled T.below level.now a b
         × OnOk result (IsHeldFrom b 0 level.now (upper_of b.spine))
         × IfOk result (λ done. done ≡ true → IsDone T.below b.spine) }
@@ -177,7 +179,8 @@ impl<T: Minimum> Desk<T> {
     ) -> Result<(), Refusal>
         requires may { (j : JoiningView T) × (slice_get self.old.joins node ≡ Some (Some j))
             × (a : ArrangementState T) × (slice_get self.old.arrangements source ≡ Some (Some a))
-            × MayMove T.below T.least a (hold_at port j) (front_of_port fronts.now node (other_port port))
+            × MayMove T.below T.least a (hold_at port j)
+            (front_of_port fronts.now node (other_port port))
             (boundary_at port j) }
         requires few { node < 256 }
         ensures moved { (j : JoiningView T) → slice_get self.old.joins node ≡ Some (Some j)

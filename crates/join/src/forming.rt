@@ -139,7 +139,8 @@ fn sum_with_last<T: Lattice>(updates: &[Update<T>], pair: &Update<T>) -> Option<
 // Gives the last update of a list another difference, or takes it off if that is 0.
 fn set_last<T: Lattice>(updates: &mut Vec<Update<T>>, sum: i64)
     requires { 0 < length updates.old.items }
-    ensures { (d : Update T) → updates.new.items ≡ take (length updates.old.items - 1) updates.old.items
+    ensures { (d : Update T) → updates.new.items
+        ≡ take (length updates.old.items - 1) updates.old.items
         ++ group_sum (slice_index_or updates.old.items (length updates.old.items - 1) d) sum }
 {
     let last = updates.len() - 1;
@@ -609,9 +610,11 @@ pub(crate) fn form_pairs<B: BatchReader, C: BatchReader<Time = B::Time>>(
         (all_content C.content others.now)) }
     ensures consolidated { IfOk result (λ made. IsConsolidated B.Time.cmp made.updates.items) }
     ensures stands { IfOk result (λ made. StandsIn made.updates.items
-        (formed_all side B.Time.joined k (B.content batch.now) (all_content C.content others.now))) }
+        (formed_all side B.Time.joined k (B.content batch.now)
+        (all_content C.content others.now))) }
     ensures exact { OnOk result (HasLargeTotal B.Time.below
-        (formed_all side B.Time.joined k (B.content batch.now) (all_content C.content others.now)) → ⊥) }
+        (formed_all side B.Time.joined k (B.content batch.now)
+        (all_content C.content others.now)) → ⊥) }
     ensures looked { IfOk result (λ made. made.looked ≡ min (looked
         + length (formed_all side B.Time.joined k (B.content batch.now)
         (all_content C.content others.now))) (2 ^ 64 - 1)) }

@@ -46,7 +46,8 @@ impl<T: Lattice> Model for Levels<T> {
 
     ghost view = { λ s. record { list = s.list; underway = s.underway.items } };
 
-    ghost invariant = { λ s. AreUnderway T.below T.cmp T.joined T.met s.list.batches s.underway.items };
+    ghost invariant = { λ s.
+        AreUnderway T.below T.cmp T.joined T.met s.list.batches s.underway.items };
 }
 
 impl<T: Lattice> Levels<T> {

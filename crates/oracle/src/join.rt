@@ -22,7 +22,8 @@ fn range_of(left: &Bag, i: usize, right: &Bag, k: usize, before: (usize, usize))
     requires left { IsTrue (have_keys k left.now) }
     requires right { IsTrue (have_keys k right.now) }
     requires before { (d : Entry) → 1 ≤ i
-        → IsKeyRange k (take k (slice_index_or left.now (i - 1) d).row) right.now before.0 before.1 }
+        → IsKeyRange k (take k (slice_index_or left.now (i - 1) d).row) right.now
+        before.0 before.1 }
     ensures { (d : Entry)
         → IsKeyRange k (take k (slice_index_or left.now i d).row) right.now result.0 result.1 }
 {

@@ -223,7 +223,8 @@ impl<T: Lattice, R: Reducer> ReduceState<T, R> {
             ↔ (Member t (due_of key self.old.histories)
             ⊎ IsFresh T.joined (times_of self.old.key key (B.content batch.now))
             (times_of self.old.key key taken) t)) }
-        ensures later { OnOk result ((key : List ℤ) (t : T) → Member t (due_of key self.new.histories)
+        ensures later { OnOk result ((key : List ℤ) (t : T)
+            → Member t (due_of key self.new.histories)
             → Member t (due_of key self.old.histories)
             ⊎ ((u : Update T) × Member u (B.content batch.now) × (take self.old.key u.row ≡ key)
             × (T.below u.time t ≡ true))) }

@@ -155,7 +155,8 @@ fn open_into<T: Minimum, P: BoardProtocol<T>, R: Wait>(
     actors: &mut Vec<Actor<T, P>>,
 ) -> Result<(), Refusal>
     ensures count { OnOk result (length actors.new.items ≡ 2) }
-    ensures each { OnOk result ((k : ℕ) (a : Known (Doing T)) → slice_get actors.new.items k ≡ Some a
+    ensures each { OnOk result ((k : ℕ) (a : Known (Doing T))
+        → slice_get actors.new.items k ≡ Some a
         → IsFirst (terms_for plan.now 1 1) k a) }
     ensures refused { IfErr result (λ refusal. refusal ≡ OutOfMemory) }
 {

@@ -85,7 +85,8 @@ pub fn bounds_exist<T: Lattice>()
 pub fn engines_can_stand()
     ensures board { (p : List Node) → IsPlan p → (hub : TableId)
         → (k : Known (Doing Bitime)) × IsActor bitime_below (make_pair 0 0) k
-        × IsFirst (terms_for p 1 1) 1 k × StandsAs bitime_below (make_pair 0 0) k (opening_session p)
+        × IsFirst (terms_for p 1 1) 1 k
+        × StandsAs bitime_below (make_pair 0 0) k (opening_session p)
         × IsQuiet bitime_below (dataflow_of k) (state_left bitime_below (make_pair 0 0) k) }
     ensures oracle { (p : List Node) → (r : Register Bitime) × (r.plan ≡ p) × IsRegister r
         × Records r (opening_session p) }

@@ -112,7 +112,8 @@ impl<T: Minimum, P: BoardProtocol<T>> Client<T, P> {
         frontier: &Antichain<T>,
     ) -> Result<(), Refusal>
         requires input { IsInput (dataflow_of self.old) input }
-        ensures { IsAdvanced T.below T.least self.old self.new (IsDone self.old self.new) input frontier.now result }
+        ensures { IsAdvanced T.below T.least self.old self.new (IsDone self.old self.new)
+            input frontier.now result }
     {
         match times_of(alloc, frontier) {
             Ok(times) => self.actor.try_advance(input, times),
@@ -123,7 +124,8 @@ impl<T: Minimum, P: BoardProtocol<T>> Client<T, P> {
     /// Closes an input: it takes no more changes. Refused with `Busy` alone. Takes no memory.
     pub fn close_input(&mut self, input: NodeId) -> Result<(), Refusal>
         requires input { IsInput (dataflow_of self.old) input }
-        ensures { IsClosed T.below T.least self.old self.new (IsDone self.old self.new) input result }
+        ensures { IsClosed T.below T.least self.old self.new (IsDone self.old self.new)
+            input result }
     {
         self.actor.try_close(input)
     }
@@ -139,7 +141,8 @@ impl<T: Minimum, P: BoardProtocol<T>> Client<T, P> {
     ) -> Result<(), Refusal>
         requires within { view < length (dataflow_of self.old).nodes }
         requires view { IsTrue (is_output (node_of (dataflow_of self.old) view)) }
-        ensures { IsGivenUp T.below T.least self.old self.new (IsDone self.old self.new) view frontier.now result }
+        ensures { IsGivenUp T.below T.least self.old self.new (IsDone self.old self.new)
+            view frontier.now result }
     {
         match times_of(alloc, frontier) {
             Ok(times) => self.actor.try_allow(view, times),
@@ -151,7 +154,8 @@ impl<T: Minimum, P: BoardProtocol<T>> Client<T, P> {
     /// `OutOfMemory`.
     pub fn probe(&mut self, view: NodeId) -> Result<Antichain<T>, Refusal>
         requires within { view < length (dataflow_of self.old).nodes }
-        ensures { IsProbed T.below T.least self.old self.new (IsAnswered self.old self.new) view result }
+        ensures { IsProbed T.below T.least self.old self.new (IsAnswered self.old self.new)
+            view result }
     {
         self.actor.try_frontier(view)
     }
@@ -163,7 +167,8 @@ impl<T: Minimum, P: BoardProtocol<T>> Client<T, P> {
     pub fn read(&mut self, view: NodeId, time: T) -> Result<Bag, Refusal>
         requires within { view < length (dataflow_of self.old).nodes }
         requires view { IsTrue (is_output (node_of (dataflow_of self.old) view)) }
-        ensures { HasRead T.below T.least self.old self.new (IsAnswered self.old self.new) view time result }
+        ensures { HasRead T.below T.least self.old self.new (IsAnswered self.old self.new)
+            view time result }
     {
         self.actor.try_read(view, time)
     }
@@ -183,7 +188,8 @@ impl<T: Minimum, P: BoardProtocol<T>> Client<T, P> {
     /// Whether no accepted change is still in flight: then each view's frontier is that of its
     /// inputs. Refused with `Busy` alone. Takes no memory.
     pub fn quiet(&mut self) -> Result<bool, Refusal>
-        ensures { HasAskedQuiet T.below T.least self.old self.new (IsAnswered self.old self.new) result }
+        ensures { HasAskedQuiet T.below T.least self.old self.new
+            (IsAnswered self.old self.new) result }
     {
         self.actor.try_is_quiet()
     }
@@ -191,7 +197,8 @@ impl<T: Minimum, P: BoardProtocol<T>> Client<T, P> {
     /// Whether a worker told that a number is too large with the changes accepted so far. Refused
     /// with `Busy` alone. Takes no memory.
     pub fn is_too_large(&mut self) -> Result<bool, Refusal>
-        ensures { HasAskedLarge T.below T.least self.old self.new (IsAnswered self.old self.new) T.cmp result }
+        ensures { HasAskedLarge T.below T.least self.old self.new
+            (IsAnswered self.old self.new) T.cmp result }
     {
         self.actor.try_is_too_large()
     }

@@ -64,7 +64,8 @@ impl<T: Lattice> Spine<T> {
 
     // The place of the merge that is to be begun next, if one is.
     fn next_place(&self, fuel: u64) -> Option<Place>
-        ensures some { IfSome result (λ place. CanBegin T.below place.is_alone place.number self.now) }
+        ensures some { IfSome result (λ place.
+            CanBegin T.below place.is_alone place.number self.now) }
         ensures none { result ≡ None → self.now.progress.underway ≡ []
             → IsStuck T.below fuel self.now }
     {

@@ -50,7 +50,8 @@ impl<T: Minimum, P: BoardProtocol<T>> Model for Worker<T, P> {
 
     ghost Value = { WorkerView T };
 
-    ghost view = { λ w. record { known = w.actor; desk = w.desk; hand = w.hand; failed = w.failed } };
+    ghost view = { λ w.
+        record { known = w.actor; desk = w.desk; hand = w.hand; failed = w.failed } };
 
     ghost invariant = { λ w. IsWorker T.below T.joined T.least T.cmp w.plan w.routing w.number
         (record { known = w.actor; desk = w.desk; hand = w.hand; failed = w.failed }) };
@@ -182,8 +183,9 @@ impl<T: Minimum, P: BoardProtocol<T>> Worker<T, P> {
         ensures known { LooksAtMost self.old.known self.new.known }
         ensures hand { self.new.hand ≡ Free }
         ensures going { self.new.failed ≡ false }
-        ensures told { IfOk result (λ found. IfSome found (λ fronts. AreTold T.below
-            (dataflow_of self.new.known) (state_left T.below T.least self.new.known) fronts.items)) }
+        ensures told { IfOk result (λ found.
+            IfSome found (λ fronts. AreTold T.below (dataflow_of self.new.known)
+            (state_left T.below T.least self.new.known) fronts.items)) }
         ensures refused { IfErr result (λ refusal. refusal ≡ OutOfMemory) }
     {
         let ports = ports_of(alloc, &self.plan)?;

@@ -156,7 +156,8 @@ impl<T: Minimum> Board<T> {
 fn holds_passed<T: Minimum>(accounts: &mut Accounts<T>, worker: usize, node: NodeId) -> bool
     requires { node < length accounts.old.nodes }
     ensures kept { accounts.new ≡ accounts.old }
-    ensures value { result ≡ list_any (has_passed T.below (input_front_of T.below accounts.old node))
+    ensures value { result
+        ≡ list_any (has_passed T.below (input_front_of T.below accounts.old node))
         (lot_of accounts.old.stations node worker).held }
 {
     refresh_for_many(accounts, worker, node);

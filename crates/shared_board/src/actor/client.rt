@@ -44,7 +44,8 @@ impl<T: Minimum, P: BoardProtocol<T>> Actor<T, P> {
         ensures { IsDone self.old self.new
             (Feed self.old.number (change_to input update))
             (feed_refusal_found T.below T.least self.old self.new (change_to input update))
-            (IsRefusalBy (feed_refusal_found T.below T.least self.old self.new (change_to input update)))
+            (IsRefusalBy (feed_refusal_found T.below T.least self.old self.new
+            (change_to input update)))
             result }
     {
         let mut tenure = try_enter(&self.hub, &mut self.pass)?;
@@ -61,7 +62,8 @@ impl<T: Minimum, P: BoardProtocol<T>> Actor<T, P> {
         requires input { IsInput (terms_in self.old.seen).dataflow input }
         ensures { IsDone self.old self.new (Advance self.old.number input times)
             (advance_refusal_in T.below (state_found T.below T.least self.new) input times)
-            (IsRefusalBy (advance_refusal_in T.below (state_found T.below T.least self.new) input times))
+            (IsRefusalBy (advance_refusal_in T.below (state_found T.below T.least self.new)
+            input times))
             result }
     {
         let mut tenure = try_enter(&self.hub, &mut self.pass)?;
@@ -76,7 +78,8 @@ impl<T: Minimum, P: BoardProtocol<T>> Actor<T, P> {
     pub fn try_close(&mut self, input: NodeId) -> Result<(), Refusal>
         requires client { (terms_in self.old.seen).dataflow.workers ≤ self.old.number }
         requires input { IsInput (terms_in self.old.seen).dataflow input }
-        ensures { IsDone self.old self.new (Advance self.old.number input []) None (λ refusal. ⊥) result }
+        ensures { IsDone self.old self.new (Advance self.old.number input []) None (λ refusal. ⊥)
+            result }
     {
         let mut tenure = try_enter(&self.hub, &mut self.pass)?;
         let board = tenure.state();
