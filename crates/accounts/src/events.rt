@@ -89,6 +89,14 @@ impl<T: Minimum> Accounts<T> {
         Ok(())
     }
 
+    /// The frontier of an input: changes may still be fed at times beyond it. Takes no memory.
+    pub fn open_times(&self, input: NodeId) -> &[T]
+        requires { input < length self.now.nodes }
+        ensures { result.now ≡ front_at input self.now.inputs }
+    {
+        self.inputs.of(input)
+    }
+
     /// Closes an input: its frontier then has no times. Takes no memory.
     ///
     /// Cost: that of [`Tally::remove`](progress::Tally::remove) for each element of its frontier.

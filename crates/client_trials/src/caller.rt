@@ -62,11 +62,9 @@ impl Caller {
     ) -> Result<(), Refusal> {
         let frontier = Antichain::from_elem(alloc, time);
         if self.waits {
-            return self
-                .client
-                .advance_wait(rt, alloc, NodeId::new(0), &frontier);
+            return self.client.advance_wait(rt, NodeId::new(0), &frontier);
         }
-        self.client.advance(alloc, NodeId::new(0), &frontier)
+        self.client.advance(NodeId::new(0), &frontier)
     }
 
     pub(crate) fn close_input<R: Wait>(&mut self, rt: &R) -> Result<(), Refusal> {
@@ -85,9 +83,9 @@ impl Caller {
     ) -> Result<(), Refusal> {
         let frontier = Antichain::from_elem(alloc, time);
         if self.waits {
-            return self.client.allow_wait(rt, alloc, NodeId::new(1), &frontier);
+            return self.client.allow_wait(rt, NodeId::new(1), &frontier);
         }
-        self.client.allow(alloc, NodeId::new(1), &frontier)
+        self.client.allow(NodeId::new(1), &frontier)
     }
 
     pub(crate) fn probe<R: Wait>(&mut self, rt: &R) -> Result<Antichain<Bitime>, Refusal> {

@@ -53,10 +53,8 @@ impl<T: Minimum> Client<T> {
     }
 
     // Moves the frontier of the input to one time.
-    fn advance<R: Wait>(&mut self, rt: &R, alloc: Global, time: T) -> Result<(), Refusal> {
-        let mut times = Vec::new(alloc);
-        times.push(time)?;
-        self.actor.advance(rt, NodeId::new(0), times.into())
+    fn advance<R: Wait>(&mut self, rt: &R, time: T) -> Result<(), Refusal> {
+        self.actor.advance(rt, NodeId::new(0), &[time])
     }
 
     fn close<R: Wait>(&mut self, rt: &R) {
@@ -146,8 +144,8 @@ fn is_fed<T: Minimum, R: Wait + Abort>(
         Err(Refusal::OutOfMemory) => client.feed(rt, alloc, start)?,
         done => done?,
     }
-    match client.advance(rt, alloc, later) {
-        Err(Refusal::OutOfMemory) => client.advance(rt, alloc, later)?,
+    match client.advance(rt, later) {
+        Err(Refusal::OutOfMemory) => client.advance(rt, later)?,
         done => done?,
     }
     let late = match client.feed(rt, alloc, start) {

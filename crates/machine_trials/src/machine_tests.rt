@@ -7,11 +7,11 @@ use lattice::Bitime;
 use machine::{Board, CutEmission, Emission, Routing};
 use plan::NodeId;
 use row::Row;
-use std::alloc::{AllocError, Global};
+use std::alloc::Global;
 use std::process::Abort;
 use std::test::Fail;
 use trials::sketches::{arrange, at, built, input, list, view};
-use update::{Refusal, Times, Update};
+use update::{Refusal, Update};
 
 // The client's number, which is greater than those of the workers.
 const CLIENT: usize = 7;
@@ -39,20 +39,8 @@ fn fed(rt: &impl Abort, alloc: Global, board: &mut Board<Bitime>) -> Result<(), 
     board.feed(CLIENT, input, update)
 }
 
-// A frontier of one time.
-fn times(alloc: Global, time: (u64, u64)) -> Result<Times<Bitime>, AllocError> {
-    let mut times = Vec::new(alloc);
-    times.push(at(time))?;
-    Ok(times.into())
-}
-
 // Moves the frontier of the input to one time.
-fn advanced(
-    rt: &impl Abort,
-    alloc: Global,
-    board: &mut Board<Bitime>,
-    time: (u64, u64),
-) -> Result<(), Refusal> {
+fn advanced(rt: &impl Abort, board: &mut Board<Bitime>, time: (u64, u64)) -> Result<(), Refusal> {
     let input = NodeId::new(0);
     let there = input.number() < board.plan().len();
     assert!(rt; there);
@@ -60,7 +48,7 @@ fn advanced(
     assert!(rt; is_input);
     let is_client = board.workers() <= CLIENT;
     assert!(rt; is_client);
-    board.advance(CLIENT, input, times(alloc, time)?)
+    board.advance(CLIENT, input, &[at(time)])
 }
 
 // The view. The asserts show that it is one, as questions require.
@@ -77,16 +65,11 @@ fn the_view(rt: &impl Abort, board: &Board<Bitime>) -> NodeId
 }
 
 // Readers of the view give up all times that are not at or after this one.
-fn allowed(
-    rt: &impl Abort,
-    alloc: Global,
-    board: &mut Board<Bitime>,
-    time: (u64, u64),
-) -> Result<(), Refusal> {
+fn allowed(rt: &impl Abort, board: &mut Board<Bitime>, time: (u64, u64)) -> Result<(), Refusal> {
     let view = the_view(rt, board);
     let is_client = board.workers() <= CLIENT;
     assert!(rt; is_client);
-    board.allow(CLIENT, view, times(alloc, time)?)
+    board.allow(CLIENT, view, &[at(time)])
 }
 
 // How many rows the view has at a time.
@@ -106,8 +89,8 @@ fn changes_of(rt: &impl Abort, board: &mut Board<Bitime>) -> Result<usize, Refus
 // Readers give up the times before (4, 4) of a view that has passed all times before (9, 9). Then
 // they may not come back, and may ask only at times that are passed and not given up.
 fn is_given_up(rt: &impl Abort, alloc: Global, board: &mut Board<Bitime>) -> Result<bool, Refusal> {
-    advanced(rt, alloc, board, (9, 9))?;
-    allowed(rt, alloc, board, (4, 4))?;
+    advanced(rt, board, (9, 9))?;
+    allowed(rt, board, (4, 4))?;
     let before = rows_at(rt, board, (3, 3)) == Err(Refusal::GivenUp);
     let apart = rows_at(rt, board, (3, 8)) == Err(Refusal::GivenUp);
     let at_it = rows_at(rt, board, (4, 4))? == 0;
@@ -140,8 +123,8 @@ fn boards_take_memory(rt: HostRuntime) -> Result<(), Fail> {
         Err(Refusal::OutOfMemory) => fed(&rt, alloc, &mut board)?,
         done => done?,
     }
-    match advanced(&rt, alloc, &mut board, (0, 1)) {
-        Err(Refusal::OutOfMemory) => advanced(&rt, alloc, &mut board, (0, 1))?,
+    match advanced(&rt, &mut board, (0, 1)) {
+        Err(Refusal::OutOfMemory) => advanced(&rt, &mut board, (0, 1))?,
         done => done?,
     }
     assert_eq!(rt; fed(&rt, alloc, &mut board), Err(Refusal::TimePassed));
@@ -174,10 +157,7 @@ fn giving_up_times_takes_memory(rt: HostRuntime) -> Result<(), Fail> {
         done => done?,
     };
     assert!(rt; given_up);
-    match allowed(&rt, alloc, &mut board, (3, 9)) {
-        Err(Refusal::OutOfMemory) => return Ok(()),
-        done => assert_eq!(rt; done, Err(Refusal::NotForward)),
-    }
+    assert_eq!(rt; allowed(&rt, &mut board, (3, 9)), Err(Refusal::NotForward));
     Ok(())
 }
 

@@ -38,7 +38,6 @@ pub(crate) fn fed(
 // Moves the frontier of the input to a time.
 pub(crate) fn advanced(
     rt: &impl Abort,
-    alloc: Global,
     board: &mut Board<Bitime>,
     time: (u64, u64),
 ) -> Result<(), Refusal> {
@@ -49,9 +48,7 @@ pub(crate) fn advanced(
     assert!(rt; is_input);
     let is_client = board.workers() <= CLIENT;
     assert!(rt; is_client);
-    let mut times = Vec::new(alloc);
-    times.push(at(time))?;
-    board.advance(CLIENT, input, times.into())
+    board.advance(CLIENT, input, &[at(time)])
 }
 
 // Worker 0 gives this, and holds these times at the node from then on.

@@ -23,7 +23,7 @@ fn prepared(rt: &impl Abort, alloc: Global) -> Result<Board<Bitime>, Refusal> {
     let mut board = Board::open(alloc, built(alloc, &[input(1), view(0)])?, 2)?;
     fed(rt, alloc, &mut board, 0, (0, 0))?;
     fed(rt, alloc, &mut board, 1, (1, 0))?;
-    advanced(rt, alloc, &mut board, (2, 0))?;
+    advanced(rt, &mut board, (2, 0))?;
     Ok(board)
 }
 

@@ -63,7 +63,7 @@ fn prepared(rt: &impl Abort, alloc: Global) -> Result<Board<Bitime>, Refusal> {
     }
     fed(rt, alloc, &mut board, 7, (0, 1))?;
     fed(rt, alloc, &mut board, 7, (0, 1))?;
-    advanced(rt, alloc, &mut board, (0, 1))?;
+    advanced(rt, &mut board, (0, 1))?;
     Ok(board)
 }
 

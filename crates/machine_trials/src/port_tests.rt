@@ -34,7 +34,7 @@ fn is_at(
 fn ports_have_frontiers_of_their_own(rt: HostRuntime) -> Result<(), Fail> {
     let alloc = rt.alloc();
     let mut board: Board<Bitime> = Board::open(alloc, join_of_two(alloc, 1)?, 1)?;
-    advanced(&rt, alloc, &mut board, (0, 1))?;
+    advanced(&rt, &mut board, (0, 1))?;
     let left = is_at(&rt, &mut board, 0, &[at((0, 1))])?;
     let right = is_at(&rt, &mut board, 1, &[at((0, 0))])?;
     assert!(rt; left && right);
@@ -50,7 +50,7 @@ fn a_waiting_bundle_holds_its_port_back(rt: HostRuntime) -> Result<(), Fail> {
     fed(&rt, alloc, &mut board, 7, (3, 0))?;
     passed_on(&rt, alloc, &mut board, INPUT)?;
     passed_on(&rt, alloc, &mut board, ARRANGED)?;
-    advanced(&rt, alloc, &mut board, (0, 1))?;
+    advanced(&rt, &mut board, (0, 1))?;
     let left = is_at(&rt, &mut board, 0, &[at((0, 1)), at((3, 0))])?;
     let right = is_at(&rt, &mut board, 1, &[at((0, 0))])?;
     assert!(rt; left && right);

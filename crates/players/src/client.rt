@@ -3,7 +3,7 @@
 //! Its calls ask for a node that is an input or a view. That is tested here, so a test need not be
 //! proved to name one: any other node is refused with `UnknownName`. All else is as the session's client
 //! answers it ([`session::Client`]): one tenure for each call, for which it waits.
-ghost use Rattle.std.specs.Prelude.{◌≡◌, ◌≤◌, ◌<◌, IsTrue, length};
+ghost use Rattle.std.specs.Prelude.{◌≡◌, ◌<◌, IsTrue, length};
 ghost use Rattle.std.specs.Bool.{OnTrue};
 ghost use Rattle.plan.specs.Nodes.{is_input, is_output, node_at};
 ghost use Rattle.shared_board.specs.Tenures.{terms_in};
@@ -90,9 +90,9 @@ impl<T: Minimum, P: BoardProtocol<T>> Client<T, P> {
             return Err(Refusal::UnknownName);
         }
         if self.waits {
-            return self.client.advance_wait(rt, self.alloc, input, frontier);
+            return self.client.advance_wait(rt, input, frontier);
         }
-        self.client.advance(self.alloc, input, frontier)
+        self.client.advance(input, frontier)
     }
 
     /// The frontier of a view.

@@ -1,4 +1,3 @@
 pub mod ClientLemmas
-pub mod TurnLemmas
 pub mod OpeningLemmas
 pub mod MoveLemmas

@@ -1,10 +1,9 @@
 -- What a call of a client adds to what it has seen, whether it waits or not.
-use Rattle.std.specs.Prelude.{◌≡◌, ◌⊎◌, ◌↔◌, ℕ, ℤ, Bool, List, [], Option, None, Some, Result, IsTrue}
+use Rattle.std.specs.Prelude.{◌≡◌, ◌↔◌, ℕ, ℤ, Bool, List, [], Option, None, Result, IsTrue}
 use Rattle.std.specs.declared.cmp.Ordering.{Ordering}
 use Rattle.antichain.specs.Antichains.{SameElements}
 use Rattle.update.specs.Bags.{Entry}
 use Rattle.update.specs.Refusals.{IsRefusalBy}
-use Rattle.update.specs.declared.change.Update.{Update}
 use Rattle.update.specs.declared.refusal.Refusal.{Refusal}
 use Rattle.update.specs.declared.refusal.Refusal.TheVariants.{OutOfMemory}
 use Rattle.hub.specs.Known.{Known}
@@ -13,8 +12,8 @@ use Rattle.histories.specs.declared.event.Event.TheVariants.{Advance, Allow, Fee
 use Rattle.histories.specs.declared.event.Fed.{Fed}
 use Rattle.histories.specs.Histories.States.{change_to}
 use Rattle.shared_board.specs.declared.event.Doing.{Doing}
-use Rattle.shared_board.specs.Calls.{AreListed, IsRead}
-use Rattle.shared_board.specs.Found.{IsChangesRefusalFound, IsReadRefusalFound, WasQuiet, WasTooLarge, feed_refusal_found, frontier_found}
+use Rattle.shared_board.specs.Calls.{IsRead}
+use Rattle.shared_board.specs.Found.{IsReadRefusalFound, WasQuiet, WasTooLarge, feed_refusal_found, frontier_found}
 use Rattle.shared_board.specs.Tenures.{advance_refusal_in, allow_refusal_in, state_found}
 
 -- a row of these columns at a time, so many times more
@@ -36,11 +35,11 @@ module _ {T : Type 0} (below : T → T → Bool) (minimum : T) (old new : Known 
   IsFed Ends f r = Ends (Feed old.number f) (feed_refusal_found below minimum old new f)
       (IsRefusalBy (feed_refusal_found below minimum old new f)) r
 
-  -- a new frontier of an input. Memory may be refused although the frontier has a fault
+  -- a new frontier of an input
   abbrev pub IsAdvanced : Change T → ℕ → List T → Result (Unit {0}) Refusal → Type 0
   IsAdvanced Ends input ts r =
       let fault = advance_refusal_in below (state_found below minimum new) input ts in
-      Ends (Advance old.number input ts) fault (λ refusal. (fault ≡ Some refusal) ⊎ (refusal ≡ OutOfMemory)) r
+      Ends (Advance old.number input ts) fault (IsRefusalBy fault) r
 
   -- a closed input
   abbrev pub IsClosed : Change T → ℕ → Result (Unit {0}) Refusal → Type 0
@@ -50,7 +49,7 @@ module _ {T : Type 0} (below : T → T → Bool) (minimum : T) (old new : Known 
   abbrev pub IsGivenUp : Change T → ℕ → List T → Result (Unit {0}) Refusal → Type 0
   IsGivenUp Ends view ts r =
       let fault = allow_refusal_in below (state_found below minimum new) view ts in
-      Ends (Allow old.number view ts) fault (λ refusal. (fault ≡ Some refusal) ⊎ (refusal ≡ OutOfMemory)) r
+      Ends (Allow old.number view ts) fault (IsRefusalBy fault) r
 
   -- a view's frontier, its rows at a time, and its changes
   abbrev pub IsProbed : Question (List T) → ℕ → Result (List T) Refusal → Type 0

@@ -5,12 +5,11 @@
 //! this client, and its answer is right for all that its tenure found. `specs/Clients` says what
 //! each answer and each refusal means. The invariant is that the actor is no worker, so a client
 //! never does a worker's part. Each call has a twin that waits (`waiting`).
-ghost use Rattle.std.specs.Prelude.{◌≡◌, ◌⊎◌, ◌≤◌, ◌<◌, IfErr, IfOk, IsTrue, OnOk, length};
-ghost use Rattle.update.specs.declared.refusal.Refusal.TheVariants.{OutOfMemory};
+ghost use Rattle.std.specs.Prelude.{◌≡◌, ◌≤◌, ◌<◌, IsTrue, length};
 ghost use Rattle.plan.specs.Nodes.{is_output};
 ghost use Rattle.histories.specs.Histories.{IsInput};
 ghost use Rattle.histories.specs.Histories.Dataflows.{node_of};
-ghost use Rattle.shared_board.specs.Calls.{AreListed, HasLooked, IsAnswered, IsBusy, IsDone};
+ghost use Rattle.shared_board.specs.Calls.{AreListed, IsAnswered, IsDone};
 ghost use Rattle.shared_board.specs.Found.{IsChangesRefusalFound, dataflow_of};
 ghost use Rattle.shared_board.specs.Tenures.{terms_in};
 ghost use Rattle.session.specs.Clients.{HasAskedLarge, HasAskedQuiet, HasRead, IsAdvanced, IsClosed, IsFed, IsGivenUp, IsProbed, row_fed};
@@ -24,7 +23,7 @@ use row::Row;
 use shared_board::{Actor, BoardProtocol};
 use std::alloc::Global;
 use std::marker::Model;
-use update::{Bag, Refusal, Times, Update};
+use update::{Bag, Refusal, Update};
 
 /// A client of a board. A contract sees what it has seen.
 #[derive(Drop)]
@@ -45,18 +44,6 @@ impl<T: Minimum, P: BoardProtocol<T>> Model for Client<T, P> {
     ghost invariant = { λ c. (terms_in c.actor.seen).dataflow.workers ≤ c.actor.number };
 }
 
-// The elements of a frontier.
-fn times_of<T: Minimum>(alloc: Global, frontier: &Antichain<T>) -> Result<Times<T>, Refusal>
-    ensures made { IfOk result (λ times. times ≡ frontier.now) }
-    ensures only { IfErr result (λ refusal. refusal ≡ OutOfMemory) }
-{
-    let mut times = Vec::with_capacity(alloc, frontier.len())?;
-    for t in frontier.elements() {
-        times.push(*t)?;
-    }
-    Ok(Times::from(times))
-}
-
 impl<T: Minimum, P: BoardProtocol<T>> Client<T, P> {
     /// The client of an actor that is no worker of its board: workers have the numbers below. Takes
     /// no memory.
@@ -65,16 +52,6 @@ impl<T: Minimum, P: BoardProtocol<T>> Client<T, P> {
         ensures { result ≡ actor }
     {
         Client { actor }
-    }
-
-    // The client looks, if the board is there, and is refused memory.
-    fn look_without_memory(&mut self) -> Result<(), Refusal>
-        ensures never { OnOk result ⊥ }
-        ensures refused { IfErr result (λ refusal. IsBusy self.old self.new refusal
-            ⊎ (HasLooked self.old self.new × (refusal ≡ OutOfMemory))) }
-    {
-        self.actor.try_look()?;
-        Err(Refusal::OutOfMemory)
     }
 
     /// Changes an input's table: a row of these columns, in order, comes so many times more from
@@ -103,22 +80,13 @@ impl<T: Minimum, P: BoardProtocol<T>> Client<T, P> {
     }
 
     /// Moves an input's frontier forward: from then on it changes only at or after an element of
-    /// this frontier. Refused with `NotForward`, and with `OutOfMemory`, which may come in its
-    /// place.
-    pub fn advance(
-        &mut self,
-        alloc: Global,
-        input: NodeId,
-        frontier: &Antichain<T>,
-    ) -> Result<(), Refusal>
+    /// this frontier. Refused with `NotForward`, then with `OutOfMemory`.
+    pub fn advance(&mut self, input: NodeId, frontier: &Antichain<T>) -> Result<(), Refusal>
         requires input { IsInput (dataflow_of self.old) input }
         ensures { IsAdvanced T.below T.least self.old self.new (IsDone self.old self.new)
             input frontier.now result }
     {
-        match times_of(alloc, frontier) {
-            Ok(times) => self.actor.try_advance(input, times),
-            Err(_refusal) => self.look_without_memory(),
-        }
+        self.actor.try_advance(input, frontier.elements())
     }
 
     /// Closes an input: it takes no more changes. Refused with `Busy` alone. Takes no memory.
@@ -131,23 +99,14 @@ impl<T: Minimum, P: BoardProtocol<T>> Client<T, P> {
     }
 
     /// Readers of a view give up its past: from then on it may be read only at or after an element
-    /// of this frontier. Refused with `NotForward`, and with `OutOfMemory`, which may come in its
-    /// place.
-    pub fn allow(
-        &mut self,
-        alloc: Global,
-        view: NodeId,
-        frontier: &Antichain<T>,
-    ) -> Result<(), Refusal>
+    /// of this frontier. Refused with `NotForward`, then with `OutOfMemory`.
+    pub fn allow(&mut self, view: NodeId, frontier: &Antichain<T>) -> Result<(), Refusal>
         requires within { view < length (dataflow_of self.old).nodes }
         requires view { IsTrue (is_output (node_of (dataflow_of self.old) view)) }
         ensures { IsGivenUp T.below T.least self.old self.new (IsDone self.old self.new)
             view frontier.now result }
     {
-        match times_of(alloc, frontier) {
-            Ok(times) => self.actor.try_allow(view, times),
-            Err(_refusal) => self.look_without_memory(),
-        }
+        self.actor.try_allow(view, frontier.elements())
     }
 
     /// A view's frontier: at the times that it has passed the view changes no more. Refused with

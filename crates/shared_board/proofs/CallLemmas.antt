@@ -13,7 +13,7 @@ use Rattle.hub.specs.Tenures.{IsTenureOf}
 use Rattle.histories.specs.declared.event.Event.{Event}
 use Rattle.histories.specs.declared.event.Event.TheVariants.{Look}
 use Rattle.shared_board.specs.declared.event.Doing.{Doing}
-use Rattle.shared_board.specs.Calls.{AreListed, HasLooked, IsAnswered, IsDone, IsRead}
+use Rattle.shared_board.specs.Calls.{AreListed, HasLooked, IsAnswered, IsAnsweredInTurn, IsDone, IsDoneInTurn, IsRead}
 use Rattle.shared_board.specs.Found.{AreDifferencesFound, changes_refusal_found, query_found, read_refusal_found}
 use Rattle.shared_board.specs.Tenures.{Adds, IsActor, SharedState, StandsFor}
 use Rattle.shared_board.proofs.ActorLemmas.{IsIn}
@@ -38,10 +38,19 @@ module _ {T : Type 0} (below : T → T → Bool) (minimum : T) (cmp : T → T �
       })
 
 module _ {T : Type 0} (old new : Known (Doing T)) where
+  pub done_in_turn : (event : Event T) (fault : Option Refusal) (Refused : Refusal → Type 0) (r : Result (Unit {0}) Refusal)
+      → OnOk r (Adds old event new) → OnErr r (HasLooked old new) → OnOk r (fault ≡ None) → IfErr r Refused → IsDoneInTurn old new event fault Refused r
+  done_in_turn event fault Refused (Ok x) adds looked accepted refused = (adds, accepted)
+  done_in_turn event fault Refused (Err x) adds looked accepted refused = (looked, refused)
+
   pub done : (event : Event T) (fault : Option Refusal) (Refused : Refusal → Type 0) (r : Result (Unit {0}) Refusal)
       → OnOk r (Adds old event new) → OnErr r (HasLooked old new) → OnOk r (fault ≡ None) → IfErr r Refused → IsDone old new event fault Refused r
   done event fault Refused (Ok x) adds looked accepted refused = (adds, accepted)
   done event fault Refused (Err x) adds looked accepted refused = inr (looked, refused)
+
+  pub answered_in_turn : {A : Type 0} (Found : A → Type 0) (Refused : Refusal → Type 0) (r : Result A Refusal) → HasLooked old new → IfOk r Found → IfErr r Refused → IsAnsweredInTurn old new Found Refused r
+  answered_in_turn Found Refused (Ok x) looked found refused = (looked, found)
+  answered_in_turn Found Refused (Err x) looked found refused = (looked, refused)
 
   pub answered : {A : Type 0} (Found : A → Type 0) (Refused : Refusal → Type 0) (r : Result A Refusal) → HasLooked old new → IfOk r Found → IfErr r Refused → IsAnswered old new Found Refused r
   answered Found Refused (Ok x) looked found refused = (looked, found)

@@ -3,38 +3,29 @@
 //! Each call is one tenure, and so one event of this actor. What others did since its last tenure
 //! lies below that event, and the answers are right for all that was done by then. Each call waits
 //! until the board is at home, but those that say `try`.
-ghost use Rattle.std.specs.Prelude.{◌≡◌, ◌≤◌, ◌<◌, ◌+◌, ◌↔◌, [], ℕ, None, Some, IfOk, IfErr, OnOk, OnErr, IsTrue, length};
+ghost use Rattle.std.specs.Prelude.{◌≡◌, ◌<◌, ◌+◌, [], ℕ, Some, IfOk, IfErr, length};
 ghost use Rattle.std.specs.Arc.{arc_value};
 ghost use Rattle.hub.specs.Passes.{hub_id};
-ghost use Rattle.antichain.specs.Antichains.{SameElements};
-ghost use Rattle.update.specs.Bags.{Alike, IsBag};
-ghost use Rattle.update.specs.Refusals.{IsRefusalBy};
 ghost use Rattle.update.specs.declared.refusal.Refusal.TheVariants.{OutOfMemory};
-ghost use Rattle.plan.specs.Nodes.{is_output};
-ghost use Rattle.histories.specs.declared.event.Event.TheVariants.{Advance, Allow, Feed, Look};
-ghost use Rattle.histories.specs.Histories.{IsInput};
-ghost use Rattle.histories.specs.Histories.Dataflows.{node_of};
-ghost use Rattle.histories.specs.Histories.Outstanding.{frontier};
+ghost use Rattle.histories.specs.declared.event.Event.TheVariants.{Look};
 ghost use Rattle.histories.specs.Histories.Promises.{changes_in};
-ghost use Rattle.histories.specs.Histories.States.{change_to};
-ghost use Rattle.shared_board.specs.Found.{AreDifferencesFound, IsChangesRefusalFound, IsReadRefusalFound, WasQuiet, WasTooLarge, changes_refusal_found, feed_refusal_found, frontier_found, query_found, read_refusal_found};
 ghost use Rattle.shared_board.specs.Large.{HasNoSmallBound};
-ghost use Rattle.shared_board.specs.Tenures.{Adds, IsActor, IsFirst, terms_for, terms_in, state_found, state_left, advance_refusal_in, allow_refusal_in};
+ghost use Rattle.shared_board.specs.Tenures.{Adds, IsActor, IsFirst, terms_for, terms_in, state_left};
 
 mod attempt;
 mod client;
 mod entering;
+mod waiting;
 
 use crate::event::Doing;
 use crate::protocol::BoardProtocol;
-use antichain::Antichain;
 use hub::{Hub, Pass, Protocol};
 use lattice::Minimum;
-use plan::{NodeId, Plan};
+use plan::Plan;
 use std::alloc::Global;
 use std::marker::{Model, PhantomData};
 use std::sync::{Arc, Wait};
-use update::{Bag, Refusal, Times, Update};
+use update::Refusal;
 
 /// An actor: a worker or a client, with its pass. A contract sees what its pass has seen.
 #[derive(Drop)]
@@ -126,187 +117,6 @@ impl<T: Minimum, P: BoardProtocol<T>> Actor<T, P> {
         self.pass = Some(tenure.leave());
     }
 
-    /// A client changes an input's table. Refused as `Board::feed` says; then the event is a look.
-    pub fn feed<R: Wait>(&mut self, rt: &R, input: NodeId, update: Update<T>) -> Result<(), Refusal>
-        requires client { (terms_in self.old.seen).dataflow.workers ≤ self.old.number }
-        requires input { IsInput (terms_in self.old.seen).dataflow input }
-        ensures fed { OnOk result
-            (Adds self.old (Feed self.old.number (change_to input update)) self.new) }
-        ensures unchanged { OnErr result (Adds self.old (Look self.old.number) self.new) }
-        ensures accepted { OnOk result
-            (feed_refusal_found T.below T.least self.old self.new (change_to input update) ≡ None) }
-        ensures refused { IfErr result (IsRefusalBy
-            (feed_refusal_found T.below T.least self.old self.new (change_to input update))) }
-    {
-        let Some(pass) = self.pass.take() else {
-            unreachable!()
-        };
-        let mut tenure = self.hub.enter(rt, pass);
-        let board = tenure.state();
-        let answer = board.feed(self.number, input, update);
-        self.accepted = board.accepted();
-        self.pass = Some(tenure.leave());
-        answer
-    }
-
-    /// A client moves an input's frontier forward. Refused as `Board::advance` says; then the event
-    /// is a look.
-    pub fn advance<R: Wait>(
-        &mut self,
-        rt: &R,
-        input: NodeId,
-        times: Times<T>,
-    ) -> Result<(), Refusal>
-        requires client { (terms_in self.old.seen).dataflow.workers ≤ self.old.number }
-        requires input { IsInput (terms_in self.old.seen).dataflow input }
-        ensures advanced { OnOk result
-            (Adds self.old (Advance self.old.number input times) self.new) }
-        ensures unchanged { OnErr result (Adds self.old (Look self.old.number) self.new) }
-        ensures accepted { OnOk result
-            (advance_refusal_in T.below (state_found T.below T.least self.new) input times ≡ None) }
-        ensures refused { IfErr result (IsRefusalBy
-            (advance_refusal_in T.below (state_found T.below T.least self.new) input times)) }
-    {
-        let Some(pass) = self.pass.take() else {
-            unreachable!()
-        };
-        let mut tenure = self.hub.enter(rt, pass);
-        let board = tenure.state();
-        let answer = board.advance(self.number, input, times);
-        self.accepted = board.accepted();
-        self.pass = Some(tenure.leave());
-        answer
-    }
-
-    /// A client closes an input. Never refused. Takes no memory.
-    pub fn close<R: Wait>(&mut self, rt: &R, input: NodeId)
-        requires client { (terms_in self.old.seen).dataflow.workers ≤ self.old.number }
-        requires input { IsInput (terms_in self.old.seen).dataflow input }
-        ensures closed { Adds self.old (Advance self.old.number input []) self.new }
-    {
-        let Some(pass) = self.pass.take() else {
-            unreachable!()
-        };
-        let mut tenure = self.hub.enter(rt, pass);
-        let board = tenure.state();
-        board.close(self.number, input);
-        self.accepted = board.accepted();
-        self.pass = Some(tenure.leave());
-    }
-
-    /// Readers of a view give up its past: from then on it may be read only at times beyond these.
-    /// Refused as `Board::allow` says; then the event is a look. Takes no memory.
-    pub fn allow<R: Wait>(&mut self, rt: &R, view: NodeId, times: Times<T>) -> Result<(), Refusal>
-        requires client { (terms_in self.old.seen).dataflow.workers ≤ self.old.number }
-        requires within { view < length (terms_in self.old.seen).dataflow.nodes }
-        requires view { IsTrue (is_output (node_of (terms_in self.old.seen).dataflow view)) }
-        ensures allowed { OnOk result
-            (Adds self.old (Allow self.old.number view times) self.new) }
-        ensures unchanged { OnErr result (Adds self.old (Look self.old.number) self.new) }
-        ensures accepted { OnOk result
-            (allow_refusal_in T.below (state_found T.below T.least self.new) view times ≡ None) }
-        ensures refused { IfErr result (λ refusal.
-            allow_refusal_in T.below (state_found T.below T.least self.new) view times
-            ≡ Some refusal) }
-    {
-        let Some(pass) = self.pass.take() else {
-            unreachable!()
-        };
-        let mut tenure = self.hub.enter(rt, pass);
-        let board = tenure.state();
-        let answer = board.allow(self.number, view, times);
-        self.accepted = board.accepted();
-        self.pass = Some(tenure.leave());
-        answer
-    }
-
-    /// The frontier of a view. Refused only with `OutOfMemory`.
-    pub fn frontier<R: Wait>(&mut self, rt: &R, view: NodeId) -> Result<Antichain<T>, Refusal>
-        requires within { view < length (terms_in self.old.seen).dataflow.nodes }
-        ensures looked { Adds self.old (Look self.old.number) self.new }
-        ensures frontier { IfOk result (λ found.
-            SameElements found (frontier_found T.below T.least self.old self.new view)) }
-        ensures refused { IfErr result (λ refusal. refusal ≡ OutOfMemory) }
-    {
-        let Some(pass) = self.pass.take() else {
-            unreachable!()
-        };
-        let mut tenure = self.hub.enter(rt, pass);
-        let board = tenure.state();
-        let answer = board.frontier(self.number, view);
-        self.accepted = board.accepted();
-        self.pass = Some(tenure.leave());
-        answer
-    }
-
-    /// A view's rows at a time: the query, computed from scratch, on the changes fed up to that
-    /// time. Refused as `Board::read` says.
-    pub fn read<R: Wait>(&mut self, rt: &R, view: NodeId, t: T) -> Result<Bag, Refusal>
-        requires within { view < length (terms_in self.old.seen).dataflow.nodes }
-        requires view { IsTrue (is_output (node_of (terms_in self.old.seen).dataflow view)) }
-        ensures looked { Adds self.old (Look self.old.number) self.new }
-        ensures accepted { OnOk result
-            (read_refusal_found T.below T.least self.old self.new view t ≡ None) }
-        ensures refused { IfErr result
-            (IsReadRefusalFound T.below T.least self.old self.new view t) }
-        ensures bag { IfOk result IsBag }
-        ensures query { IfOk result (λ bag. Alike bag
-            (query_found T.below T.least self.old self.new view t)) }
-    {
-        let Some(pass) = self.pass.take() else {
-            unreachable!()
-        };
-        let mut tenure = self.hub.enter(rt, pass);
-        let board = tenure.state();
-        let answer = board.read(self.number, view, t);
-        self.accepted = board.accepted();
-        self.pass = Some(tenure.leave());
-        answer
-    }
-
-    /// A view's changes at the times that its frontier has passed. Refused as `Board::changes`
-    /// says.
-    pub fn changes<R: Wait>(&mut self, rt: &R, view: NodeId) -> Result<Vec<Update<T>>, Refusal>
-        requires within { view < length (terms_in self.old.seen).dataflow.nodes }
-        requires view { IsTrue (is_output (node_of (terms_in self.old.seen).dataflow view)) }
-        ensures looked { Adds self.old (Look self.old.number) self.new }
-        ensures accepted { OnOk result
-            (changes_refusal_found T.below T.least self.old self.new view ≡ None) }
-        ensures refused { IfErr result
-            (IsChangesRefusalFound T.below T.least self.old self.new view) }
-        ensures differences { IfOk result (λ us.
-            AreDifferencesFound T.below T.least self.old self.new T.cmp view us.items) }
-    {
-        let Some(pass) = self.pass.take() else {
-            unreachable!()
-        };
-        let mut tenure = self.hub.enter(rt, pass);
-        let board = tenure.state();
-        let answer = board.changes(self.number, view);
-        self.accepted = board.accepted();
-        self.pass = Some(tenure.leave());
-        answer
-    }
-
-    /// Whether the board is quiet. Never refused.
-    ///
-    /// Cost: linear in the nodes times the workers, and that of `Board::input_has_passed` for each
-    /// held time.
-    pub fn is_quiet<R: Wait>(&mut self, rt: &R) -> bool
-        ensures looked { Adds self.old (Look self.old.number) self.new }
-        ensures quiet { IsTrue result ↔ WasQuiet T.below T.least self.old self.new }
-    {
-        let Some(pass) = self.pass.take() else {
-            unreachable!()
-        };
-        let mut tenure = self.hub.enter(rt, pass);
-        let board = tenure.state();
-        let answer = board.is_quiet(self.number);
-        self.accepted = board.accepted();
-        self.pass = Some(tenure.leave());
-        answer
-    }
-
     /// A worker tells that a number is too large with the changes that it has seen. The others can
     /// see it, unless more changes were accepted meanwhile. Takes no memory.
     pub fn tell_too_large<R: Wait>(&mut self, rt: &R)
@@ -322,23 +132,5 @@ impl<T: Minimum, P: BoardProtocol<T>> Actor<T, P> {
         board.tell_too_large(self.number, self.accepted);
         self.accepted = board.accepted();
         self.pass = Some(tenure.leave());
-    }
-
-    /// Whether a worker told that a number is too large with the changes accepted so far. Takes no
-    /// memory.
-    pub fn is_too_large<R: Wait>(&mut self, rt: &R) -> bool
-        ensures looked { Adds self.old (Look self.old.number) self.new }
-        ensures cause { IsTrue result → WasTooLarge T.below T.least self.old self.new T.cmp }
-    {
-        let Some(pass) = self.pass.take() else {
-            unreachable!()
-        };
-        let mut tenure = self.hub.enter(rt, pass);
-        let board = tenure.state();
-        let answer = board.is_too_large();
-        board.look(self.number);
-        self.accepted = board.accepted();
-        self.pass = Some(tenure.leave());
-        answer
     }
 }

@@ -23,7 +23,7 @@ ghost use Rattle.histories.specs.Histories.Dataflows.{node_of};
 ghost use Rattle.histories.specs.Histories.Outstanding.{frontier};
 ghost use Rattle.histories.specs.Histories.Promises.{changes_in};
 ghost use Rattle.histories.specs.Histories.Readings.{IsQuiet};
-ghost use Rattle.histories.specs.Histories.States.{change_to, place};
+ghost use Rattle.histories.specs.Histories.States.{change_to};
 ghost use Rattle.shared_board.specs.declared.event.Doing.{Doing};
 ghost use Rattle.shared_board.specs.Large.{HasNoSmallBound};
 ghost use Rattle.shared_board.specs.Tenures.{IsKeptBeside, StandsFor, WaitsOrNot, doing, left_by, terms_for, terms_of_board, feed_refusal_in, advance_refusal_in, allow_refusal_in, read_refusal_in, changes_refusal_in, IsReadRefusalIn, IsChangesRefusalIn};
@@ -167,13 +167,13 @@ impl<T: Minimum> SharedBoard<T> {
 
     /// A client moves an input's frontier forward. Refused as [`Board::advance`] says; then the
     /// event is a look.
-    pub fn advance(&mut self, client: usize, input: NodeId, times: Times<T>) -> Result<(), Refusal>
+    pub fn advance(&mut self, client: usize, input: NodeId, times: &[T]) -> Result<(), Refusal>
         requires client { self.old.board.dataflow.workers ≤ client }
         requires actor { client < self.old.actors }
         requires input { IsInput self.old.board.dataflow input }
         ensures terms { terms_of_board self.new ≡ terms_of_board self.old }
         ensures beside { IsKeptBeside self.old self.new }
-        ensures advanced { OnOk result (self.new.board.last ≡ Advance client input times) }
+        ensures advanced { OnOk result (self.new.board.last ≡ Advance client input times.now) }
         ensures unchanged { OnErr result (self.new.board.last ≡ Look client) }
         ensures stands { (es : List (Entry (Doing T))) → StandsFor T.below T.least T.cmp self.old es
             → StandsFor T.below T.least T.cmp self.new
@@ -181,11 +181,11 @@ impl<T: Minimum> SharedBoard<T> {
         ensures accepted { (es : List (Entry (Doing T)))
             → StandsFor T.below T.least T.cmp self.old es
             → OnOk result (advance_refusal_in T.below
-            (left_by T.below T.least self.old.board.dataflow es) input times ≡ None) }
+            (left_by T.below T.least self.old.board.dataflow es) input times.now ≡ None) }
         ensures refused { (es : List (Entry (Doing T)))
             → StandsFor T.below T.least T.cmp self.old es
             → IfErr result (IsRefusalBy (advance_refusal_in T.below
-            (left_by T.below T.least self.old.board.dataflow es) input times)) }
+            (left_by T.below T.least self.old.board.dataflow es) input times.now)) }
     {
         self.board.advance(client, input, times)
     }
@@ -206,15 +206,15 @@ impl<T: Minimum> SharedBoard<T> {
     }
 
     /// Readers of a view give up its past. Refused as [`Board::allow`] says; then the event is a
-    /// look. Takes no memory.
-    pub fn allow(&mut self, client: usize, view: NodeId, times: Times<T>) -> Result<(), Refusal>
+    /// look.
+    pub fn allow(&mut self, client: usize, view: NodeId, times: &[T]) -> Result<(), Refusal>
         requires client { self.old.board.dataflow.workers ≤ client }
         requires actor { client < self.old.actors }
         requires within { view < length self.old.board.dataflow.nodes }
         requires view { IsTrue (is_output (node_of self.old.board.dataflow view)) }
         ensures terms { terms_of_board self.new ≡ terms_of_board self.old }
         ensures beside { IsKeptBeside self.old self.new }
-        ensures allowed { OnOk result (self.new.board.last ≡ Allow client view times) }
+        ensures allowed { OnOk result (self.new.board.last ≡ Allow client view times.now) }
         ensures unchanged { OnErr result (self.new.board.last ≡ Look client) }
         ensures stands { (es : List (Entry (Doing T))) → StandsFor T.below T.least T.cmp self.old es
             → StandsFor T.below T.least T.cmp self.new
@@ -222,11 +222,11 @@ impl<T: Minimum> SharedBoard<T> {
         ensures accepted { (es : List (Entry (Doing T)))
             → StandsFor T.below T.least T.cmp self.old es
             → OnOk result (allow_refusal_in T.below
-            (left_by T.below T.least self.old.board.dataflow es) view times ≡ None) }
+            (left_by T.below T.least self.old.board.dataflow es) view times.now ≡ None) }
         ensures refused { (es : List (Entry (Doing T)))
             → StandsFor T.below T.least T.cmp self.old es
-            → IfErr result (λ refusal. allow_refusal_in T.below
-            (left_by T.below T.least self.old.board.dataflow es) view times ≡ Some refusal) }
+            → IfErr result (IsRefusalBy (allow_refusal_in T.below
+            (left_by T.below T.least self.old.board.dataflow es) view times.now)) }
     {
         self.board.allow(client, view, times)
     }

@@ -138,13 +138,24 @@ impl<T> Times<T> {
 }
 
 impl<T: Lattice> Times<T> {
+    /// A copy of times. Refused only if memory is refused.
+    ///
+    /// Cost: linear in the times.
+    pub fn from_slice(alloc: Global, times: &[T]) -> Result<Times<T>, AllocError>
+        ensures { IfOk result (λ copy. copy ≡ times.now) }
+    {
+        let mut items = Vec::new(alloc);
+        items.extend_from_slice(times)?;
+        Ok(Times { items })
+    }
+
     /// A copy. Refused only if memory is refused.
+    ///
+    /// Cost: linear in the times.
     pub fn copy(&self, alloc: Global) -> Result<Times<T>, AllocError>
         ensures { IfOk result (λ copy. copy ≡ self.now) }
     {
-        let mut items = Vec::new(alloc);
-        items.extend_from_slice(self.as_slice())?;
-        Ok(Times { items })
+        Times::from_slice(alloc, self.as_slice())
     }
 }
 

@@ -2,7 +2,7 @@
 //! the frontiers beyond which views may be read. If a change may not be fed, or a frontier would go
 //! back, the call is refused and the event is a look. The history then shows that the client was
 //! there and did nothing.
-ghost use Rattle.std.specs.Prelude.{◌≡◌, ◌<◌, ◌≤◌, ◌+◌, List, [], ◌∷◌, None, Some, IfErr, IfOk, IsTrue, OnErr, OnOk, length};
+ghost use Rattle.std.specs.Prelude.{◌≡◌, ◌<◌, ◌≤◌, ◌+◌, List, [], ◌∷◌, None, IfErr, IfOk, IsTrue, OnErr, OnOk, length, ⊥};
 ghost use Rattle.update.specs.declared.refusal.Refusal.TheVariants.{OutOfMemory};
 ghost use Rattle.update.specs.Refusals.{IsRefusalBy};
 ghost use Rattle.histories.specs.declared.event.Event.{Event};
@@ -11,14 +11,13 @@ ghost use Rattle.histories.specs.Histories.States.{change_to};
 ghost use Rattle.plan.specs.Nodes.{is_output};
 ghost use Rattle.histories.specs.Histories.Dataflows.{node_of};
 ghost use Rattle.histories.specs.Histories.{IsInput};
-ghost use Rattle.machine.specs.Boards.{BoardState, IsBoard, Stands, after_look, put_change, accept_change, after_feed, after_advance, after_allow, feed_refusal, advance_refusal, allow_refusal};
+ghost use Rattle.machine.specs.Boards.{IsBoard, Stands, after_look, put_change, accept_change, after_feed, after_advance, after_allow, feed_refusal, advance_refusal, allow_refusal};
 
 use crate::board::Board;
 use antichain::all_beyond;
 use histories::{Event, Site, remembered_advance, remembered_allow, remembered_feed};
 use lattice::Minimum;
-use plan::{NodeId, Plan};
-use std::alloc::Global;
+use plan::NodeId;
 use std::snapshot::Snapshot;
 use update::{Refusal, Times, Update};
 
@@ -121,13 +120,13 @@ impl<T: Minimum> Board<T> {
     ///
     /// Cost: the product of the times and the elements of the input's old frontier, and that of
     /// counting each of them ([`Tally::add`](progress::Tally::add)).
-    pub fn advance(&mut self, client: usize, input: NodeId, times: Times<T>) -> Result<(), Refusal>
+    pub fn advance(&mut self, client: usize, input: NodeId, times: &[T]) -> Result<(), Refusal>
         requires client { self.old.dataflow.workers ≤ client }
         requires input { IsInput self.old.dataflow input }
-        ensures advanced { OnOk result (self.new ≡ after_advance client input times self.old) }
-        ensures accepted { OnOk result (advance_refusal T.below self.old input times ≡ None) }
+        ensures advanced { OnOk result (self.new ≡ after_advance client input times.now self.old) }
+        ensures accepted { OnOk result (advance_refusal T.below self.old input times.now ≡ None) }
         ensures refused { IfErr result
-            (IsRefusalBy (advance_refusal T.below self.old input times)) }
+            (IsRefusalBy (advance_refusal T.below self.old input times.now)) }
         ensures unchanged { OnErr result (self.new ≡ after_look client self.old) }
         ensures stands { (h : List (Event T)) → Stands T.below T.least self.old h
             → Stands T.below T.least self.new (self.new.last ∷ h) }
@@ -136,7 +135,42 @@ impl<T: Minimum> Board<T> {
     }
 
     // Changes the board as `advance` says. `advance` adds what that means for histories.
-    fn try_advance(&mut self, client: usize, input: NodeId, times: Times<T>) -> Result<(), Refusal>
+    fn try_advance(&mut self, client: usize, input: NodeId, times: &[T]) -> Result<(), Refusal>
+        requires { input < length self.old.dataflow.nodes }
+        ensures advanced { OnOk result (self.new ≡ after_advance client input times.now self.old) }
+        ensures accepted { OnOk result (advance_refusal T.below self.old input times.now ≡ None) }
+        ensures refused { IfErr result
+            (IsRefusalBy (advance_refusal T.below self.old input times.now)) }
+        ensures board { IsBoard self.old }
+        ensures unchanged { OnErr result (self.new ≡ after_look client self.old) }
+    {
+        match Times::from_slice(*self.hand.allocator(), times) {
+            Ok(own) => self.advance_to(client, input, own),
+            Err(_refusal) => self.refuse_advance(client, input, times),
+        }
+    }
+
+    // There is no memory for a copy of the times. An advance that goes back is refused all the same.
+    fn refuse_advance(&mut self, client: usize, input: NodeId, times: &[T]) -> Result<(), Refusal>
+        requires { input < length self.old.dataflow.nodes }
+        ensures never { OnOk result ⊥ }
+        ensures refused { IfErr result
+            (IsRefusalBy (advance_refusal T.below self.old input times.now)) }
+        ensures board { IsBoard self.old }
+        ensures unchanged { OnErr result (self.new ≡ after_look client self.old) }
+    {
+        self.known();
+        let is_forward = all_beyond(self.accounts.open_times(input), times);
+        self.look(client);
+        if is_forward {
+            Err(Refusal::OutOfMemory)
+        } else {
+            Err(Refusal::NotForward)
+        }
+    }
+
+    // Moves an input's frontier to times of the board's own.
+    fn advance_to(&mut self, client: usize, input: NodeId, times: Times<T>) -> Result<(), Refusal>
         requires { input < length self.old.dataflow.nodes }
         ensures advanced { OnOk result (self.new ≡ after_advance client input times self.old) }
         ensures accepted { OnOk result (advance_refusal T.below self.old input times ≡ None) }
@@ -188,19 +222,19 @@ impl<T: Minimum> Board<T> {
     /// Readers of a view give up its past: from then on the view may be read only at times beyond
     /// these. With no times it may not be read at all.
     ///
-    /// Refused only with `NotForward`, if one of the times is not beyond the view's old since. The
-    /// old since itself is taken. Takes no memory. After a refusal the event is a look, and nothing
-    /// else changes.
+    /// Refused first with `NotForward`, if one of the times is not beyond the view's old since, then
+    /// with `OutOfMemory`. The old since itself is taken. After a refusal the event is a look, and
+    /// nothing else changes.
     ///
     /// Cost: the product of the times and the elements of the view's old since.
-    pub fn allow(&mut self, client: usize, view: NodeId, times: Times<T>) -> Result<(), Refusal>
+    pub fn allow(&mut self, client: usize, view: NodeId, times: &[T]) -> Result<(), Refusal>
         requires client { self.old.dataflow.workers ≤ client }
         requires within { view < length self.old.dataflow.nodes }
         requires view { IsTrue (is_output (node_of self.old.dataflow view)) }
-        ensures allowed { OnOk result (self.new ≡ after_allow client view times self.old) }
-        ensures accepted { OnOk result (allow_refusal T.below self.old view times ≡ None) }
-        ensures refused { IfErr result (λ refusal.
-            allow_refusal T.below self.old view times ≡ Some refusal) }
+        ensures allowed { OnOk result (self.new ≡ after_allow client view times.now self.old) }
+        ensures accepted { OnOk result (allow_refusal T.below self.old view times.now ≡ None) }
+        ensures refused { IfErr result
+            (IsRefusalBy (allow_refusal T.below self.old view times.now)) }
         ensures unchanged { OnErr result (self.new ≡ after_look client self.old) }
         ensures stands { (h : List (Event T)) → Stands T.below T.least self.old h
             → Stands T.below T.least self.new (self.new.last ∷ h) }
@@ -209,22 +243,26 @@ impl<T: Minimum> Board<T> {
     }
 
     // Changes the board as `allow` says. `allow` adds what that means for histories.
-    fn try_allow(&mut self, client: usize, view: NodeId, times: Times<T>) -> Result<(), Refusal>
+    fn try_allow(&mut self, client: usize, view: NodeId, times: &[T]) -> Result<(), Refusal>
         requires { view < length self.old.dataflow.nodes }
-        ensures allowed { OnOk result (self.new ≡ after_allow client view times self.old) }
-        ensures accepted { OnOk result (allow_refusal T.below self.old view times ≡ None) }
-        ensures refused { IfErr result (λ refusal.
-            allow_refusal T.below self.old view times ≡ Some refusal) }
+        ensures allowed { OnOk result (self.new ≡ after_allow client view times.now self.old) }
+        ensures accepted { OnOk result (allow_refusal T.below self.old view times.now ≡ None) }
+        ensures refused { IfErr result
+            (IsRefusalBy (allow_refusal T.below self.old view times.now)) }
         ensures board { IsBoard self.old }
         ensures unchanged { OnErr result (self.new ≡ after_look client self.old) }
     {
         self.known();
-        if !all_beyond(self.since(view), times.as_slice()) {
+        if !all_beyond(self.since(view), times) {
             self.look(client);
             return Err(Refusal::NotForward);
         }
-        let event = remembered_allow(client, view, &times);
-        self.views[view.number()].move_since(times);
+        let Ok(own) = Times::from_slice(*self.hand.allocator(), times) else {
+            self.look(client);
+            return Err(Refusal::OutOfMemory);
+        };
+        let event = remembered_allow(client, view, &own);
+        self.views[view.number()].move_since(own);
         self.note(event);
         Ok(())
     }

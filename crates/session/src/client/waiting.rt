@@ -12,7 +12,7 @@ ghost use Rattle.shared_board.specs.Calls.{AreListed, IsAnsweredInTurn, IsDoneIn
 ghost use Rattle.shared_board.specs.Found.{IsChangesRefusalFound, dataflow_of};
 ghost use Rattle.session.specs.Clients.{HasAskedLarge, HasAskedQuiet, HasRead, IsAdvanced, IsClosed, IsFed, IsGivenUp, IsProbed, row_fed};
 
-use crate::client::{Client, times_of};
+use crate::client::Client;
 use antichain::Antichain;
 use lattice::Minimum;
 use plan::NodeId;
@@ -63,7 +63,6 @@ impl<T: Minimum, P: BoardProtocol<T>> Client<T, P> {
     pub fn advance_wait<R: Wait>(
         &mut self,
         rt: &R,
-        alloc: Global,
         input: NodeId,
         frontier: &Antichain<T>,
     ) -> Result<(), Refusal>
@@ -71,13 +70,7 @@ impl<T: Minimum, P: BoardProtocol<T>> Client<T, P> {
         ensures { IsAdvanced T.below T.least self.old self.new (IsDoneInTurn self.old self.new)
             input frontier.now result }
     {
-        match times_of(alloc, frontier) {
-            Ok(times) => self.actor.advance(rt, input, times),
-            Err(refusal) => {
-                self.actor.look(rt);
-                Err(refusal)
-            }
-        }
+        self.actor.advance(rt, input, frontier.elements())
     }
 
     /// Closes an input, as [`close_input`](Client::close_input).
@@ -93,7 +86,6 @@ impl<T: Minimum, P: BoardProtocol<T>> Client<T, P> {
     pub fn allow_wait<R: Wait>(
         &mut self,
         rt: &R,
-        alloc: Global,
         view: NodeId,
         frontier: &Antichain<T>,
     ) -> Result<(), Refusal>
@@ -102,13 +94,7 @@ impl<T: Minimum, P: BoardProtocol<T>> Client<T, P> {
         ensures { IsGivenUp T.below T.least self.old self.new (IsDoneInTurn self.old self.new)
             view frontier.now result }
     {
-        match times_of(alloc, frontier) {
-            Ok(times) => self.actor.allow(rt, view, times),
-            Err(refusal) => {
-                self.actor.look(rt);
-                Err(refusal)
-            }
-        }
+        self.actor.allow(rt, view, frontier.elements())
     }
 
     /// A view's frontier, as [`probe`](Client::probe).

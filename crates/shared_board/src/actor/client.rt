@@ -3,7 +3,7 @@
 //! If another actor has the board just then, the call is refused with `Busy`, and the client has seen
 //! nothing. Else the call is one event of the client, and its answer is right for the state that its
 //! tenure found. So a caller that may not wait can try again later, and loses nothing.
-ghost use Rattle.std.specs.Prelude.{◌≡◌, ◌≤◌, ◌<◌, ◌↔◌, [], None, Some, IsTrue, length, ⊤};
+ghost use Rattle.std.specs.Prelude.{◌≡◌, ◌≤◌, ◌<◌, ◌↔◌, [], None, IsTrue, length, ⊤};
 ghost use Rattle.antichain.specs.Antichains.{SameElements};
 ghost use Rattle.update.specs.Refusals.{IsRefusalBy};
 ghost use Rattle.update.specs.declared.refusal.Refusal.TheVariants.{OutOfMemory};
@@ -22,7 +22,7 @@ use crate::protocol::BoardProtocol;
 use antichain::Antichain;
 use lattice::Minimum;
 use plan::NodeId;
-use update::{Bag, Refusal, Times, Update};
+use update::{Bag, Refusal, Update};
 
 impl<T: Minimum, P: BoardProtocol<T>> Actor<T, P> {
     /// The actor looks. Refused only with `Busy`. Takes no memory.
@@ -57,13 +57,13 @@ impl<T: Minimum, P: BoardProtocol<T>> Actor<T, P> {
     }
 
     /// A client moves an input's frontier forward. Refused as `Board::advance` says, and then it looks.
-    pub fn try_advance(&mut self, input: NodeId, times: Times<T>) -> Result<(), Refusal>
+    pub fn try_advance(&mut self, input: NodeId, times: &[T]) -> Result<(), Refusal>
         requires client { (terms_in self.old.seen).dataflow.workers ≤ self.old.number }
         requires input { IsInput (terms_in self.old.seen).dataflow input }
-        ensures { IsDone self.old self.new (Advance self.old.number input times)
-            (advance_refusal_in T.below (state_found T.below T.least self.new) input times)
+        ensures { IsDone self.old self.new (Advance self.old.number input times.now)
+            (advance_refusal_in T.below (state_found T.below T.least self.new) input times.now)
             (IsRefusalBy (advance_refusal_in T.below (state_found T.below T.least self.new)
-            input times))
+            input times.now))
             result }
     {
         let mut tenure = try_enter(&self.hub, &mut self.pass)?;
@@ -90,15 +90,16 @@ impl<T: Minimum, P: BoardProtocol<T>> Actor<T, P> {
     }
 
     /// Readers of a view give up its past: from then on it may be read only at times beyond these.
-    /// Refused as `Board::allow` says, and then it looks. Takes no memory.
-    pub fn try_allow(&mut self, view: NodeId, times: Times<T>) -> Result<(), Refusal>
+    /// Refused as `Board::allow` says, and then it looks.
+    pub fn try_allow(&mut self, view: NodeId, times: &[T]) -> Result<(), Refusal>
         requires client { (terms_in self.old.seen).dataflow.workers ≤ self.old.number }
         requires within { view < length (terms_in self.old.seen).dataflow.nodes }
         requires view { IsTrue (is_output (node_of (terms_in self.old.seen).dataflow view)) }
-        ensures { IsDone self.old self.new (Allow self.old.number view times)
-            (allow_refusal_in T.below (state_found T.below T.least self.new) view times)
-            (λ refusal. allow_refusal_in T.below (state_found T.below T.least self.new) view times
-            ≡ Some refusal) result }
+        ensures { IsDone self.old self.new (Allow self.old.number view times.now)
+            (allow_refusal_in T.below (state_found T.below T.least self.new) view times.now)
+            (IsRefusalBy (allow_refusal_in T.below (state_found T.below T.least self.new)
+            view times.now))
+            result }
     {
         let mut tenure = try_enter(&self.hub, &mut self.pass)?;
         let board = tenure.state();

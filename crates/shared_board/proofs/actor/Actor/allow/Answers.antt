@@ -1,131 +1,85 @@
-use Rattle.std.proofs.Common.{◌∷◌, rules, ◌≡◌, ◌<◌, ◌≤◌, sym, subst, ap, ◌∙◌, None, Some}
-use Rattle.std.specs.Prelude.{IfErr, IsTrue, OnOk, length}
+use Rattle.std.proofs.Common.{◌∷◌, rules, ◌≡◌, ◌<◌, ◌≤◌, sym, subst, ap, ◌∙◌, length, None, IsTrue}
+use Rattle.std.specs.Prelude.{IfErr, OnOk}
 use Rattle.std.proofs.lemmas.Result.{on_ok_weaker, on_err_weaker}
 use Rattle.hub.specs.Histories.{entry}
-use Rattle.hub.specs.Known.{Known}
+use Rattle.update.specs.Refusals.{IsRefusalBy}
+use Rattle.plan.specs.Nodes.{is_output}
 use Rattle.histories.specs.declared.event.Event.{Event}
 use Rattle.histories.specs.declared.event.Event.TheVariants.{Allow, Look}
-use Rattle.plan.specs.Nodes.{is_output}
 use Rattle.histories.specs.Histories.Dataflows.{Dataflow, node_of}
 use Rattle.histories.specs.Histories.States.{State}
 use Rattle.shared_board.specs.declared.event.Doing.{Doing}
-use Rattle.shared_board.specs.Tenures.{StandsFor, Adds, Terms, terms_in, state_found, allow_refusal_in}
-use Rattle.shared_board.proofs.ActorLemmas.{leaves, IsIn, after_tenure, at_board, is_some_at, of_found}
+use Rattle.shared_board.specs.Tenures.{Adds, Terms, StandsFor, allow_refusal_in}
+use Rattle.shared_board.proofs.ActorLemmas.{after_tenure, at_board, leaves, of_found}
+use Rattle.shared_board.proofs.CallLemmas.{entered, done_in_turn}
 use Rattle.shared_board.proofs.actor.Actor.allow.Goals as goal
 
-pub allow-answer-requires-clause-client : goal.allow-answer-requires-clause-client
-allow-answer-requires-clause-client g c =
-    let pass = c.in-Some.pass in
-    let there = is_some_at c.self.inside.pass _ c.self.invariant pass (search rules) in
-    let t = c.enter-tenure.ensures.found in
+pub allow-told-requires-clause-client : goal.allow-told-requires-clause-client
+allow-told-requires-clause-client g c =
+    let k = c.args.self.now in
     let held = c.enter-tenure.result in
-    let here : IsIn g.T.PartialOrder.below g.T.Minimum.least g.T.Ord.cmp pass held.state.value held.hub held.number held.found = record { actor = there.2; its_hub = t.0.0; its_number = t.0.1; agrees = t.0.2; stands = g.met.P.BoardProtocol.stands_for held.state held.found t.1 } in
-    let same : c.deref_mut.result.now ≡ held.state.value = search rules in
-    let self_is : pass ≡ c.args.self.now = search rules in
-    subst (λ n. c.deref_mut.result.now.board.dataflow.workers ≤ n) there.1 (at_board g.T.PartialOrder.below g.T.Minimum.least g.T.Ord.cmp pass held.state.value held.hub held.number held.found here (λ (x : Terms). x.dataflow.workers ≤ pass.number) (subst (λ (k : Known (Doing g.row.T.Denot)). (terms_in k.seen).dataflow.workers ≤ k.number) (sym self_is) c.requires.client) c.deref_mut.result.now same)
+    let m = c.deref_mut.result.now in
+    let same : m ≡ held.state.value = search rules in
+    let e = entered g.T.PartialOrder.below g.T.Minimum.least g.T.Ord.cmp c.self.inside.pass _ k _ _ _ c.self.invariant c.self.view_is held c.enter-tenure.ensures.found held.state.value (g.met.P.BoardProtocol.stands_for held.state held.found c.enter-tenure.ensures.stands) in
+    subst (λ n. m.board.dataflow.workers ≤ n) e.own_number (at_board g.T.PartialOrder.below g.T.Minimum.least g.T.Ord.cmp k held.state.value held.hub held.number held.found e.within (λ (x : Terms). x.dataflow.workers ≤ k.number) c.requires.client m same)
 
-pub allow-answer-requires-clause-actor : goal.allow-answer-requires-clause-actor
-allow-answer-requires-clause-actor g c =
-    let pass = c.in-Some.pass in
-    let there = is_some_at c.self.inside.pass _ c.self.invariant pass (search rules) in
-    let t = c.enter-tenure.ensures.found in
+pub allow-told-requires-clause-actor : goal.allow-told-requires-clause-actor
+allow-told-requires-clause-actor g c =
+    let k = c.args.self.now in
     let held = c.enter-tenure.result in
-    let here : IsIn g.T.PartialOrder.below g.T.Minimum.least g.T.Ord.cmp pass held.state.value held.hub held.number held.found = record { actor = there.2; its_hub = t.0.0; its_number = t.0.1; agrees = t.0.2; stands = g.met.P.BoardProtocol.stands_for held.state held.found t.1 } in
-    let same : c.deref_mut.result.now ≡ held.state.value = search rules in
-    let self_is : pass ≡ c.args.self.now = search rules in
-    subst (λ n. n < c.deref_mut.result.now.actors) there.1 (at_board g.T.PartialOrder.below g.T.Minimum.least g.T.Ord.cmp pass held.state.value held.hub held.number held.found here (λ (x : Terms). pass.number < x.actors) there.2.actor c.deref_mut.result.now same)
+    let m = c.deref_mut.result.now in
+    let same : m ≡ held.state.value = search rules in
+    let e = entered g.T.PartialOrder.below g.T.Minimum.least g.T.Ord.cmp c.self.inside.pass _ k _ _ _ c.self.invariant c.self.view_is held c.enter-tenure.ensures.found held.state.value (g.met.P.BoardProtocol.stands_for held.state held.found c.enter-tenure.ensures.stands) in
+    subst (λ n. n < m.actors) e.own_number (at_board g.T.PartialOrder.below g.T.Minimum.least g.T.Ord.cmp k held.state.value held.hub held.number held.found e.within (λ (x : Terms). k.number < x.actors) e.within.actor.actor m same)
 
-pub allow-answer-requires-clause-within : goal.allow-answer-requires-clause-within
-allow-answer-requires-clause-within g c =
-    let pass = c.in-Some.pass in
-    let there = is_some_at c.self.inside.pass _ c.self.invariant pass (search rules) in
-    let t = c.enter-tenure.ensures.found in
+pub allow-told-requires-clause-within : goal.allow-told-requires-clause-within
+allow-told-requires-clause-within g c =
+    let k = c.args.self.now in
     let held = c.enter-tenure.result in
-    let here : IsIn g.T.PartialOrder.below g.T.Minimum.least g.T.Ord.cmp pass held.state.value held.hub held.number held.found = record { actor = there.2; its_hub = t.0.0; its_number = t.0.1; agrees = t.0.2; stands = g.met.P.BoardProtocol.stands_for held.state held.found t.1 } in
-    let same : c.deref_mut.result.now ≡ held.state.value = search rules in
-    let self_is : pass ≡ c.args.self.now = search rules in
-    at_board g.T.PartialOrder.below g.T.Minimum.least g.T.Ord.cmp pass held.state.value held.hub held.number held.found here (λ (x : Terms). c.args.view < length x.dataflow.nodes) (subst (λ (k : Known (Doing g.row.T.Denot)). (λ (x : Terms). c.args.view < length x.dataflow.nodes) (terms_in k.seen)) (sym self_is) c.requires.within) c.deref_mut.result.now same
+    let m = c.deref_mut.result.now in
+    let same : m ≡ held.state.value = search rules in
+    let e = entered g.T.PartialOrder.below g.T.Minimum.least g.T.Ord.cmp c.self.inside.pass _ k _ _ _ c.self.invariant c.self.view_is held c.enter-tenure.ensures.found held.state.value (g.met.P.BoardProtocol.stands_for held.state held.found c.enter-tenure.ensures.stands) in
+    at_board g.T.PartialOrder.below g.T.Minimum.least g.T.Ord.cmp k held.state.value held.hub held.number held.found e.within (λ (x : Terms). c.args.view < length x.dataflow.nodes) c.requires.within m same
 
-pub allow-answer-requires-clause-view : goal.allow-answer-requires-clause-view
-allow-answer-requires-clause-view g c =
-    let pass = c.in-Some.pass in
-    let there = is_some_at c.self.inside.pass _ c.self.invariant pass (search rules) in
-    let t = c.enter-tenure.ensures.found in
+pub allow-told-requires-clause-view : goal.allow-told-requires-clause-view
+allow-told-requires-clause-view g c =
+    let k = c.args.self.now in
     let held = c.enter-tenure.result in
-    let here : IsIn g.T.PartialOrder.below g.T.Minimum.least g.T.Ord.cmp pass held.state.value held.hub held.number held.found = record { actor = there.2; its_hub = t.0.0; its_number = t.0.1; agrees = t.0.2; stands = g.met.P.BoardProtocol.stands_for held.state held.found t.1 } in
-    let same : c.deref_mut.result.now ≡ held.state.value = search rules in
-    let self_is : pass ≡ c.args.self.now = search rules in
-    at_board g.T.PartialOrder.below g.T.Minimum.least g.T.Ord.cmp pass held.state.value held.hub held.number held.found here (λ (x : Terms). IsTrue (is_output (node_of x.dataflow c.args.view))) (subst (λ (k : Known (Doing g.row.T.Denot)). (λ (x : Terms). IsTrue (is_output (node_of x.dataflow c.args.view))) (terms_in k.seen)) (sym self_is) c.requires.view) c.deref_mut.result.now same
+    let m = c.deref_mut.result.now in
+    let same : m ≡ held.state.value = search rules in
+    let e = entered g.T.PartialOrder.below g.T.Minimum.least g.T.Ord.cmp c.self.inside.pass _ k _ _ _ c.self.invariant c.self.view_is held c.enter-tenure.ensures.found held.state.value (g.met.P.BoardProtocol.stands_for held.state held.found c.enter-tenure.ensures.stands) in
+    at_board g.T.PartialOrder.below g.T.Minimum.least g.T.Ord.cmp k held.state.value held.hub held.number held.found e.within (λ (x : Terms). IsTrue (is_output (node_of x.dataflow c.args.view))) c.requires.view m same
 
 pub leave-requires : goal.leave-requires
 leave-requires g c =
-    let pass = c.in-Some.pass in
-    let there = is_some_at c.self.inside.pass _ c.self.invariant pass (search rules) in
-    let t = c.enter-tenure.ensures.found in
+    let k = c.args.self.now in
     let held = c.enter-tenure.result in
-    let here : IsIn g.T.PartialOrder.below g.T.Minimum.least g.T.Ord.cmp pass held.state.value held.hub held.number held.found = record { actor = there.2; its_hub = t.0.0; its_number = t.0.1; agrees = t.0.2; stands = g.met.P.BoardProtocol.stands_for held.state held.found t.1 } in
-    let same : c.deref_mut.result.now ≡ held.state.value = search rules in
-    g.met.P.BoardProtocol.may_stand _ _ (subst (λ (d : Doing _). StandsFor g.T.PartialOrder.below g.T.Minimum.least g.T.Ord.cmp c.allow-answer.new.self (entry held.number d ∷ held.found)) (sym (g.met.P.BoardProtocol.last_is _))
-    (leaves g.T.PartialOrder.below g.T.Minimum.least g.T.Ord.cmp pass held.state.value held.hub held.number held.found here c.deref_mut.result.now c.allow-answer.new.self c.self.inside.number same there.1 c.allow-answer.ensures.terms c.allow-answer.ensures.stands))
+    let m = c.deref_mut.result.now in
+    let same : m ≡ held.state.value = search rules in
+    let e = entered g.T.PartialOrder.below g.T.Minimum.least g.T.Ord.cmp c.self.inside.pass _ k _ _ _ c.self.invariant c.self.view_is held c.enter-tenure.ensures.found held.state.value (g.met.P.BoardProtocol.stands_for held.state held.found c.enter-tenure.ensures.stands) in
+    g.met.P.BoardProtocol.may_stand _ _ (subst (λ (d : Doing _). StandsFor g.T.PartialOrder.below g.T.Minimum.least g.T.Ord.cmp c.allow-told.new.self (entry held.number d ∷ held.found)) (sym (g.met.P.BoardProtocol.last_is _))
+    (leaves g.T.PartialOrder.below g.T.Minimum.least g.T.Ord.cmp k held.state.value held.hub held.number held.found e.within m c.allow-told.new.self c.self.inside.number same e.own_number c.allow-told.ensures.terms c.allow-told.ensures.stands))
 
 pub invariant_of-self : goal.invariant_of-self
 invariant_of-self g c =
-    let pass = c.in-Some.pass in
-    let there = is_some_at c.self.inside.pass _ c.self.invariant pass (search rules) in
-    let t = c.enter-tenure.ensures.found in
+    let k = c.args.self.now in
     let held = c.enter-tenure.result in
-    let here : IsIn g.T.PartialOrder.below g.T.Minimum.least g.T.Ord.cmp pass held.state.value held.hub held.number held.found = record { actor = there.2; its_hub = t.0.0; its_number = t.0.1; agrees = t.0.2; stands = g.met.P.BoardProtocol.stands_for held.state held.found t.1 } in
-    let same : c.deref_mut.result.now ≡ held.state.value = search rules in
-    let self_is : pass ≡ c.args.self.now = search rules in
-    let after = after_tenure g.T.PartialOrder.below g.T.Minimum.least g.T.Ord.cmp pass held.state.value held.hub held.number held.found here c.deref_mut.result.now c.allow-answer.new.self c.self.inside.number same there.1 c.allow-answer.ensures.terms c.allow-answer.ensures.stands c.leave.result (c.leave.ensures ∙ ap (λ (d : Doing _). record { hub = held.hub; number = held.number; seen = entry held.number d ∷ held.found }) (g.met.P.BoardProtocol.last_is _)) in
-    (after.same_hub ∙ there.0, after.same_number ∙ there.1, after.actor, λ n e. after.counted n (sym (c.accepted-self-inside.ensures ∙ search rules) ∙ e))
+    let m = c.deref_mut.result.now in
+    let same : m ≡ held.state.value = search rules in
+    let e = entered g.T.PartialOrder.below g.T.Minimum.least g.T.Ord.cmp c.self.inside.pass _ k _ _ _ c.self.invariant c.self.view_is held c.enter-tenure.ensures.found held.state.value (g.met.P.BoardProtocol.stands_for held.state held.found c.enter-tenure.ensures.stands) in
+    let after = after_tenure g.T.PartialOrder.below g.T.Minimum.least g.T.Ord.cmp k held.state.value held.hub held.number held.found e.within m c.allow-told.new.self c.self.inside.number same e.own_number c.allow-told.ensures.terms c.allow-told.ensures.stands c.leave.result (c.leave.ensures ∙ ap (λ (d : Doing _). record { hub = held.hub; number = held.number; seen = entry held.number d ∷ held.found }) (g.met.P.BoardProtocol.last_is _)) in
+    (after.same_hub ∙ e.same_hub, after.same_number ∙ e.own_number, after.actor, λ n x. after.counted n (sym (c.accepted-self-inside.ensures ∙ search rules) ∙ x))
 
-pub returns-clause-allowed : goal.returns-clause-allowed
-returns-clause-allowed g c =
-    let pass = c.in-Some.pass in
-    let there = is_some_at c.self.inside.pass _ c.self.invariant pass (search rules) in
-    let t = c.enter-tenure.ensures.found in
+pub returns : goal.returns
+returns g c =
+    let k = c.args.self.now in
     let held = c.enter-tenure.result in
-    let here : IsIn g.T.PartialOrder.below g.T.Minimum.least g.T.Ord.cmp pass held.state.value held.hub held.number held.found = record { actor = there.2; its_hub = t.0.0; its_number = t.0.1; agrees = t.0.2; stands = g.met.P.BoardProtocol.stands_for held.state held.found t.1 } in
-    let same : c.deref_mut.result.now ≡ held.state.value = search rules in
-    let self_is : pass ≡ c.args.self.now = search rules in
-    let after = after_tenure g.T.PartialOrder.below g.T.Minimum.least g.T.Ord.cmp pass held.state.value held.hub held.number held.found here c.deref_mut.result.now c.allow-answer.new.self c.self.inside.number same there.1 c.allow-answer.ensures.terms c.allow-answer.ensures.stands c.leave.result (c.leave.ensures ∙ ap (λ (d : Doing _). record { hub = held.hub; number = held.number; seen = entry held.number d ∷ held.found }) (g.met.P.BoardProtocol.last_is _)) in
-    on_ok_weaker c.allow-answer.result (λ e. subst (λ (k : Known (Doing g.row.T.Denot)). Adds k (Allow k.number c.args.view c.args.times) c.leave.result) self_is (subst (λ (e : Event g.row.T.Denot). Adds pass e c.leave.result) (e ∙ ap (λ n. Allow n c.args.view c.args.times) (sym there.1)) after.adds)) c.allow-answer.ensures.allowed
-
-pub returns-clause-unchanged : goal.returns-clause-unchanged
-returns-clause-unchanged g c =
-    let pass = c.in-Some.pass in
-    let there = is_some_at c.self.inside.pass _ c.self.invariant pass (search rules) in
-    let t = c.enter-tenure.ensures.found in
-    let held = c.enter-tenure.result in
-    let here : IsIn g.T.PartialOrder.below g.T.Minimum.least g.T.Ord.cmp pass held.state.value held.hub held.number held.found = record { actor = there.2; its_hub = t.0.0; its_number = t.0.1; agrees = t.0.2; stands = g.met.P.BoardProtocol.stands_for held.state held.found t.1 } in
-    let same : c.deref_mut.result.now ≡ held.state.value = search rules in
-    let self_is : pass ≡ c.args.self.now = search rules in
-    let after = after_tenure g.T.PartialOrder.below g.T.Minimum.least g.T.Ord.cmp pass held.state.value held.hub held.number held.found here c.deref_mut.result.now c.allow-answer.new.self c.self.inside.number same there.1 c.allow-answer.ensures.terms c.allow-answer.ensures.stands c.leave.result (c.leave.ensures ∙ ap (λ (d : Doing _). record { hub = held.hub; number = held.number; seen = entry held.number d ∷ held.found }) (g.met.P.BoardProtocol.last_is _)) in
-    on_err_weaker c.allow-answer.result (λ e. subst (λ (k : Known (Doing g.row.T.Denot)). Adds k (Look k.number) c.leave.result) self_is (subst (λ (e : Event g.row.T.Denot). Adds pass e c.leave.result) (e ∙ ap (λ n. Look n) (sym there.1)) after.adds)) c.allow-answer.ensures.unchanged
-
-pub returns-clause-accepted : goal.returns-clause-accepted
-returns-clause-accepted g c =
-    let pass = c.in-Some.pass in
-    let there = is_some_at c.self.inside.pass _ c.self.invariant pass (search rules) in
-    let t = c.enter-tenure.ensures.found in
-    let held = c.enter-tenure.result in
-    let here : IsIn g.T.PartialOrder.below g.T.Minimum.least g.T.Ord.cmp pass held.state.value held.hub held.number held.found = record { actor = there.2; its_hub = t.0.0; its_number = t.0.1; agrees = t.0.2; stands = g.met.P.BoardProtocol.stands_for held.state held.found t.1 } in
-    let same : c.deref_mut.result.now ≡ held.state.value = search rules in
-    let self_is : pass ≡ c.args.self.now = search rules in
-    let after = after_tenure g.T.PartialOrder.below g.T.Minimum.least g.T.Ord.cmp pass held.state.value held.hub held.number held.found here c.deref_mut.result.now c.allow-answer.new.self c.self.inside.number same there.1 c.allow-answer.ensures.terms c.allow-answer.ensures.stands c.leave.result (c.leave.ensures ∙ ap (λ (d : Doing _). record { hub = held.hub; number = held.number; seen = entry held.number d ∷ held.found }) (g.met.P.BoardProtocol.last_is _)) in
-    subst (λ (k : Known (Doing g.row.T.Denot)). (λ (p : Dataflow) (w : State g.row.T.Denot). OnOk c.allow-answer.result (allow_refusal_in g.T.PartialOrder.below w c.args.view c.args.times ≡ None)) (terms_in k.seen).dataflow (state_found g.T.PartialOrder.below g.T.Minimum.least c.leave.result)) self_is
-    (of_found g.T.PartialOrder.below g.T.Minimum.least g.T.Ord.cmp pass held.state.value held.hub held.number held.found here (λ (p : Dataflow) (w : State g.row.T.Denot). OnOk c.allow-answer.result (allow_refusal_in g.T.PartialOrder.below w c.args.view c.args.times ≡ None)) c.deref_mut.result.now same c.allow-answer.ensures.accepted c.leave.result after)
-
-pub returns-clause-refused : goal.returns-clause-refused
-returns-clause-refused g c =
-    let pass = c.in-Some.pass in
-    let there = is_some_at c.self.inside.pass _ c.self.invariant pass (search rules) in
-    let t = c.enter-tenure.ensures.found in
-    let held = c.enter-tenure.result in
-    let here : IsIn g.T.PartialOrder.below g.T.Minimum.least g.T.Ord.cmp pass held.state.value held.hub held.number held.found = record { actor = there.2; its_hub = t.0.0; its_number = t.0.1; agrees = t.0.2; stands = g.met.P.BoardProtocol.stands_for held.state held.found t.1 } in
-    let same : c.deref_mut.result.now ≡ held.state.value = search rules in
-    let self_is : pass ≡ c.args.self.now = search rules in
-    let after = after_tenure g.T.PartialOrder.below g.T.Minimum.least g.T.Ord.cmp pass held.state.value held.hub held.number held.found here c.deref_mut.result.now c.allow-answer.new.self c.self.inside.number same there.1 c.allow-answer.ensures.terms c.allow-answer.ensures.stands c.leave.result (c.leave.ensures ∙ ap (λ (d : Doing _). record { hub = held.hub; number = held.number; seen = entry held.number d ∷ held.found }) (g.met.P.BoardProtocol.last_is _)) in
-    subst (λ (k : Known (Doing g.row.T.Denot)). (λ (p : Dataflow) (w : State g.row.T.Denot). IfErr c.allow-answer.result (λ refusal. allow_refusal_in g.T.PartialOrder.below w c.args.view c.args.times ≡ Some refusal)) (terms_in k.seen).dataflow (state_found g.T.PartialOrder.below g.T.Minimum.least c.leave.result)) self_is
-    (of_found g.T.PartialOrder.below g.T.Minimum.least g.T.Ord.cmp pass held.state.value held.hub held.number held.found here (λ (p : Dataflow) (w : State g.row.T.Denot). IfErr c.allow-answer.result (λ refusal. allow_refusal_in g.T.PartialOrder.below w c.args.view c.args.times ≡ Some refusal)) c.deref_mut.result.now same c.allow-answer.ensures.refused c.leave.result after)
+    let m = c.deref_mut.result.now in
+    let same : m ≡ held.state.value = search rules in
+    let e = entered g.T.PartialOrder.below g.T.Minimum.least g.T.Ord.cmp c.self.inside.pass _ k _ _ _ c.self.invariant c.self.view_is held c.enter-tenure.ensures.found held.state.value (g.met.P.BoardProtocol.stands_for held.state held.found c.enter-tenure.ensures.stands) in
+    let after = after_tenure g.T.PartialOrder.below g.T.Minimum.least g.T.Ord.cmp k held.state.value held.hub held.number held.found e.within m c.allow-told.new.self c.self.inside.number same e.own_number c.allow-told.ensures.terms c.allow-told.ensures.stands c.leave.result (c.leave.ensures ∙ ap (λ (d : Doing _). record { hub = held.hub; number = held.number; seen = entry held.number d ∷ held.found }) (g.met.P.BoardProtocol.last_is _)) in
+    done_in_turn k c.leave.result (Allow k.number c.args.view c.args.times.now) _ _ c.allow-told.result
+    (on_ok_weaker c.allow-told.result (λ x. subst (λ (x : Event g.row.T.Denot). Adds k x c.leave.result) (x ∙ ap (λ n. Allow n c.args.view c.args.times.now) (sym e.own_number)) after.adds) c.allow-told.ensures.allowed)
+    (on_err_weaker c.allow-told.result (λ x. subst (λ (x : Event g.row.T.Denot). Adds k x c.leave.result) (x ∙ ap (λ n. Look n) (sym e.own_number)) after.adds) c.allow-told.ensures.unchanged)
+    (of_found g.T.PartialOrder.below g.T.Minimum.least g.T.Ord.cmp k held.state.value held.hub held.number held.found e.within (λ (p : Dataflow) (w : State g.row.T.Denot). OnOk c.allow-told.result (allow_refusal_in g.T.PartialOrder.below w c.args.view c.args.times.now ≡ None)) m same c.allow-told.ensures.accepted c.leave.result after)
+    (of_found g.T.PartialOrder.below g.T.Minimum.least g.T.Ord.cmp k held.state.value held.hub held.number held.found e.within (λ (p : Dataflow) (w : State g.row.T.Denot). IfErr c.allow-told.result (IsRefusalBy (allow_refusal_in g.T.PartialOrder.below w c.args.view c.args.times.now))) m same c.allow-told.ensures.refused c.leave.result after)

@@ -1,7 +1,6 @@
 use Rattle.std.proofs.Common.{◌∷◌, rules, ◌≡◌, ◌<◌, sym, subst, ap, ◌∙◌, length, None, IsTrue}
 use Rattle.std.specs.Prelude.{IfOk, IfErr, OnOk}
 use Rattle.hub.specs.Histories.{entry}
-use Rattle.hub.specs.Known.{Known}
 use Rattle.plan.specs.Changes.{AreDifferences}
 use Rattle.plan.specs.Nodes.{is_output}
 use Rattle.histories.specs.declared.event.Event.{Event}
@@ -11,103 +10,59 @@ use Rattle.histories.specs.Histories.Outstanding.{frontier}
 use Rattle.histories.specs.Histories.Promises.{changes_in}
 use Rattle.histories.specs.Histories.States.{State}
 use Rattle.shared_board.specs.declared.event.Doing.{Doing}
-use Rattle.shared_board.specs.Tenures.{StandsFor, Adds, Terms, terms_in, state_found, changes_refusal_in, IsChangesRefusalIn}
-use Rattle.shared_board.proofs.ActorLemmas.{leaves, IsIn, after_tenure, at_board, is_some_at, of_found}
+use Rattle.shared_board.specs.Tenures.{Adds, Terms, StandsFor, changes_refusal_in, IsChangesRefusalIn}
+use Rattle.shared_board.proofs.ActorLemmas.{after_tenure, at_board, leaves, of_found}
+use Rattle.shared_board.proofs.CallLemmas.{entered, answered_in_turn, listed_of}
 use Rattle.shared_board.proofs.actor.Actor.changes.Goals as goal
 
-pub changes-answer-requires-clause-within : goal.changes-answer-requires-clause-within
-changes-answer-requires-clause-within g c =
-    let pass = c.in-Some.pass in
-    let there = is_some_at c.self.inside.pass _ c.self.invariant pass (search rules) in
-    let t = c.enter-tenure.ensures.found in
+pub changes-changes-requires-clause-within : goal.changes-changes-requires-clause-within
+changes-changes-requires-clause-within g c =
+    let k = c.args.self.now in
     let held = c.enter-tenure.result in
-    let here : IsIn g.T.PartialOrder.below g.T.Minimum.least g.T.Ord.cmp pass held.state.value held.hub held.number held.found = record { actor = there.2; its_hub = t.0.0; its_number = t.0.1; agrees = t.0.2; stands = g.met.P.BoardProtocol.stands_for held.state held.found t.1 } in
-    let same : c.deref_mut.result.now ≡ held.state.value = search rules in
-    let self_is : pass ≡ c.args.self.now = search rules in
-    at_board g.T.PartialOrder.below g.T.Minimum.least g.T.Ord.cmp pass held.state.value held.hub held.number held.found here (λ (x : Terms). c.args.view < length x.dataflow.nodes) (subst (λ (k : Known (Doing g.row.T.Denot)). (λ (x : Terms). c.args.view < length x.dataflow.nodes) (terms_in k.seen)) (sym self_is) c.requires.within) c.deref_mut.result.now same
+    let m = c.deref_mut.result.now in
+    let same : m ≡ held.state.value = search rules in
+    let e = entered g.T.PartialOrder.below g.T.Minimum.least g.T.Ord.cmp c.self.inside.pass _ k _ _ _ c.self.invariant c.self.view_is held c.enter-tenure.ensures.found held.state.value (g.met.P.BoardProtocol.stands_for held.state held.found c.enter-tenure.ensures.stands) in
+    at_board g.T.PartialOrder.below g.T.Minimum.least g.T.Ord.cmp k held.state.value held.hub held.number held.found e.within (λ (x : Terms). c.args.view < length x.dataflow.nodes) c.requires.within m same
 
-pub changes-answer-requires-clause-view : goal.changes-answer-requires-clause-view
-changes-answer-requires-clause-view g c =
-    let pass = c.in-Some.pass in
-    let there = is_some_at c.self.inside.pass _ c.self.invariant pass (search rules) in
-    let t = c.enter-tenure.ensures.found in
+pub changes-changes-requires-clause-view : goal.changes-changes-requires-clause-view
+changes-changes-requires-clause-view g c =
+    let k = c.args.self.now in
     let held = c.enter-tenure.result in
-    let here : IsIn g.T.PartialOrder.below g.T.Minimum.least g.T.Ord.cmp pass held.state.value held.hub held.number held.found = record { actor = there.2; its_hub = t.0.0; its_number = t.0.1; agrees = t.0.2; stands = g.met.P.BoardProtocol.stands_for held.state held.found t.1 } in
-    let same : c.deref_mut.result.now ≡ held.state.value = search rules in
-    let self_is : pass ≡ c.args.self.now = search rules in
-    at_board g.T.PartialOrder.below g.T.Minimum.least g.T.Ord.cmp pass held.state.value held.hub held.number held.found here (λ (x : Terms). IsTrue (is_output (node_of x.dataflow c.args.view))) (subst (λ (k : Known (Doing g.row.T.Denot)). (λ (x : Terms). IsTrue (is_output (node_of x.dataflow c.args.view))) (terms_in k.seen)) (sym self_is) c.requires.view) c.deref_mut.result.now same
+    let m = c.deref_mut.result.now in
+    let same : m ≡ held.state.value = search rules in
+    let e = entered g.T.PartialOrder.below g.T.Minimum.least g.T.Ord.cmp c.self.inside.pass _ k _ _ _ c.self.invariant c.self.view_is held c.enter-tenure.ensures.found held.state.value (g.met.P.BoardProtocol.stands_for held.state held.found c.enter-tenure.ensures.stands) in
+    at_board g.T.PartialOrder.below g.T.Minimum.least g.T.Ord.cmp k held.state.value held.hub held.number held.found e.within (λ (x : Terms). IsTrue (is_output (node_of x.dataflow c.args.view))) c.requires.view m same
 
 pub leave-requires : goal.leave-requires
 leave-requires g c =
-    let pass = c.in-Some.pass in
-    let there = is_some_at c.self.inside.pass _ c.self.invariant pass (search rules) in
-    let t = c.enter-tenure.ensures.found in
+    let k = c.args.self.now in
     let held = c.enter-tenure.result in
-    let here : IsIn g.T.PartialOrder.below g.T.Minimum.least g.T.Ord.cmp pass held.state.value held.hub held.number held.found = record { actor = there.2; its_hub = t.0.0; its_number = t.0.1; agrees = t.0.2; stands = g.met.P.BoardProtocol.stands_for held.state held.found t.1 } in
-    let same : c.deref_mut.result.now ≡ held.state.value = search rules in
-    let self_is : pass ≡ c.args.self.now = search rules in
-    g.met.P.BoardProtocol.may_stand _ _ (subst (λ (d : Doing _). StandsFor g.T.PartialOrder.below g.T.Minimum.least g.T.Ord.cmp c.changes-answer.new.self (entry held.number d ∷ held.found)) (sym (g.met.P.BoardProtocol.last_is _))
-    (leaves g.T.PartialOrder.below g.T.Minimum.least g.T.Ord.cmp pass held.state.value held.hub held.number held.found here c.deref_mut.result.now c.changes-answer.new.self c.self.inside.number same there.1 c.changes-answer.ensures.terms c.changes-answer.ensures.stands))
+    let m = c.deref_mut.result.now in
+    let same : m ≡ held.state.value = search rules in
+    let e = entered g.T.PartialOrder.below g.T.Minimum.least g.T.Ord.cmp c.self.inside.pass _ k _ _ _ c.self.invariant c.self.view_is held c.enter-tenure.ensures.found held.state.value (g.met.P.BoardProtocol.stands_for held.state held.found c.enter-tenure.ensures.stands) in
+    g.met.P.BoardProtocol.may_stand _ _ (subst (λ (d : Doing _). StandsFor g.T.PartialOrder.below g.T.Minimum.least g.T.Ord.cmp c.changes-changes.new.self (entry held.number d ∷ held.found)) (sym (g.met.P.BoardProtocol.last_is _))
+    (leaves g.T.PartialOrder.below g.T.Minimum.least g.T.Ord.cmp k held.state.value held.hub held.number held.found e.within m c.changes-changes.new.self c.self.inside.number same e.own_number c.changes-changes.ensures.terms c.changes-changes.ensures.stands))
 
 pub invariant_of-self : goal.invariant_of-self
 invariant_of-self g c =
-    let pass = c.in-Some.pass in
-    let there = is_some_at c.self.inside.pass _ c.self.invariant pass (search rules) in
-    let t = c.enter-tenure.ensures.found in
+    let k = c.args.self.now in
     let held = c.enter-tenure.result in
-    let here : IsIn g.T.PartialOrder.below g.T.Minimum.least g.T.Ord.cmp pass held.state.value held.hub held.number held.found = record { actor = there.2; its_hub = t.0.0; its_number = t.0.1; agrees = t.0.2; stands = g.met.P.BoardProtocol.stands_for held.state held.found t.1 } in
-    let same : c.deref_mut.result.now ≡ held.state.value = search rules in
-    let self_is : pass ≡ c.args.self.now = search rules in
-    let after = after_tenure g.T.PartialOrder.below g.T.Minimum.least g.T.Ord.cmp pass held.state.value held.hub held.number held.found here c.deref_mut.result.now c.changes-answer.new.self c.self.inside.number same there.1 c.changes-answer.ensures.terms c.changes-answer.ensures.stands c.leave.result (c.leave.ensures ∙ ap (λ (d : Doing _). record { hub = held.hub; number = held.number; seen = entry held.number d ∷ held.found }) (g.met.P.BoardProtocol.last_is _)) in
-    (after.same_hub ∙ there.0, after.same_number ∙ there.1, after.actor, λ n e. after.counted n (sym (c.accepted-self-inside.ensures ∙ search rules) ∙ e))
+    let m = c.deref_mut.result.now in
+    let same : m ≡ held.state.value = search rules in
+    let e = entered g.T.PartialOrder.below g.T.Minimum.least g.T.Ord.cmp c.self.inside.pass _ k _ _ _ c.self.invariant c.self.view_is held c.enter-tenure.ensures.found held.state.value (g.met.P.BoardProtocol.stands_for held.state held.found c.enter-tenure.ensures.stands) in
+    let after = after_tenure g.T.PartialOrder.below g.T.Minimum.least g.T.Ord.cmp k held.state.value held.hub held.number held.found e.within m c.changes-changes.new.self c.self.inside.number same e.own_number c.changes-changes.ensures.terms c.changes-changes.ensures.stands c.leave.result (c.leave.ensures ∙ ap (λ (d : Doing _). record { hub = held.hub; number = held.number; seen = entry held.number d ∷ held.found }) (g.met.P.BoardProtocol.last_is _)) in
+    (after.same_hub ∙ e.same_hub, after.same_number ∙ e.own_number, after.actor, λ n x. after.counted n (sym (c.accepted-self-inside.ensures ∙ search rules) ∙ x))
 
-pub returns-clause-looked : goal.returns-clause-looked
-returns-clause-looked g c =
-    let pass = c.in-Some.pass in
-    let there = is_some_at c.self.inside.pass _ c.self.invariant pass (search rules) in
-    let t = c.enter-tenure.ensures.found in
+pub returns : goal.returns
+returns g c =
+    let k = c.args.self.now in
     let held = c.enter-tenure.result in
-    let here : IsIn g.T.PartialOrder.below g.T.Minimum.least g.T.Ord.cmp pass held.state.value held.hub held.number held.found = record { actor = there.2; its_hub = t.0.0; its_number = t.0.1; agrees = t.0.2; stands = g.met.P.BoardProtocol.stands_for held.state held.found t.1 } in
-    let same : c.deref_mut.result.now ≡ held.state.value = search rules in
-    let self_is : pass ≡ c.args.self.now = search rules in
-    let after = after_tenure g.T.PartialOrder.below g.T.Minimum.least g.T.Ord.cmp pass held.state.value held.hub held.number held.found here c.deref_mut.result.now c.changes-answer.new.self c.self.inside.number same there.1 c.changes-answer.ensures.terms c.changes-answer.ensures.stands c.leave.result (c.leave.ensures ∙ ap (λ (d : Doing _). record { hub = held.hub; number = held.number; seen = entry held.number d ∷ held.found }) (g.met.P.BoardProtocol.last_is _)) in
-    subst (λ (k : Known (Doing g.row.T.Denot)). Adds k (Look k.number) c.leave.result) self_is (subst (λ (e : Event g.row.T.Denot). Adds pass e c.leave.result) (c.changes-answer.ensures.looked ∙ ap (λ n. Look n) (sym there.1)) after.adds)
-
-pub returns-clause-accepted : goal.returns-clause-accepted
-returns-clause-accepted g c =
-    let pass = c.in-Some.pass in
-    let there = is_some_at c.self.inside.pass _ c.self.invariant pass (search rules) in
-    let t = c.enter-tenure.ensures.found in
-    let held = c.enter-tenure.result in
-    let here : IsIn g.T.PartialOrder.below g.T.Minimum.least g.T.Ord.cmp pass held.state.value held.hub held.number held.found = record { actor = there.2; its_hub = t.0.0; its_number = t.0.1; agrees = t.0.2; stands = g.met.P.BoardProtocol.stands_for held.state held.found t.1 } in
-    let same : c.deref_mut.result.now ≡ held.state.value = search rules in
-    let self_is : pass ≡ c.args.self.now = search rules in
-    let after = after_tenure g.T.PartialOrder.below g.T.Minimum.least g.T.Ord.cmp pass held.state.value held.hub held.number held.found here c.deref_mut.result.now c.changes-answer.new.self c.self.inside.number same there.1 c.changes-answer.ensures.terms c.changes-answer.ensures.stands c.leave.result (c.leave.ensures ∙ ap (λ (d : Doing _). record { hub = held.hub; number = held.number; seen = entry held.number d ∷ held.found }) (g.met.P.BoardProtocol.last_is _)) in
-    subst (λ (k : Known (Doing g.row.T.Denot)). (λ (p : Dataflow) (w : State g.row.T.Denot). OnOk c.changes-answer.result (changes_refusal_in g.T.PartialOrder.below g.T.Minimum.least w c.args.view ≡ None)) (terms_in k.seen).dataflow (state_found g.T.PartialOrder.below g.T.Minimum.least c.leave.result)) self_is
-    (of_found g.T.PartialOrder.below g.T.Minimum.least g.T.Ord.cmp pass held.state.value held.hub held.number held.found here (λ (p : Dataflow) (w : State g.row.T.Denot). OnOk c.changes-answer.result (changes_refusal_in g.T.PartialOrder.below g.T.Minimum.least w c.args.view ≡ None)) c.deref_mut.result.now same c.changes-answer.ensures.accepted c.leave.result after)
-
-pub returns-clause-refused : goal.returns-clause-refused
-returns-clause-refused g c =
-    let pass = c.in-Some.pass in
-    let there = is_some_at c.self.inside.pass _ c.self.invariant pass (search rules) in
-    let t = c.enter-tenure.ensures.found in
-    let held = c.enter-tenure.result in
-    let here : IsIn g.T.PartialOrder.below g.T.Minimum.least g.T.Ord.cmp pass held.state.value held.hub held.number held.found = record { actor = there.2; its_hub = t.0.0; its_number = t.0.1; agrees = t.0.2; stands = g.met.P.BoardProtocol.stands_for held.state held.found t.1 } in
-    let same : c.deref_mut.result.now ≡ held.state.value = search rules in
-    let self_is : pass ≡ c.args.self.now = search rules in
-    let after = after_tenure g.T.PartialOrder.below g.T.Minimum.least g.T.Ord.cmp pass held.state.value held.hub held.number held.found here c.deref_mut.result.now c.changes-answer.new.self c.self.inside.number same there.1 c.changes-answer.ensures.terms c.changes-answer.ensures.stands c.leave.result (c.leave.ensures ∙ ap (λ (d : Doing _). record { hub = held.hub; number = held.number; seen = entry held.number d ∷ held.found }) (g.met.P.BoardProtocol.last_is _)) in
-    subst (λ (k : Known (Doing g.row.T.Denot)). (λ (p : Dataflow) (w : State g.row.T.Denot). IfErr c.changes-answer.result (IsChangesRefusalIn g.T.PartialOrder.below g.T.Minimum.least p w c.args.view)) (terms_in k.seen).dataflow (state_found g.T.PartialOrder.below g.T.Minimum.least c.leave.result)) self_is
-    (of_found g.T.PartialOrder.below g.T.Minimum.least g.T.Ord.cmp pass held.state.value held.hub held.number held.found here (λ (p : Dataflow) (w : State g.row.T.Denot). IfErr c.changes-answer.result (IsChangesRefusalIn g.T.PartialOrder.below g.T.Minimum.least p w c.args.view)) c.deref_mut.result.now same c.changes-answer.ensures.refused c.leave.result after)
-
-pub returns-clause-differences : goal.returns-clause-differences
-returns-clause-differences g c =
-    let pass = c.in-Some.pass in
-    let there = is_some_at c.self.inside.pass _ c.self.invariant pass (search rules) in
-    let t = c.enter-tenure.ensures.found in
-    let held = c.enter-tenure.result in
-    let here : IsIn g.T.PartialOrder.below g.T.Minimum.least g.T.Ord.cmp pass held.state.value held.hub held.number held.found = record { actor = there.2; its_hub = t.0.0; its_number = t.0.1; agrees = t.0.2; stands = g.met.P.BoardProtocol.stands_for held.state held.found t.1 } in
-    let same : c.deref_mut.result.now ≡ held.state.value = search rules in
-    let self_is : pass ≡ c.args.self.now = search rules in
-    let after = after_tenure g.T.PartialOrder.below g.T.Minimum.least g.T.Ord.cmp pass held.state.value held.hub held.number held.found here c.deref_mut.result.now c.changes-answer.new.self c.self.inside.number same there.1 c.changes-answer.ensures.terms c.changes-answer.ensures.stands c.leave.result (c.leave.ensures ∙ ap (λ (d : Doing _). record { hub = held.hub; number = held.number; seen = entry held.number d ∷ held.found }) (g.met.P.BoardProtocol.last_is _)) in
-    subst (λ (k : Known (Doing g.row.T.Denot)). (λ (p : Dataflow) (w : State g.row.T.Denot). IfOk c.changes-answer.result (λ us. AreDifferences g.T.PartialOrder.below g.T.Ord.cmp p.nodes (changes_in w) (frontier g.T.PartialOrder.below p w c.args.view) c.args.view us.items)) (terms_in k.seen).dataflow (state_found g.T.PartialOrder.below g.T.Minimum.least c.leave.result)) self_is
-    (of_found g.T.PartialOrder.below g.T.Minimum.least g.T.Ord.cmp pass held.state.value held.hub held.number held.found here (λ (p : Dataflow) (w : State g.row.T.Denot). IfOk c.changes-answer.result (λ us. AreDifferences g.T.PartialOrder.below g.T.Ord.cmp p.nodes (changes_in w) (frontier g.T.PartialOrder.below p w c.args.view) c.args.view us.items)) c.deref_mut.result.now same c.changes-answer.ensures.differences c.leave.result after)
+    let m = c.deref_mut.result.now in
+    let same : m ≡ held.state.value = search rules in
+    let e = entered g.T.PartialOrder.below g.T.Minimum.least g.T.Ord.cmp c.self.inside.pass _ k _ _ _ c.self.invariant c.self.view_is held c.enter-tenure.ensures.found held.state.value (g.met.P.BoardProtocol.stands_for held.state held.found c.enter-tenure.ensures.stands) in
+    let after = after_tenure g.T.PartialOrder.below g.T.Minimum.least g.T.Ord.cmp k held.state.value held.hub held.number held.found e.within m c.changes-changes.new.self c.self.inside.number same e.own_number c.changes-changes.ensures.terms c.changes-changes.ensures.stands c.leave.result (c.leave.ensures ∙ ap (λ (d : Doing _). record { hub = held.hub; number = held.number; seen = entry held.number d ∷ held.found }) (g.met.P.BoardProtocol.last_is _)) in
+    answered_in_turn k c.leave.result _ _ c.changes-changes.result (subst (λ (x : Event g.row.T.Denot). Adds k x c.leave.result) (c.changes-changes.ensures.looked ∙ ap (λ n. Look n) (sym e.own_number)) after.adds)
+    (listed_of g.T.PartialOrder.below g.T.Minimum.least k c.leave.result c.args.view (λ us. us.items) g.T.Ord.cmp c.changes-changes.result
+    (of_found g.T.PartialOrder.below g.T.Minimum.least g.T.Ord.cmp k held.state.value held.hub held.number held.found e.within (λ (p : Dataflow) (w : State g.row.T.Denot). OnOk c.changes-changes.result (changes_refusal_in g.T.PartialOrder.below g.T.Minimum.least w c.args.view ≡ None)) m same c.changes-changes.ensures.accepted c.leave.result after)
+    (of_found g.T.PartialOrder.below g.T.Minimum.least g.T.Ord.cmp k held.state.value held.hub held.number held.found e.within (λ (p : Dataflow) (w : State g.row.T.Denot). IfOk c.changes-changes.result (λ us. AreDifferences g.T.PartialOrder.below g.T.Ord.cmp p.nodes (changes_in w) (frontier g.T.PartialOrder.below p w c.args.view) c.args.view us.items)) m same c.changes-changes.ensures.differences c.leave.result after))
+    (of_found g.T.PartialOrder.below g.T.Minimum.least g.T.Ord.cmp k held.state.value held.hub held.number held.found e.within (λ (p : Dataflow) (w : State g.row.T.Denot). IfErr c.changes-changes.result (IsChangesRefusalIn g.T.PartialOrder.below g.T.Minimum.least p w c.args.view)) m same c.changes-changes.ensures.refused c.leave.result after)

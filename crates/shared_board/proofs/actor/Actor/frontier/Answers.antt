@@ -1,7 +1,6 @@
 use Rattle.std.proofs.Common.{◌∷◌, rules, ◌≡◌, ◌<◌, sym, subst, ap, ◌∙◌, length}
 use Rattle.std.specs.Prelude.{IfOk}
 use Rattle.hub.specs.Histories.{entry}
-use Rattle.hub.specs.Known.{Known}
 use Rattle.antichain.specs.Antichains.{SameElements}
 use Rattle.histories.specs.declared.event.Event.{Event}
 use Rattle.histories.specs.declared.event.Event.TheVariants.{Look}
@@ -9,66 +8,48 @@ use Rattle.histories.specs.Histories.Dataflows.{Dataflow}
 use Rattle.histories.specs.Histories.Outstanding.{frontier}
 use Rattle.histories.specs.Histories.States.{State}
 use Rattle.shared_board.specs.declared.event.Doing.{Doing}
-use Rattle.shared_board.specs.Tenures.{Adds, Terms, terms_in, state_found, StandsFor}
-use Rattle.shared_board.proofs.ActorLemmas.{IsIn, after_tenure, at_board, is_some_at, leaves, of_found}
+use Rattle.shared_board.specs.Tenures.{Adds, Terms, StandsFor}
+use Rattle.shared_board.proofs.ActorLemmas.{after_tenure, at_board, leaves, of_found}
+use Rattle.shared_board.proofs.CallLemmas.{entered, answered_in_turn}
 use Rattle.shared_board.proofs.actor.Actor.frontier.Goals as goal
 
-pub frontier-answer-requires : goal.frontier-answer-requires
-frontier-answer-requires g c =
-    let pass = c.in-Some.pass in
-    let there = is_some_at c.self.inside.pass _ c.self.invariant pass (search rules) in
-    let t = c.enter-tenure.ensures.found in
+pub frontier-found-requires : goal.frontier-found-requires
+frontier-found-requires g c =
+    let k = c.args.self.now in
     let held = c.enter-tenure.result in
-    let here : IsIn g.T.PartialOrder.below g.T.Minimum.least g.T.Ord.cmp pass held.state.value held.hub held.number held.found = record { actor = there.2; its_hub = t.0.0; its_number = t.0.1; agrees = t.0.2; stands = g.met.P.BoardProtocol.stands_for held.state held.found t.1 } in
-    let same : c.deref_mut.result.now ≡ held.state.value = search rules in
-    let self_is : pass ≡ c.args.self.now = search rules in
-    (search rules, at_board g.T.PartialOrder.below g.T.Minimum.least g.T.Ord.cmp pass held.state.value held.hub held.number held.found here (λ (x : Terms). c.args.view < length x.dataflow.nodes) (subst (λ (k : Known (Doing g.row.T.Denot)). (λ (x : Terms). c.args.view < length x.dataflow.nodes) (terms_in k.seen)) (sym self_is) c.requires.within) c.deref_mut.result.now same)
+    let m = c.deref_mut.result.now in
+    let same : m ≡ held.state.value = search rules in
+    let e = entered g.T.PartialOrder.below g.T.Minimum.least g.T.Ord.cmp c.self.inside.pass _ k _ _ _ c.self.invariant c.self.view_is held c.enter-tenure.ensures.found held.state.value (g.met.P.BoardProtocol.stands_for held.state held.found c.enter-tenure.ensures.stands) in
+    (search rules, at_board g.T.PartialOrder.below g.T.Minimum.least g.T.Ord.cmp k held.state.value held.hub held.number held.found e.within (λ (x : Terms). c.args.view < length x.dataflow.nodes) c.requires.within m same)
 
 pub leave-requires : goal.leave-requires
 leave-requires g c =
-    let pass = c.in-Some.pass in
-    let there = is_some_at c.self.inside.pass _ c.self.invariant pass (search rules) in
-    let t = c.enter-tenure.ensures.found in
+    let k = c.args.self.now in
     let held = c.enter-tenure.result in
-    let here : IsIn g.T.PartialOrder.below g.T.Minimum.least g.T.Ord.cmp pass held.state.value held.hub held.number held.found = record { actor = there.2; its_hub = t.0.0; its_number = t.0.1; agrees = t.0.2; stands = g.met.P.BoardProtocol.stands_for held.state held.found t.1 } in
-    let same : c.deref_mut.result.now ≡ held.state.value = search rules in
-    let self_is : pass ≡ c.args.self.now = search rules in
-    g.met.P.BoardProtocol.may_stand _ _ (subst (λ (d : Doing _). StandsFor g.T.PartialOrder.below g.T.Minimum.least g.T.Ord.cmp c.frontier-answer.new.self (entry held.number d ∷ held.found)) (sym (g.met.P.BoardProtocol.last_is _))
-    (leaves g.T.PartialOrder.below g.T.Minimum.least g.T.Ord.cmp pass held.state.value held.hub held.number held.found here c.deref_mut.result.now c.frontier-answer.new.self c.self.inside.number same there.1 c.frontier-answer.ensures.terms c.frontier-answer.ensures.stands))
+    let m = c.deref_mut.result.now in
+    let same : m ≡ held.state.value = search rules in
+    let e = entered g.T.PartialOrder.below g.T.Minimum.least g.T.Ord.cmp c.self.inside.pass _ k _ _ _ c.self.invariant c.self.view_is held c.enter-tenure.ensures.found held.state.value (g.met.P.BoardProtocol.stands_for held.state held.found c.enter-tenure.ensures.stands) in
+    g.met.P.BoardProtocol.may_stand _ _ (subst (λ (d : Doing _). StandsFor g.T.PartialOrder.below g.T.Minimum.least g.T.Ord.cmp c.frontier-found.new.self (entry held.number d ∷ held.found)) (sym (g.met.P.BoardProtocol.last_is _))
+    (leaves g.T.PartialOrder.below g.T.Minimum.least g.T.Ord.cmp k held.state.value held.hub held.number held.found e.within m c.frontier-found.new.self c.self.inside.number same e.own_number c.frontier-found.ensures.terms c.frontier-found.ensures.stands))
 
 pub invariant_of-self : goal.invariant_of-self
 invariant_of-self g c =
-    let pass = c.in-Some.pass in
-    let there = is_some_at c.self.inside.pass _ c.self.invariant pass (search rules) in
-    let t = c.enter-tenure.ensures.found in
+    let k = c.args.self.now in
     let held = c.enter-tenure.result in
-    let here : IsIn g.T.PartialOrder.below g.T.Minimum.least g.T.Ord.cmp pass held.state.value held.hub held.number held.found = record { actor = there.2; its_hub = t.0.0; its_number = t.0.1; agrees = t.0.2; stands = g.met.P.BoardProtocol.stands_for held.state held.found t.1 } in
-    let same : c.deref_mut.result.now ≡ held.state.value = search rules in
-    let self_is : pass ≡ c.args.self.now = search rules in
-    let after = after_tenure g.T.PartialOrder.below g.T.Minimum.least g.T.Ord.cmp pass held.state.value held.hub held.number held.found here c.deref_mut.result.now c.frontier-answer.new.self c.self.inside.number same there.1 c.frontier-answer.ensures.terms c.frontier-answer.ensures.stands c.leave.result (c.leave.ensures ∙ ap (λ (d : Doing _). record { hub = held.hub; number = held.number; seen = entry held.number d ∷ held.found }) (g.met.P.BoardProtocol.last_is _)) in
-    (after.same_hub ∙ there.0, after.same_number ∙ there.1, after.actor, λ n e. after.counted n (sym (c.accepted-self-inside.ensures ∙ search rules) ∙ e))
+    let m = c.deref_mut.result.now in
+    let same : m ≡ held.state.value = search rules in
+    let e = entered g.T.PartialOrder.below g.T.Minimum.least g.T.Ord.cmp c.self.inside.pass _ k _ _ _ c.self.invariant c.self.view_is held c.enter-tenure.ensures.found held.state.value (g.met.P.BoardProtocol.stands_for held.state held.found c.enter-tenure.ensures.stands) in
+    let after = after_tenure g.T.PartialOrder.below g.T.Minimum.least g.T.Ord.cmp k held.state.value held.hub held.number held.found e.within m c.frontier-found.new.self c.self.inside.number same e.own_number c.frontier-found.ensures.terms c.frontier-found.ensures.stands c.leave.result (c.leave.ensures ∙ ap (λ (d : Doing _). record { hub = held.hub; number = held.number; seen = entry held.number d ∷ held.found }) (g.met.P.BoardProtocol.last_is _)) in
+    (after.same_hub ∙ e.same_hub, after.same_number ∙ e.own_number, after.actor, λ n x. after.counted n (sym (c.accepted-self-inside.ensures ∙ search rules) ∙ x))
 
-pub returns-clause-looked : goal.returns-clause-looked
-returns-clause-looked g c =
-    let pass = c.in-Some.pass in
-    let there = is_some_at c.self.inside.pass _ c.self.invariant pass (search rules) in
-    let t = c.enter-tenure.ensures.found in
+pub returns : goal.returns
+returns g c =
+    let k = c.args.self.now in
     let held = c.enter-tenure.result in
-    let here : IsIn g.T.PartialOrder.below g.T.Minimum.least g.T.Ord.cmp pass held.state.value held.hub held.number held.found = record { actor = there.2; its_hub = t.0.0; its_number = t.0.1; agrees = t.0.2; stands = g.met.P.BoardProtocol.stands_for held.state held.found t.1 } in
-    let same : c.deref_mut.result.now ≡ held.state.value = search rules in
-    let self_is : pass ≡ c.args.self.now = search rules in
-    let after = after_tenure g.T.PartialOrder.below g.T.Minimum.least g.T.Ord.cmp pass held.state.value held.hub held.number held.found here c.deref_mut.result.now c.frontier-answer.new.self c.self.inside.number same there.1 c.frontier-answer.ensures.terms c.frontier-answer.ensures.stands c.leave.result (c.leave.ensures ∙ ap (λ (d : Doing _). record { hub = held.hub; number = held.number; seen = entry held.number d ∷ held.found }) (g.met.P.BoardProtocol.last_is _)) in
-    subst (λ (k : Known (Doing g.row.T.Denot)). Adds k (Look k.number) c.leave.result) self_is (subst (λ (e : Event g.row.T.Denot). Adds pass e c.leave.result) (c.frontier-answer.ensures.looked ∙ ap (λ n. Look n) (sym there.1)) after.adds)
-
-pub returns-clause-frontier : goal.returns-clause-frontier
-returns-clause-frontier g c =
-    let pass = c.in-Some.pass in
-    let there = is_some_at c.self.inside.pass _ c.self.invariant pass (search rules) in
-    let t = c.enter-tenure.ensures.found in
-    let held = c.enter-tenure.result in
-    let here : IsIn g.T.PartialOrder.below g.T.Minimum.least g.T.Ord.cmp pass held.state.value held.hub held.number held.found = record { actor = there.2; its_hub = t.0.0; its_number = t.0.1; agrees = t.0.2; stands = g.met.P.BoardProtocol.stands_for held.state held.found t.1 } in
-    let same : c.deref_mut.result.now ≡ held.state.value = search rules in
-    let self_is : pass ≡ c.args.self.now = search rules in
-    let after = after_tenure g.T.PartialOrder.below g.T.Minimum.least g.T.Ord.cmp pass held.state.value held.hub held.number held.found here c.deref_mut.result.now c.frontier-answer.new.self c.self.inside.number same there.1 c.frontier-answer.ensures.terms c.frontier-answer.ensures.stands c.leave.result (c.leave.ensures ∙ ap (λ (d : Doing _). record { hub = held.hub; number = held.number; seen = entry held.number d ∷ held.found }) (g.met.P.BoardProtocol.last_is _)) in
-    subst (λ (k : Known (Doing g.row.T.Denot)). (λ (p : Dataflow) (w : State g.row.T.Denot). IfOk c.frontier-answer.result (λ found. SameElements found (frontier g.T.PartialOrder.below p w c.args.view))) (terms_in k.seen).dataflow (state_found g.T.PartialOrder.below g.T.Minimum.least c.leave.result)) self_is
-    (of_found g.T.PartialOrder.below g.T.Minimum.least g.T.Ord.cmp pass held.state.value held.hub held.number held.found here (λ (p : Dataflow) (w : State g.row.T.Denot). IfOk c.frontier-answer.result (λ found. SameElements found (frontier g.T.PartialOrder.below p w c.args.view))) c.deref_mut.result.now same c.frontier-answer.ensures.frontier c.leave.result after)
+    let m = c.deref_mut.result.now in
+    let same : m ≡ held.state.value = search rules in
+    let e = entered g.T.PartialOrder.below g.T.Minimum.least g.T.Ord.cmp c.self.inside.pass _ k _ _ _ c.self.invariant c.self.view_is held c.enter-tenure.ensures.found held.state.value (g.met.P.BoardProtocol.stands_for held.state held.found c.enter-tenure.ensures.stands) in
+    let after = after_tenure g.T.PartialOrder.below g.T.Minimum.least g.T.Ord.cmp k held.state.value held.hub held.number held.found e.within m c.frontier-found.new.self c.self.inside.number same e.own_number c.frontier-found.ensures.terms c.frontier-found.ensures.stands c.leave.result (c.leave.ensures ∙ ap (λ (d : Doing _). record { hub = held.hub; number = held.number; seen = entry held.number d ∷ held.found }) (g.met.P.BoardProtocol.last_is _)) in
+    answered_in_turn k c.leave.result _ _ c.frontier-found.result (subst (λ (x : Event g.row.T.Denot). Adds k x c.leave.result) (c.frontier-found.ensures.looked ∙ ap (λ n. Look n) (sym e.own_number)) after.adds)
+    (of_found g.T.PartialOrder.below g.T.Minimum.least g.T.Ord.cmp k held.state.value held.hub held.number held.found e.within (λ (p : Dataflow) (w : State g.row.T.Denot). IfOk c.frontier-found.result (λ found. SameElements found (frontier g.T.PartialOrder.below p w c.args.view))) m same c.frontier-found.ensures.frontier c.leave.result after)
+    c.frontier-found.ensures.refused

@@ -1,7 +1,6 @@
 use Rattle.std.proofs.Common.{◌∷◌, rules, ◌≡◌, ◌<◌, sym, subst, ap, ◌∙◌, length, None, IsTrue}
 use Rattle.std.specs.Prelude.{IfOk, IfErr, OnOk}
 use Rattle.hub.specs.Histories.{entry}
-use Rattle.hub.specs.Known.{Known}
 use Rattle.update.specs.Bags.{Alike}
 use Rattle.plan.specs.Changes.{query_at}
 use Rattle.plan.specs.Nodes.{is_output}
@@ -11,103 +10,60 @@ use Rattle.histories.specs.Histories.Dataflows.{Dataflow, node_of}
 use Rattle.histories.specs.Histories.Promises.{changes_in}
 use Rattle.histories.specs.Histories.States.{State}
 use Rattle.shared_board.specs.declared.event.Doing.{Doing}
-use Rattle.shared_board.specs.Tenures.{StandsFor, Adds, Terms, terms_in, state_found, read_refusal_in, IsReadRefusalIn}
-use Rattle.shared_board.proofs.ActorLemmas.{leaves, IsIn, after_tenure, at_board, is_some_at, of_found}
+use Rattle.shared_board.specs.Tenures.{Adds, Terms, StandsFor, read_refusal_in, IsReadRefusalIn}
+use Rattle.shared_board.proofs.ActorLemmas.{after_tenure, at_board, leaves, of_found}
+use Rattle.shared_board.proofs.CallLemmas.{entered, answered_in_turn, read_of}
 use Rattle.shared_board.proofs.actor.Actor.read.Goals as goal
 
-pub read-answer-requires-clause-within : goal.read-answer-requires-clause-within
-read-answer-requires-clause-within g c =
-    let pass = c.in-Some.pass in
-    let there = is_some_at c.self.inside.pass _ c.self.invariant pass (search rules) in
-    let t = c.enter-tenure.ensures.found in
+pub read-rows-requires-clause-within : goal.read-rows-requires-clause-within
+read-rows-requires-clause-within g c =
+    let k = c.args.self.now in
     let held = c.enter-tenure.result in
-    let here : IsIn g.T.PartialOrder.below g.T.Minimum.least g.T.Ord.cmp pass held.state.value held.hub held.number held.found = record { actor = there.2; its_hub = t.0.0; its_number = t.0.1; agrees = t.0.2; stands = g.met.P.BoardProtocol.stands_for held.state held.found t.1 } in
-    let same : c.deref_mut.result.now ≡ held.state.value = search rules in
-    let self_is : pass ≡ c.args.self.now = search rules in
-    at_board g.T.PartialOrder.below g.T.Minimum.least g.T.Ord.cmp pass held.state.value held.hub held.number held.found here (λ (x : Terms). c.args.view < length x.dataflow.nodes) (subst (λ (k : Known (Doing g.row.T.Denot)). (λ (x : Terms). c.args.view < length x.dataflow.nodes) (terms_in k.seen)) (sym self_is) c.requires.within) c.deref_mut.result.now same
+    let m = c.deref_mut.result.now in
+    let same : m ≡ held.state.value = search rules in
+    let e = entered g.T.PartialOrder.below g.T.Minimum.least g.T.Ord.cmp c.self.inside.pass _ k _ _ _ c.self.invariant c.self.view_is held c.enter-tenure.ensures.found held.state.value (g.met.P.BoardProtocol.stands_for held.state held.found c.enter-tenure.ensures.stands) in
+    at_board g.T.PartialOrder.below g.T.Minimum.least g.T.Ord.cmp k held.state.value held.hub held.number held.found e.within (λ (x : Terms). c.args.view < length x.dataflow.nodes) c.requires.within m same
 
-pub read-answer-requires-clause-view : goal.read-answer-requires-clause-view
-read-answer-requires-clause-view g c =
-    let pass = c.in-Some.pass in
-    let there = is_some_at c.self.inside.pass _ c.self.invariant pass (search rules) in
-    let t = c.enter-tenure.ensures.found in
+pub read-rows-requires-clause-view : goal.read-rows-requires-clause-view
+read-rows-requires-clause-view g c =
+    let k = c.args.self.now in
     let held = c.enter-tenure.result in
-    let here : IsIn g.T.PartialOrder.below g.T.Minimum.least g.T.Ord.cmp pass held.state.value held.hub held.number held.found = record { actor = there.2; its_hub = t.0.0; its_number = t.0.1; agrees = t.0.2; stands = g.met.P.BoardProtocol.stands_for held.state held.found t.1 } in
-    let same : c.deref_mut.result.now ≡ held.state.value = search rules in
-    let self_is : pass ≡ c.args.self.now = search rules in
-    at_board g.T.PartialOrder.below g.T.Minimum.least g.T.Ord.cmp pass held.state.value held.hub held.number held.found here (λ (x : Terms). IsTrue (is_output (node_of x.dataflow c.args.view))) (subst (λ (k : Known (Doing g.row.T.Denot)). (λ (x : Terms). IsTrue (is_output (node_of x.dataflow c.args.view))) (terms_in k.seen)) (sym self_is) c.requires.view) c.deref_mut.result.now same
+    let m = c.deref_mut.result.now in
+    let same : m ≡ held.state.value = search rules in
+    let e = entered g.T.PartialOrder.below g.T.Minimum.least g.T.Ord.cmp c.self.inside.pass _ k _ _ _ c.self.invariant c.self.view_is held c.enter-tenure.ensures.found held.state.value (g.met.P.BoardProtocol.stands_for held.state held.found c.enter-tenure.ensures.stands) in
+    at_board g.T.PartialOrder.below g.T.Minimum.least g.T.Ord.cmp k held.state.value held.hub held.number held.found e.within (λ (x : Terms). IsTrue (is_output (node_of x.dataflow c.args.view))) c.requires.view m same
 
 pub leave-requires : goal.leave-requires
 leave-requires g c =
-    let pass = c.in-Some.pass in
-    let there = is_some_at c.self.inside.pass _ c.self.invariant pass (search rules) in
-    let t = c.enter-tenure.ensures.found in
+    let k = c.args.self.now in
     let held = c.enter-tenure.result in
-    let here : IsIn g.T.PartialOrder.below g.T.Minimum.least g.T.Ord.cmp pass held.state.value held.hub held.number held.found = record { actor = there.2; its_hub = t.0.0; its_number = t.0.1; agrees = t.0.2; stands = g.met.P.BoardProtocol.stands_for held.state held.found t.1 } in
-    let same : c.deref_mut.result.now ≡ held.state.value = search rules in
-    let self_is : pass ≡ c.args.self.now = search rules in
-    g.met.P.BoardProtocol.may_stand _ _ (subst (λ (d : Doing _). StandsFor g.T.PartialOrder.below g.T.Minimum.least g.T.Ord.cmp c.read-answer.new.self (entry held.number d ∷ held.found)) (sym (g.met.P.BoardProtocol.last_is _))
-    (leaves g.T.PartialOrder.below g.T.Minimum.least g.T.Ord.cmp pass held.state.value held.hub held.number held.found here c.deref_mut.result.now c.read-answer.new.self c.self.inside.number same there.1 c.read-answer.ensures.terms c.read-answer.ensures.stands))
+    let m = c.deref_mut.result.now in
+    let same : m ≡ held.state.value = search rules in
+    let e = entered g.T.PartialOrder.below g.T.Minimum.least g.T.Ord.cmp c.self.inside.pass _ k _ _ _ c.self.invariant c.self.view_is held c.enter-tenure.ensures.found held.state.value (g.met.P.BoardProtocol.stands_for held.state held.found c.enter-tenure.ensures.stands) in
+    g.met.P.BoardProtocol.may_stand _ _ (subst (λ (d : Doing _). StandsFor g.T.PartialOrder.below g.T.Minimum.least g.T.Ord.cmp c.read-rows.new.self (entry held.number d ∷ held.found)) (sym (g.met.P.BoardProtocol.last_is _))
+    (leaves g.T.PartialOrder.below g.T.Minimum.least g.T.Ord.cmp k held.state.value held.hub held.number held.found e.within m c.read-rows.new.self c.self.inside.number same e.own_number c.read-rows.ensures.terms c.read-rows.ensures.stands))
 
 pub invariant_of-self : goal.invariant_of-self
 invariant_of-self g c =
-    let pass = c.in-Some.pass in
-    let there = is_some_at c.self.inside.pass _ c.self.invariant pass (search rules) in
-    let t = c.enter-tenure.ensures.found in
+    let k = c.args.self.now in
     let held = c.enter-tenure.result in
-    let here : IsIn g.T.PartialOrder.below g.T.Minimum.least g.T.Ord.cmp pass held.state.value held.hub held.number held.found = record { actor = there.2; its_hub = t.0.0; its_number = t.0.1; agrees = t.0.2; stands = g.met.P.BoardProtocol.stands_for held.state held.found t.1 } in
-    let same : c.deref_mut.result.now ≡ held.state.value = search rules in
-    let self_is : pass ≡ c.args.self.now = search rules in
-    let after = after_tenure g.T.PartialOrder.below g.T.Minimum.least g.T.Ord.cmp pass held.state.value held.hub held.number held.found here c.deref_mut.result.now c.read-answer.new.self c.self.inside.number same there.1 c.read-answer.ensures.terms c.read-answer.ensures.stands c.leave.result (c.leave.ensures ∙ ap (λ (d : Doing _). record { hub = held.hub; number = held.number; seen = entry held.number d ∷ held.found }) (g.met.P.BoardProtocol.last_is _)) in
-    (after.same_hub ∙ there.0, after.same_number ∙ there.1, after.actor, λ n e. after.counted n (sym (c.accepted-self-inside.ensures ∙ search rules) ∙ e))
+    let m = c.deref_mut.result.now in
+    let same : m ≡ held.state.value = search rules in
+    let e = entered g.T.PartialOrder.below g.T.Minimum.least g.T.Ord.cmp c.self.inside.pass _ k _ _ _ c.self.invariant c.self.view_is held c.enter-tenure.ensures.found held.state.value (g.met.P.BoardProtocol.stands_for held.state held.found c.enter-tenure.ensures.stands) in
+    let after = after_tenure g.T.PartialOrder.below g.T.Minimum.least g.T.Ord.cmp k held.state.value held.hub held.number held.found e.within m c.read-rows.new.self c.self.inside.number same e.own_number c.read-rows.ensures.terms c.read-rows.ensures.stands c.leave.result (c.leave.ensures ∙ ap (λ (d : Doing _). record { hub = held.hub; number = held.number; seen = entry held.number d ∷ held.found }) (g.met.P.BoardProtocol.last_is _)) in
+    (after.same_hub ∙ e.same_hub, after.same_number ∙ e.own_number, after.actor, λ n x. after.counted n (sym (c.accepted-self-inside.ensures ∙ search rules) ∙ x))
 
-pub returns-clause-looked : goal.returns-clause-looked
-returns-clause-looked g c =
-    let pass = c.in-Some.pass in
-    let there = is_some_at c.self.inside.pass _ c.self.invariant pass (search rules) in
-    let t = c.enter-tenure.ensures.found in
+pub returns : goal.returns
+returns g c =
+    let k = c.args.self.now in
     let held = c.enter-tenure.result in
-    let here : IsIn g.T.PartialOrder.below g.T.Minimum.least g.T.Ord.cmp pass held.state.value held.hub held.number held.found = record { actor = there.2; its_hub = t.0.0; its_number = t.0.1; agrees = t.0.2; stands = g.met.P.BoardProtocol.stands_for held.state held.found t.1 } in
-    let same : c.deref_mut.result.now ≡ held.state.value = search rules in
-    let self_is : pass ≡ c.args.self.now = search rules in
-    let after = after_tenure g.T.PartialOrder.below g.T.Minimum.least g.T.Ord.cmp pass held.state.value held.hub held.number held.found here c.deref_mut.result.now c.read-answer.new.self c.self.inside.number same there.1 c.read-answer.ensures.terms c.read-answer.ensures.stands c.leave.result (c.leave.ensures ∙ ap (λ (d : Doing _). record { hub = held.hub; number = held.number; seen = entry held.number d ∷ held.found }) (g.met.P.BoardProtocol.last_is _)) in
-    subst (λ (k : Known (Doing g.row.T.Denot)). Adds k (Look k.number) c.leave.result) self_is (subst (λ (e : Event g.row.T.Denot). Adds pass e c.leave.result) (c.read-answer.ensures.looked ∙ ap (λ n. Look n) (sym there.1)) after.adds)
-
-pub returns-clause-accepted : goal.returns-clause-accepted
-returns-clause-accepted g c =
-    let pass = c.in-Some.pass in
-    let there = is_some_at c.self.inside.pass _ c.self.invariant pass (search rules) in
-    let t = c.enter-tenure.ensures.found in
-    let held = c.enter-tenure.result in
-    let here : IsIn g.T.PartialOrder.below g.T.Minimum.least g.T.Ord.cmp pass held.state.value held.hub held.number held.found = record { actor = there.2; its_hub = t.0.0; its_number = t.0.1; agrees = t.0.2; stands = g.met.P.BoardProtocol.stands_for held.state held.found t.1 } in
-    let same : c.deref_mut.result.now ≡ held.state.value = search rules in
-    let self_is : pass ≡ c.args.self.now = search rules in
-    let after = after_tenure g.T.PartialOrder.below g.T.Minimum.least g.T.Ord.cmp pass held.state.value held.hub held.number held.found here c.deref_mut.result.now c.read-answer.new.self c.self.inside.number same there.1 c.read-answer.ensures.terms c.read-answer.ensures.stands c.leave.result (c.leave.ensures ∙ ap (λ (d : Doing _). record { hub = held.hub; number = held.number; seen = entry held.number d ∷ held.found }) (g.met.P.BoardProtocol.last_is _)) in
-    subst (λ (k : Known (Doing g.row.T.Denot)). (λ (p : Dataflow) (w : State g.row.T.Denot). OnOk c.read-answer.result (read_refusal_in g.T.PartialOrder.below p w c.args.view c.args.t ≡ None)) (terms_in k.seen).dataflow (state_found g.T.PartialOrder.below g.T.Minimum.least c.leave.result)) self_is
-    (of_found g.T.PartialOrder.below g.T.Minimum.least g.T.Ord.cmp pass held.state.value held.hub held.number held.found here (λ (p : Dataflow) (w : State g.row.T.Denot). OnOk c.read-answer.result (read_refusal_in g.T.PartialOrder.below p w c.args.view c.args.t ≡ None)) c.deref_mut.result.now same c.read-answer.ensures.accepted c.leave.result after)
-
-pub returns-clause-refused : goal.returns-clause-refused
-returns-clause-refused g c =
-    let pass = c.in-Some.pass in
-    let there = is_some_at c.self.inside.pass _ c.self.invariant pass (search rules) in
-    let t = c.enter-tenure.ensures.found in
-    let held = c.enter-tenure.result in
-    let here : IsIn g.T.PartialOrder.below g.T.Minimum.least g.T.Ord.cmp pass held.state.value held.hub held.number held.found = record { actor = there.2; its_hub = t.0.0; its_number = t.0.1; agrees = t.0.2; stands = g.met.P.BoardProtocol.stands_for held.state held.found t.1 } in
-    let same : c.deref_mut.result.now ≡ held.state.value = search rules in
-    let self_is : pass ≡ c.args.self.now = search rules in
-    let after = after_tenure g.T.PartialOrder.below g.T.Minimum.least g.T.Ord.cmp pass held.state.value held.hub held.number held.found here c.deref_mut.result.now c.read-answer.new.self c.self.inside.number same there.1 c.read-answer.ensures.terms c.read-answer.ensures.stands c.leave.result (c.leave.ensures ∙ ap (λ (d : Doing _). record { hub = held.hub; number = held.number; seen = entry held.number d ∷ held.found }) (g.met.P.BoardProtocol.last_is _)) in
-    subst (λ (k : Known (Doing g.row.T.Denot)). (λ (p : Dataflow) (w : State g.row.T.Denot). IfErr c.read-answer.result (IsReadRefusalIn g.T.PartialOrder.below p w c.args.view c.args.t)) (terms_in k.seen).dataflow (state_found g.T.PartialOrder.below g.T.Minimum.least c.leave.result)) self_is
-    (of_found g.T.PartialOrder.below g.T.Minimum.least g.T.Ord.cmp pass held.state.value held.hub held.number held.found here (λ (p : Dataflow) (w : State g.row.T.Denot). IfErr c.read-answer.result (IsReadRefusalIn g.T.PartialOrder.below p w c.args.view c.args.t)) c.deref_mut.result.now same c.read-answer.ensures.refused c.leave.result after)
-
-pub returns-clause-query : goal.returns-clause-query
-returns-clause-query g c =
-    let pass = c.in-Some.pass in
-    let there = is_some_at c.self.inside.pass _ c.self.invariant pass (search rules) in
-    let t = c.enter-tenure.ensures.found in
-    let held = c.enter-tenure.result in
-    let here : IsIn g.T.PartialOrder.below g.T.Minimum.least g.T.Ord.cmp pass held.state.value held.hub held.number held.found = record { actor = there.2; its_hub = t.0.0; its_number = t.0.1; agrees = t.0.2; stands = g.met.P.BoardProtocol.stands_for held.state held.found t.1 } in
-    let same : c.deref_mut.result.now ≡ held.state.value = search rules in
-    let self_is : pass ≡ c.args.self.now = search rules in
-    let after = after_tenure g.T.PartialOrder.below g.T.Minimum.least g.T.Ord.cmp pass held.state.value held.hub held.number held.found here c.deref_mut.result.now c.read-answer.new.self c.self.inside.number same there.1 c.read-answer.ensures.terms c.read-answer.ensures.stands c.leave.result (c.leave.ensures ∙ ap (λ (d : Doing _). record { hub = held.hub; number = held.number; seen = entry held.number d ∷ held.found }) (g.met.P.BoardProtocol.last_is _)) in
-    subst (λ (k : Known (Doing g.row.T.Denot)). (λ (p : Dataflow) (w : State g.row.T.Denot). IfOk c.read-answer.result (λ bag. Alike bag (query_at g.T.PartialOrder.below p.nodes (changes_in w) c.args.view c.args.t))) (terms_in k.seen).dataflow (state_found g.T.PartialOrder.below g.T.Minimum.least c.leave.result)) self_is
-    (of_found g.T.PartialOrder.below g.T.Minimum.least g.T.Ord.cmp pass held.state.value held.hub held.number held.found here (λ (p : Dataflow) (w : State g.row.T.Denot). IfOk c.read-answer.result (λ bag. Alike bag (query_at g.T.PartialOrder.below p.nodes (changes_in w) c.args.view c.args.t))) c.deref_mut.result.now same c.read-answer.ensures.query c.leave.result after)
+    let m = c.deref_mut.result.now in
+    let same : m ≡ held.state.value = search rules in
+    let e = entered g.T.PartialOrder.below g.T.Minimum.least g.T.Ord.cmp c.self.inside.pass _ k _ _ _ c.self.invariant c.self.view_is held c.enter-tenure.ensures.found held.state.value (g.met.P.BoardProtocol.stands_for held.state held.found c.enter-tenure.ensures.stands) in
+    let after = after_tenure g.T.PartialOrder.below g.T.Minimum.least g.T.Ord.cmp k held.state.value held.hub held.number held.found e.within m c.read-rows.new.self c.self.inside.number same e.own_number c.read-rows.ensures.terms c.read-rows.ensures.stands c.leave.result (c.leave.ensures ∙ ap (λ (d : Doing _). record { hub = held.hub; number = held.number; seen = entry held.number d ∷ held.found }) (g.met.P.BoardProtocol.last_is _)) in
+    answered_in_turn k c.leave.result _ _ c.read-rows.result (subst (λ (x : Event g.row.T.Denot). Adds k x c.leave.result) (c.read-rows.ensures.looked ∙ ap (λ n. Look n) (sym e.own_number)) after.adds)
+    (read_of g.T.PartialOrder.below g.T.Minimum.least k c.leave.result c.args.view c.args.t c.read-rows.result
+    (of_found g.T.PartialOrder.below g.T.Minimum.least g.T.Ord.cmp k held.state.value held.hub held.number held.found e.within (λ (p : Dataflow) (w : State g.row.T.Denot). OnOk c.read-rows.result (read_refusal_in g.T.PartialOrder.below p w c.args.view c.args.t ≡ None)) m same c.read-rows.ensures.accepted c.leave.result after)
+    c.read-rows.ensures.bag
+    (of_found g.T.PartialOrder.below g.T.Minimum.least g.T.Ord.cmp k held.state.value held.hub held.number held.found e.within (λ (p : Dataflow) (w : State g.row.T.Denot). IfOk c.read-rows.result (λ bag. Alike bag (query_at g.T.PartialOrder.below p.nodes (changes_in w) c.args.view c.args.t))) m same c.read-rows.ensures.query c.leave.result after))
+    (of_found g.T.PartialOrder.below g.T.Minimum.least g.T.Ord.cmp k held.state.value held.hub held.number held.found e.within (λ (p : Dataflow) (w : State g.row.T.Denot). IfErr c.read-rows.result (IsReadRefusalIn g.T.PartialOrder.below p w c.args.view c.args.t)) m same c.read-rows.ensures.refused c.leave.result after)

@@ -69,8 +69,8 @@ returns g c =
     let same : m ≡ held.state.value = search rules in
     let e = entered g.T.PartialOrder.below g.T.Minimum.least g.T.Ord.cmp c.self.inside.pass _ k _ _ _ c.self.invariant c.self.view_is held c.in_ok-tenure.ensures.found held.state.value (g.met.P.BoardProtocol.stands_for held.state held.found c.in_ok-tenure.ensures.stands) in
     let after = after_tenure g.T.PartialOrder.below g.T.Minimum.least g.T.Ord.cmp k held.state.value held.hub held.number held.found e.within m c.advance-told.new.self c.self.inside.number same e.own_number c.advance-told.ensures.terms c.advance-told.ensures.stands c.leave.result (c.leave.ensures ∙ ap (λ (d : Doing _). record { hub = held.hub; number = held.number; seen = entry held.number d ∷ held.found }) (g.met.P.BoardProtocol.last_is _)) in
-    done k c.leave.result (Advance k.number c.args.input c.args.times) _ _ c.advance-told.result
-    (on_ok_weaker c.advance-told.result (λ x. subst (λ (x : Event g.row.T.Denot). Adds k x c.leave.result) (x ∙ ap (λ n. Advance n c.args.input c.args.times) (sym e.own_number)) after.adds) c.advance-told.ensures.advanced)
+    done k c.leave.result (Advance k.number c.args.input c.args.times.now) _ _ c.advance-told.result
+    (on_ok_weaker c.advance-told.result (λ x. subst (λ (x : Event g.row.T.Denot). Adds k x c.leave.result) (x ∙ ap (λ n. Advance n c.args.input c.args.times.now) (sym e.own_number)) after.adds) c.advance-told.ensures.advanced)
     (on_err_weaker c.advance-told.result (λ x. subst (λ (x : Event g.row.T.Denot). Adds k x c.leave.result) (x ∙ ap (λ n. Look n) (sym e.own_number)) after.adds) c.advance-told.ensures.unchanged)
-    (of_found g.T.PartialOrder.below g.T.Minimum.least g.T.Ord.cmp k held.state.value held.hub held.number held.found e.within (λ (p : Dataflow) (w : State g.row.T.Denot). OnOk c.advance-told.result (advance_refusal_in g.T.PartialOrder.below w c.args.input c.args.times ≡ None)) m same c.advance-told.ensures.accepted c.leave.result after)
-    (of_found g.T.PartialOrder.below g.T.Minimum.least g.T.Ord.cmp k held.state.value held.hub held.number held.found e.within (λ (p : Dataflow) (w : State g.row.T.Denot). IfErr c.advance-told.result (IsRefusalBy (advance_refusal_in g.T.PartialOrder.below w c.args.input c.args.times))) m same c.advance-told.ensures.refused c.leave.result after)
+    (of_found g.T.PartialOrder.below g.T.Minimum.least g.T.Ord.cmp k held.state.value held.hub held.number held.found e.within (λ (p : Dataflow) (w : State g.row.T.Denot). OnOk c.advance-told.result (advance_refusal_in g.T.PartialOrder.below w c.args.input c.args.times.now ≡ None)) m same c.advance-told.ensures.accepted c.leave.result after)
+    (of_found g.T.PartialOrder.below g.T.Minimum.least g.T.Ord.cmp k held.state.value held.hub held.number held.found e.within (λ (p : Dataflow) (w : State g.row.T.Denot). IfErr c.advance-told.result (IsRefusalBy (advance_refusal_in g.T.PartialOrder.below w c.args.input c.args.times.now))) m same c.advance-told.ensures.refused c.leave.result after)

@@ -1,7 +1,8 @@
-use Rattle.std.proofs.Common.{◌∷◌, rules, ◌≡◌, ◌<◌, ◌≤◌, sym, subst, ap, ◌∙◌, length, None, Some, IsTrue}
+use Rattle.std.proofs.Common.{◌∷◌, rules, ◌≡◌, ◌<◌, ◌≤◌, sym, subst, ap, ◌∙◌, length, None, IsTrue}
 use Rattle.std.specs.Prelude.{IfErr, OnOk}
 use Rattle.std.proofs.lemmas.Result.{on_ok_weaker, on_err_weaker}
 use Rattle.hub.specs.Histories.{entry}
+use Rattle.update.specs.Refusals.{IsRefusalBy}
 use Rattle.plan.specs.Nodes.{is_output}
 use Rattle.histories.specs.declared.event.Event.{Event}
 use Rattle.histories.specs.declared.event.Event.TheVariants.{Allow, Look}
@@ -77,8 +78,8 @@ returns g c =
     let same : m ≡ held.state.value = search rules in
     let e = entered g.T.PartialOrder.below g.T.Minimum.least g.T.Ord.cmp c.self.inside.pass _ k _ _ _ c.self.invariant c.self.view_is held c.in_ok-tenure.ensures.found held.state.value (g.met.P.BoardProtocol.stands_for held.state held.found c.in_ok-tenure.ensures.stands) in
     let after = after_tenure g.T.PartialOrder.below g.T.Minimum.least g.T.Ord.cmp k held.state.value held.hub held.number held.found e.within m c.allow-told.new.self c.self.inside.number same e.own_number c.allow-told.ensures.terms c.allow-told.ensures.stands c.leave.result (c.leave.ensures ∙ ap (λ (d : Doing _). record { hub = held.hub; number = held.number; seen = entry held.number d ∷ held.found }) (g.met.P.BoardProtocol.last_is _)) in
-    done k c.leave.result (Allow k.number c.args.view c.args.times) _ _ c.allow-told.result
-    (on_ok_weaker c.allow-told.result (λ x. subst (λ (x : Event g.row.T.Denot). Adds k x c.leave.result) (x ∙ ap (λ n. Allow n c.args.view c.args.times) (sym e.own_number)) after.adds) c.allow-told.ensures.allowed)
+    done k c.leave.result (Allow k.number c.args.view c.args.times.now) _ _ c.allow-told.result
+    (on_ok_weaker c.allow-told.result (λ x. subst (λ (x : Event g.row.T.Denot). Adds k x c.leave.result) (x ∙ ap (λ n. Allow n c.args.view c.args.times.now) (sym e.own_number)) after.adds) c.allow-told.ensures.allowed)
     (on_err_weaker c.allow-told.result (λ x. subst (λ (x : Event g.row.T.Denot). Adds k x c.leave.result) (x ∙ ap (λ n. Look n) (sym e.own_number)) after.adds) c.allow-told.ensures.unchanged)
-    (of_found g.T.PartialOrder.below g.T.Minimum.least g.T.Ord.cmp k held.state.value held.hub held.number held.found e.within (λ (p : Dataflow) (w : State g.row.T.Denot). OnOk c.allow-told.result (allow_refusal_in g.T.PartialOrder.below w c.args.view c.args.times ≡ None)) m same c.allow-told.ensures.accepted c.leave.result after)
-    (of_found g.T.PartialOrder.below g.T.Minimum.least g.T.Ord.cmp k held.state.value held.hub held.number held.found e.within (λ (p : Dataflow) (w : State g.row.T.Denot). IfErr c.allow-told.result (λ refusal. allow_refusal_in g.T.PartialOrder.below w c.args.view c.args.times ≡ Some refusal)) m same c.allow-told.ensures.refused c.leave.result after)
+    (of_found g.T.PartialOrder.below g.T.Minimum.least g.T.Ord.cmp k held.state.value held.hub held.number held.found e.within (λ (p : Dataflow) (w : State g.row.T.Denot). OnOk c.allow-told.result (allow_refusal_in g.T.PartialOrder.below w c.args.view c.args.times.now ≡ None)) m same c.allow-told.ensures.accepted c.leave.result after)
+    (of_found g.T.PartialOrder.below g.T.Minimum.least g.T.Ord.cmp k held.state.value held.hub held.number held.found e.within (λ (p : Dataflow) (w : State g.row.T.Denot). IfErr c.allow-told.result (IsRefusalBy (allow_refusal_in g.T.PartialOrder.below w c.args.view c.args.times.now))) m same c.allow-told.ensures.refused c.leave.result after)

@@ -15,5 +15,5 @@ returns-clause-stands g c =
     let old : SharedState g.row.T.Denot = record { board = c.self.inside.board; actors = c.self.inside.actors; accepted = c.self.inside.accepted; too_large = c.self.inside.too_large } in
     let new : SharedState g.row.T.Denot = record old { board = c.advance.new.self } in
     subst (λ (b : SharedState g.row.T.Denot). (es : List (Entry (Doing g.row.T.Denot))) → StandsFor below least cmp b es → StandsFor below least cmp new (entry client (doing (terms_of_board b) c.advance.new.self.last) ∷ es)) c.self.view_is
-    (advanced below least cmp old c.advance.new.self client c.args.input c.args.times c.advance.result (subst (λ (b : SharedState g.row.T.Denot). client < b.actors) (sym c.self.view_is) c.requires.actor)
+    (advanced below least cmp old c.advance.new.self client c.args.input c.args.times.now c.advance.result (subst (λ (b : SharedState g.row.T.Denot). client < b.actors) (sym c.self.view_is) c.requires.actor)
     c.advance.ensures.advanced c.advance.ensures.unchanged c.advance.ensures.stands)

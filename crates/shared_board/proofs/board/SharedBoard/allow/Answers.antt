@@ -15,5 +15,5 @@ returns-clause-stands g c =
     let old : SharedState g.row.T.Denot = record { board = c.self.inside.board; actors = c.self.inside.actors; accepted = c.self.inside.accepted; too_large = c.self.inside.too_large } in
     let new : SharedState g.row.T.Denot = record old { board = c.allow.new.self } in
     subst (λ (b : SharedState g.row.T.Denot). (es : List (Entry (Doing g.row.T.Denot))) → StandsFor below least cmp b es → StandsFor below least cmp new (entry client (doing (terms_of_board b) c.allow.new.self.last) ∷ es)) c.self.view_is
-    (allowed below least cmp old c.allow.new.self client c.args.view c.args.times c.allow.result (subst (λ (b : SharedState g.row.T.Denot). client < b.actors) (sym c.self.view_is) c.requires.actor)
+    (allowed below least cmp old c.allow.new.self client c.args.view c.args.times.now c.allow.result (subst (λ (b : SharedState g.row.T.Denot). client < b.actors) (sym c.self.view_is) c.requires.actor)
     c.allow.ensures.allowed c.allow.ensures.unchanged c.allow.ensures.stands)
