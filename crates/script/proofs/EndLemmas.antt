@@ -22,7 +22,7 @@ use Rattle.histories.specs.Histories.States.{fed_to}
 use Rattle.script.specs.Ends.{IsTextBefore}
 use Rattle.script.specs.Engines.{EndsRun, IsEnd, IsRunEnd}
 use Rattle.script.specs.Sessions.{view_frontier}
-use Rattle.script.specs.Text.{BitemporalSession, HoldsAlong, command_refusal}
+use Rattle.script.specs.Text.{BitemporalSession, HoldsAlong, command_refusal, frontier_made}
 use Rattle.lattice.specs.Bitimes.{bitime_below}
 use Rattle.script.specs.Bounds.{IsLarge, IsLargeAlong, EndsByBound}
 use Rattle.script.specs.declared.fault.RunFault.{RunFault}
@@ -72,9 +72,9 @@ first_goes_on ((false, name) ∷ faults) all refusal e ends = first_goes_on faul
 pub session_goes_on : (p : List Node) (s : BitemporalSession) (command : Command) (refusal : Refusal) → command_refusal p s command ≡ Some refusal → EndsRun refusal → ⊥
 session_goes_on p s (command.Input (Change input time diff row)) refusal e ends =
     first_goes_on (feed_faults bitime_below p (front_at input s.inputs) (length (fed_to input s.fed)) (record { input = input; update = record { time = time; row = row; diff = diff } })) refl refusal e ends
-session_goes_on p s (command.Input (Advance input times)) refusal e ends = first_goes_on (advance_faults bitime_below (front_at input s.inputs) times) refl refusal e ends
+session_goes_on p s (command.Input (Advance input times)) refusal e ends = first_goes_on (advance_faults bitime_below (front_at input s.inputs) (frontier_made times)) refl refusal e ends
 session_goes_on p s (command.Input (Close input)) refusal e ends = absurd cc
-session_goes_on p s (command.Allow view times) refusal e ends = first_goes_on (advance_faults bitime_below (s.since view) times) refl refusal e ends
+session_goes_on p s (command.Allow view times) refusal e ends = first_goes_on (advance_faults bitime_below (s.since view) (frontier_made times)) refl refusal e ends
 session_goes_on p s (command.View (Read view time)) refusal e ends =
     first_goes_on ((is_beyond bitime_below (view_frontier bitime_below p s view) time, NotPassed) ∷ (not (is_beyond bitime_below (s.since view) time), GivenUp) ∷ []) refl refusal e ends
 session_goes_on p s (command.View (Changes view)) refusal e ends = first_goes_on ((not (is_from_start bitime_below (make_pair 0 0) (s.since view)), GivenUp) ∷ []) refl refusal e ends

@@ -2,6 +2,7 @@ pub mod BagLemmas
 pub mod OutLemmas
 pub mod PrinterLemmas
 pub mod TextLemmas
+pub mod TurnLemmas
 pub mod StandingLemmas
 pub mod ReadLemmas
 pub mod OrderLemmas

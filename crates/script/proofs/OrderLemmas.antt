@@ -7,7 +7,9 @@ use Rattle.std.specs.List.Sorted.{IsStrictlySortedBy}
 use Rattle.std.specs.Ordering.{match_ordering, ordering_reverse}
 use Rattle.std.specs.declared.cmp.Ordering.{Ordering}
 use Rattle.std.specs.declared.cmp.Ordering.TheVariants.{Less, Equal, Greater}
-use Rattle.antichain.proofs.Lists.{Among}
+use Rattle.antichain.specs.Antichains.{SameElements}
+use Rattle.antichain.proofs.AntichainLemmas.{sorted_same}
+use Rattle.antichain.proofs.Lists.{Among, among_contains, contains_among}
 use Rattle.script.specs.Orders.{in_order}
 
 all_more : {X : Type 0} (P Q : X → Type 0) → ((x : X) → P x → Q x) → (xs : List X) → AllByRecursion P xs → AllByRecursion Q xs
@@ -84,3 +86,10 @@ module _ {T : Type 0} (cmp : T → T → Ordering) where
   pub in_order-only : (ts : List T) (s : T) → Among s (in_order cmp ts) → Among s ts
   in_order-only [] s h = h
   in_order-only (t ∷ ts) s h = ⊎_elim (λ e. inl e) (λ k. inr (in_order-only ts s k)) (insert_only t s (in_order cmp ts) h)
+
+  -- a frontier with the elements of these times is the times in order
+  pub frontier_in_order : (total : IsTotalOrder cmp) → ((s t : T) → cmp s t ≡ Equal → s ≡ t) → (F ts : List T) → IsStrictlySortedBy cmp F → SameElements F ts → F ≡ in_order cmp ts
+  frontier_in_order total exact F ts ascending same =
+      sorted_same total F (in_order cmp ts) ascending (in_order-sorted total ts)
+      (λ t h. in_order-has exact ts t (among_contains t ts (same.into t (contains_among t F h))))
+      (λ t h. among_contains t F (same.back t (contains_among t ts (in_order-only ts t h))))

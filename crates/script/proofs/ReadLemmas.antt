@@ -8,8 +8,6 @@ use Rattle.std.specs.declared.cmp.Ordering.TheVariants.{Equal}
 use Rattle.lattice.specs.Frontiers.{is_beyond}
 use Rattle.lattice.specs.Order.{PartialOrderLaws, LatticeLaws, ExtendsLaws}
 use Rattle.antichain.specs.Antichains.{SameElements, IsFrontier, least}
-use Rattle.antichain.proofs.AntichainLemmas.{sorted_same}
-use Rattle.antichain.proofs.Lists.{among_contains, contains_among}
 use Rattle.update.specs.Bags.{Entry, Alike, IsBag, HasLargeCount, count_of}
 use Rattle.update.specs.declared.change.Update.{Update}
 use Rattle.update.specs.declared.refusal.Refusal.{Refusal}
@@ -30,13 +28,12 @@ use Rattle.histories.proofs.HistoryLemmas.QuietLemmas.{beyond_elements}
 use Rattle.shared_board.specs.Tenures.{HasLargeListed, read_refusal_in, changes_refusal_in}
 use Rattle.script.specs.Bags.{consolidated_bag}
 use Rattle.script.specs.Engines.{IsFound}
-use Rattle.script.specs.Orders.{in_order}
 use Rattle.script.specs.Sessions.{Session, view_frontier, read_refusal, changes_refusal, rows_at, frontier_at, changes_at}
 use Rattle.script.specs.Standing.{HasSession}
 use Rattle.script.proofs.BagLemmas.{consolidated_bag-only}
 use Rattle.script.proofs.BoundLemmas.{large_count, large_listed}
 use Rattle.script.proofs.ChangesLemmas.{changes_are, differences_only}
-use Rattle.script.proofs.OrderLemmas.{in_order-sorted, in_order-has, in_order-only}
+use Rattle.script.proofs.OrderLemmas.{frontier_in_order}
 
 -- two tests that are equal refuse alike
 pub refused_alike : (cause Large : Type 0) (own other : Option Refusal) (r : Refusal) → own ≡ other → (cause → Large) → IsRefusalOr cause own r → (other ≡ Some r) ⊎ IsMemoryOrOverflow Large r
@@ -73,10 +70,10 @@ module _ {T : Type 0} (below : T → T → Bool) (minimum : T) (o : PartialOrder
   -- the frontier that was found is the one that the text prints
   pub frontier_found : {cmp : T → T → Ordering} → IsTotalOrder cmp → ((s t : T) → cmp s t ≡ Equal → s ≡ t) → (F : List T) → IsFrontier below cmp F → SameElements F (frontier below p w v) → F ≡ frontier_at below p.nodes s cmp v
   frontier_found {cmp} total exact F is stood =
-      let found = view_frontier below p.nodes s v in
-      sorted_same total F (in_order cmp found) is.ascending (in_order-sorted cmp total found)
-      (λ t h. in_order-has cmp exact found t (among_contains t found (same_frontier.into t (stood.into t (contains_among t F h)))))
-      (λ t h. among_contains t F (stood.back t (same_frontier.back t (contains_among t found (in_order-only cmp found t h)))))
+      frontier_in_order cmp total exact F (view_frontier below p.nodes s v) is.ascending (record {
+        into = λ t h. same_frontier.into t (stood.into t h);
+        back = λ t h. stood.back t (same_frontier.back t h);
+      })
 
   -- the changes that were found are those that the text prints
   pub changes_found : {joined met : T → T → T} {cmp : T → T → Ordering} → LatticeLaws below joined met → ExtendsLaws below cmp → IsTotalOrder cmp → v < length p.nodes → (us : List (Update T)) → AreDifferences below cmp p.nodes (changes_in w) (frontier below p w v) v us

@@ -191,7 +191,7 @@ module _ {T : Type 0} (below : T → T → Bool) (minimum : T) (o : PartialOrder
         (on_ok_weaker r (λ adds. after_advanced old new old.number i ts s within (client_step old new (Advance old.number i ts) number one actor adds) a) done) accepted refused (unchanged looks))
 
     -- a new since is answered as the session says
-    pub since_answered : (v : ℕ) (ts : List T) → OnOk r (Adds old (Allow old.number v ts) new) → OnOk r (allow_refusal_in below (state_found below minimum new) v ts ≡ None) → IfErr r (λ refusal. allow_refusal_in below (state_found below minimum new) v ts ≡ Some refusal)
+    pub since_answered : (v : ℕ) (ts : List T) → OnOk r (Adds old (Allow old.number v ts) new) → OnOk r (allow_refusal_in below (state_found below minimum new) v ts ≡ None) → IfErr r (IsRefusalBy (allow_refusal_in below (state_found below minimum new) v ts))
         → OnErr r (Adds old (Look old.number) new) → IsTold (since_refusal below p.nodes s v ts) (StandsAs below minimum new (with_since v ts s)) (StandsAs below minimum new s) r
     since_answered v ts done accepted refused looks =
         let Accepted = StandsAs below minimum new (with_since v ts s) in
@@ -199,7 +199,7 @@ module _ {T : Type 0} (below : T → T → Bool) (minimum : T) (o : PartialOrder
         let found = some_step (Allow old.number v ts) done looks in
         subst (λ (o : Option Refusal). IsTold o Accepted Stays r) (ap (λ since. first_refusal (advance_faults below since ts)) (found.since v))
         (answered (allow_refusal_in below (state_found below minimum new) v ts) Accepted Stays r
-        (on_ok_weaker r (λ adds. after_allowed old new old.number v ts s (client_step old new (Allow old.number v ts) number one actor adds) a) done) accepted (refused_by (allow_refusal_in below (state_found below minimum new) v ts) r refused) (unchanged looks))
+        (on_ok_weaker r (λ adds. after_allowed old new old.number v ts s (client_step old new (Allow old.number v ts) number one actor adds) a) done) accepted refused (unchanged looks))
 
   -- ---- before the first command
 

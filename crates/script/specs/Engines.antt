@@ -13,8 +13,8 @@ EndsRun refusal = (refusal ≡ OutOfMemory) ⊎ ((refusal ≡ Overflow) ⊎ (ref
 
 -- an answer to a command that changes an input. Ok: nothing refuses the command, and it takes
 -- effect. Err: the answer is the command's refusal, and nothing changes; or memory was refused.
--- Memory may be refused although the command has a fault: a board keeps the list of times that it
--- is given, so the times of an `advance` are copied before the board tests them
+-- Memory may be refused although the command has a fault: the frontier of an `advance` is made of its
+-- times before the engine tests it
 abbrev pub IsTold : Option Refusal → Type 0 → Type 0 → Result (Unit {0}) Refusal → Type 0
 IsTold refusal Accepted Stays (Ok x) = (refusal ≡ None) × Accepted
 IsTold refusal Accepted Stays (Err r) = ((refusal ≡ Some r) × Stays) ⊎ (r ≡ OutOfMemory)

@@ -12,6 +12,8 @@ use Rattle.grammar.specs.declared.command.ViewCommand.{ViewCommand}
 use Rattle.grammar.specs.declared.command.ViewCommand.TheVariants.{Read, Changes, Frontier}
 use Rattle.grammar.specs.declared.command.CommandLine.{CommandLine}
 use Rattle.grammar.specs.ScriptModels.{ScriptModel, name_at}
+use Rattle.antichain.specs.Antichains.{least}
+use Rattle.script.specs.Orders.{in_order}
 use Rattle.script.specs.Printing.{refused_text, rows_text, changes_text, frontier_text}
 use Rattle.script.specs.Sessions.{Session, first_session, with_change, with_frontier, with_since, change_refusal, frontier_refusal, since_refusal, read_refusal, changes_refusal, rows_at, changes_at, frontier_at}
 use Rattle.lattice.specs.Bitimes.{bitime_below, bitime_cmp, bitime_join}
@@ -20,12 +22,17 @@ use Rattle.lattice.specs.Bitimes.{bitime_below, bitime_cmp, bitime_join}
 abbrev pub BitemporalSession : Type 0
 BitemporalSession = Session (Pair ℕ ℕ)
 
+-- the frontier that these times make: the least of them, in order
+abbrev pub frontier_made : List (Pair ℕ ℕ) → List (Pair ℕ ℕ)
+frontier_made times = in_order bitime_cmp (least bitime_below times)
+
 module _ (p : List Node) (s : BitemporalSession) where
   -- the refusal of a command that changes an input
   abbrev pub input_command_refusal : InputCommand → Option Refusal
   input_command_refusal (Change input time diff row) =
       change_refusal bitime_below p s (record { input = input; update = record { time = time; row = row; diff = diff } })
-  input_command_refusal (Advance input times) = frontier_refusal bitime_below p s input times
+  input_command_refusal (Advance input times) =
+      frontier_refusal bitime_below p s input (frontier_made times)
   input_command_refusal (Close input) = None
 
   -- the refusal of a command that asks about a view
@@ -37,14 +44,15 @@ module _ (p : List Node) (s : BitemporalSession) where
   -- the refusal of a command
   abbrev pub command_refusal : Command → Option Refusal
   command_refusal (command.Input change) = input_command_refusal change
-  command_refusal (command.Allow view times) = since_refusal bitime_below p s view times
+  command_refusal (command.Allow view times) =
+      since_refusal bitime_below p s view (frontier_made times)
   command_refusal (command.View question) = view_command_refusal question
 
   -- the session after an accepted command that changes an input
   abbrev pub carry_out : InputCommand → BitemporalSession
   carry_out (Change input time diff row) =
       with_change (record { input = input; update = record { time = time; row = row; diff = diff } }) s
-  carry_out (Advance input times) = with_frontier input times s
+  carry_out (Advance input times) = with_frontier input (frontier_made times) s
   carry_out (Close input) = with_frontier input [] s
 
   -- a refused command leaves the session as it is
@@ -54,14 +62,14 @@ module _ (p : List Node) (s : BitemporalSession) where
 
   -- the same of a command that gives up a part of a view's past
   abbrev pub give_up_unless : Option Refusal → ℕ → List (Pair ℕ ℕ) → BitemporalSession
-  give_up_unless None view times = with_since view times s
-  give_up_unless (Some refusal) view times = s
+  give_up_unless None view frontier = with_since view frontier s
+  give_up_unless (Some refusal) view frontier = s
 
   -- the session after a command; a question leaves it as it is
   abbrev pub after_command : Command → BitemporalSession
   after_command (command.Input change) = carry_out_unless (input_command_refusal change) change
   after_command (command.Allow view times) =
-      give_up_unless (since_refusal bitime_below p s view times) view times
+      give_up_unless (since_refusal bitime_below p s view (frontier_made times)) view (frontier_made times)
   after_command (command.View question) = s
 
 module _ (t : ScriptModel) (s : BitemporalSession) where

@@ -1,19 +1,18 @@
-//! The board engine: a board that one client and one worker reach through a hub, on the caller's
-//! thread. Commands are events of the client. The worker carries on what is in flight only before a
-//! question is answered.
+//! The board engine: a session of one client and one worker, on the caller's thread. Commands are
+//! calls of the client. The worker carries on what is in flight only before a question is answered.
 //!
 //! The engine stands for a session by what its client has seen. The client is the only one who
 //! changes inputs, so whatever others did since its last event, the changes, the inputs' frontiers
 //! and the sinces are as it left them. Once it has found the board quiet, the board stays so until
 //! it acts. So the worker does not occur in what a question's answer rests on.
-ghost use Rattle.std.specs.Prelude.{◌≡◌, ◌++◌, ◌∷◌, ℕ, [], true, Some, IfErr, IfOk, OnOk, length, slice_get};
+ghost use Rattle.std.specs.Prelude.{◌≡◌, ℕ, true, IfErr, IfOk};
 ghost use Rattle.hub.specs.Known.{Known};
 ghost use Rattle.lattice.specs.declared.product.Pair.{Pair};
 ghost use Rattle.shared_board.specs.declared.event.Doing.{Doing};
 ghost use Rattle.update.specs.declared.refusal.Refusal.TheVariants.{OutOfMemory};
 ghost use Rattle.histories.specs.Histories.Readings.{IsQuiet};
 ghost use Rattle.shared_board.specs.Found.{dataflow_of};
-ghost use Rattle.shared_board.specs.Tenures.{IsFirst, state_left, terms_for};
+ghost use Rattle.shared_board.specs.Tenures.{state_left, terms_for};
 ghost use Rattle.script.specs.Standing.{StandsAs};
 ghost use Rattle.script.specs.Text.{BitemporalSession, opening_session};
 ghost use Rattle.lattice.specs.Bitimes.{bitime_below};
@@ -21,23 +20,24 @@ ghost use Rattle.lattice.specs.Pairs.{make_pair};
 ghost use Rattle.script.specs.Bounds.{EndsByBound, IsLarge};
 
 use crate::engine::{CatchUp, Engine};
-use crate::sole_worker::SoleWorker;
+use crate::sole_worker::{BoardWorker, SoleWorker};
 use antichain::Antichain;
-use lattice::{Bitime, Minimum};
+use lattice::Bitime;
 use plan::{NodeId, Plan};
-use shared_board::{Actor, BitemporalBoards, BoardProtocol, open};
+use session::{Client, open};
+use shared_board::BitemporalBoards;
 use std::alloc::Global;
 use std::marker::Model;
 use std::sync::Wait;
-use update::{Bag, Refusal, Times, Update, Updates};
+use update::{Bag, Refusal, Update, Updates};
 
-pub(crate) type BoardActor = Actor<Bitime, BitemporalBoards>;
+type BoardClient = Client<Bitime, BitemporalBoards>;
 
 /// A client and a worker of one board, who take turns. A contract sees what the client has seen.
 #[derive(Drop)]
 pub(crate) struct BoardEngine<'a, R: Wait> {
     runtime: &'a R,
-    client: BoardActor,
+    client: BoardClient,
     worker: SoleWorker<'a, R>,
 }
 
@@ -58,7 +58,7 @@ impl<'a, R: Wait> Model for BoardEngine<'a, R> {
 }
 
 impl<'a, R: Wait> BoardEngine<'a, R> {
-    /// A board on which nothing has happened yet. Refused only with `OutOfMemory`.
+    /// A session in which nothing has happened yet. Refused only with `OutOfMemory`.
     pub(crate) fn open(
         runtime: &'a R,
         alloc: Global,
@@ -69,52 +69,15 @@ impl<'a, R: Wait> BoardEngine<'a, R> {
             StandsAs bitime_below (make_pair 0 0) engine (opening_session plan.now)) }
         ensures refused { IfErr result (λ refusal. refusal ≡ OutOfMemory) }
     {
-        let mut actors: Vec<BoardActor> = Vec::new(alloc);
-        open_into(runtime, alloc, plan, &mut actors)?;
-        BoardEngine::of_actors(runtime, alloc, plan, actors)
-    }
-
-    // The engine of the actors of a new board, the worker first.
-    fn of_actors(
-        runtime: &'a R,
-        alloc: Global,
-        plan: &Plan,
-        mut actors: Vec<BoardActor>,
-    ) -> Result<BoardEngine<'a, R>, Refusal>
-        requires count { length actors.items ≡ 2 }
-        requires each { (k : ℕ) (a : Known (Doing (Pair ℕ ℕ))) → slice_get actors.items k ≡ Some a
-            → IsFirst (terms_for plan.now 1 1) k a }
-        ensures plan { IfOk result (λ engine. (dataflow_of engine).nodes ≡ plan.now) }
-        ensures stands { IfOk result (λ engine.
-            StandsAs bitime_below (make_pair 0 0) engine (opening_session plan.now)) }
-        ensures refused { IfErr result (λ refusal. refusal ≡ OutOfMemory) }
-    {
-        let client = actors.pop().unwrap();
-        let actor = actors.pop().unwrap();
-        BoardEngine::of_pair(runtime, alloc, plan, actor, client)
-    }
-
-    // The engine of a worker and a client that have looked once.
-    fn of_pair(
-        runtime: &'a R,
-        alloc: Global,
-        plan: &Plan,
-        actor: BoardActor,
-        client: BoardActor,
-    ) -> Result<BoardEngine<'a, R>, Refusal>
-        requires worker { IsFirst (terms_for plan.now 1 1) 0 actor }
-        requires client { IsFirst (terms_for plan.now 1 1) 1 client }
-        ensures plan { IfOk result (λ engine. (dataflow_of engine).nodes ≡ plan.now) }
-        ensures stands { IfOk result (λ engine.
-            StandsAs bitime_below (make_pair 0 0) engine (opening_session plan.now)) }
-        ensures refused { IfErr result (λ refusal. refusal ≡ OutOfMemory) }
-    {
-        let worker = SoleWorker::new(runtime, alloc, plan, actor)?;
+        let mut crew: Vec<BoardWorker> = Vec::new(alloc);
+        let mut seats = open(runtime, alloc, plan, 1, 1, &mut crew)?;
+        let client = seats.pop().unwrap();
+        let worker = crew.pop().unwrap();
         client.known();
         Ok(BoardEngine {
             runtime,
             client,
-            worker,
+            worker: SoleWorker::new(runtime, worker),
         })
     }
 
@@ -126,7 +89,7 @@ impl<'a, R: Wait> BoardEngine<'a, R> {
         ensures quiet { result ≡ true → IsQuiet bitime_below (dataflow_of self.new)
             (state_left bitime_below (make_pair 0 0) self.new) }
     {
-        let quiet = self.client.is_quiet(self.runtime);
+        let quiet = self.client.quiet_wait(self.runtime);
         self.client.known();
         quiet
     }
@@ -139,29 +102,10 @@ impl<'a, R: Wait> BoardEngine<'a, R> {
         ensures cause { (s : BitemporalSession) → StandsAs bitime_below (make_pair 0 0) self.old s
             → result ≡ true → IsLarge (dataflow_of self.old).nodes s }
     {
-        let large = self.client.is_too_large(self.runtime);
+        let large = self.client.is_too_large_wait(self.runtime);
         self.client.known();
         large
     }
-}
-
-// Puts the worker and the client of a new board into a list. The borrow checker does not cover a
-// function that answers a list of actors at bitemporal times, for too many generic types lie in a
-// board. It covers one at any times.
-fn open_into<T: Minimum, P: BoardProtocol<T>, R: Wait>(
-    runtime: &R,
-    alloc: Global,
-    plan: &Plan,
-    actors: &mut Vec<Actor<T, P>>,
-) -> Result<(), Refusal>
-    ensures count { OnOk result (length actors.new.items ≡ 2) }
-    ensures each { OnOk result ((k : ℕ) (a : Known (Doing T))
-        → slice_get actors.new.items k ≡ Some a
-        → IsFirst (terms_for plan.now 1 1) k a) }
-    ensures refused { IfErr result (λ refusal. refusal ≡ OutOfMemory) }
-{
-    *actors = open(runtime, alloc, plan, 1, 1)?;
-    Ok(())
 }
 
 impl<'a, R: Wait> Engine for BoardEngine<'a, R> {
@@ -185,35 +129,53 @@ impl<'a, R: Wait> Engine for BoardEngine<'a, R> {
 
     fn change(
         &mut self,
-        _alloc: Global,
+        alloc: Global,
         input: NodeId,
         update: Update<Bitime>,
     ) -> Result<(), Refusal> {
-        let told = self.client.feed(self.runtime, input, update);
+        let columns = update.row.columns();
+        let told = self.client.feed_wait(
+            self.runtime,
+            alloc,
+            input,
+            columns,
+            update.time,
+            update.diff,
+        );
         self.client.known();
         told
     }
 
-    fn advance(&mut self, input: NodeId, times: Times<Bitime>) -> Result<(), Refusal> {
-        let told = self.client.advance(self.runtime, input, times);
+    fn advance(
+        &mut self,
+        _alloc: Global,
+        input: NodeId,
+        frontier: &Antichain<Bitime>,
+    ) -> Result<(), Refusal> {
+        let told = self.client.advance_wait(self.runtime, input, frontier);
         self.client.known();
         told
     }
 
-    fn allow(&mut self, view: NodeId, times: Times<Bitime>) -> Result<(), Refusal> {
-        let told = self.client.allow(self.runtime, view, times);
+    fn allow(
+        &mut self,
+        _alloc: Global,
+        view: NodeId,
+        frontier: &Antichain<Bitime>,
+    ) -> Result<(), Refusal> {
+        let told = self.client.allow_wait(self.runtime, view, frontier);
         self.client.known();
         told
     }
 
     fn read(&mut self, _alloc: Global, view: NodeId, time: Bitime) -> Result<Bag, Refusal> {
-        let rows = self.client.read(self.runtime, view, time);
+        let rows = self.client.read_wait(self.runtime, view, time);
         self.client.known();
         rows
     }
 
     fn changes(&mut self, _alloc: Global, view: NodeId) -> Result<Updates<Bitime>, Refusal> {
-        let changes = self.client.changes(self.runtime, view);
+        let changes = self.client.changes_wait(self.runtime, view);
         self.client.known();
         match changes {
             Ok(changes) => Ok(Updates::from(changes)),
@@ -222,7 +184,7 @@ impl<'a, R: Wait> Engine for BoardEngine<'a, R> {
     }
 
     fn frontier(&mut self, _alloc: Global, view: NodeId) -> Result<Antichain<Bitime>, Refusal> {
-        let frontier = self.client.frontier(self.runtime, view);
+        let frontier = self.client.probe_wait(self.runtime, view);
         self.client.known();
         match frontier {
             Ok(frontier) => {

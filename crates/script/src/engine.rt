@@ -19,7 +19,7 @@ use antichain::Antichain;
 use lattice::Bitime;
 use plan::NodeId;
 use std::alloc::Global;
-use update::{Bag, Refusal, Times, Update, Updates};
+use update::{Bag, Refusal, Update, Updates};
 
 /// Carries out commands on a plan.
 pub(crate) trait Engine {
@@ -48,19 +48,29 @@ pub(crate) trait Engine {
             → TakesChange (plan self.old) s (record { input = input; update = update })
             (stands self.new) result };
 
-    /// Moves the frontier of an input. If there are no times, the input is closed.
-    fn advance(&mut self, input: NodeId, times: Times<Bitime>) -> Result<(), Refusal>
+    /// Moves the frontier of an input. If it has no times, the input is closed.
+    fn advance(
+        &mut self,
+        alloc: Global,
+        input: NodeId,
+        frontier: &Antichain<Bitime>,
+    ) -> Result<(), Refusal>
         requires { IsTrue (is_input_of (plan self.old) input) }
         ensures plan { plan self.new ≡ plan self.old }
         ensures answered { (s : BitemporalSession) → stands self.old s
-            → TakesFrontier (plan self.old) s input times (stands self.new) result };
+            → TakesFrontier (plan self.old) s input frontier.now (stands self.new) result };
 
-    /// Moves the frontier from which a view may be read. There is at least one time.
-    fn allow(&mut self, view: NodeId, times: Times<Bitime>) -> Result<(), Refusal>
+    /// Moves the frontier from which a view may be read.
+    fn allow(
+        &mut self,
+        alloc: Global,
+        view: NodeId,
+        frontier: &Antichain<Bitime>,
+    ) -> Result<(), Refusal>
         requires { IsTrue (is_view_of (plan self.old) view) }
         ensures plan { plan self.new ≡ plan self.old }
         ensures answered { (s : BitemporalSession) → stands self.old s
-            → TakesSince (plan self.old) s view times (stands self.new) result };
+            → TakesSince (plan self.old) s view frontier.now (stands self.new) result };
 
     /// Answers the rows of a view at a time.
     fn read(&mut self, alloc: Global, view: NodeId, time: Bitime) -> Result<Bag, Refusal>

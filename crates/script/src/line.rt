@@ -1,5 +1,6 @@
 //! One line of a script: its command goes to the engine, and the answer is printed.
-ghost use Rattle.std.specs.Prelude.{◌≡◌, [], false, IfErr, IsTrue, OnOk};
+ghost use Rattle.std.specs.Prelude.{◌≡◌, [], false, IfErr, IfOk, IsTrue, OnOk};
+ghost use Rattle.update.specs.declared.refusal.Refusal.TheVariants.{OutOfMemory};
 ghost use Rattle.grammar.specs.Commands.{IsAbout, IsQuestion};
 ghost use Rattle.grammar.specs.declared.command.Command.TheVariants.{Allow, Input, View};
 ghost use Rattle.grammar.specs.ScriptModels.{ScriptModel};
@@ -7,7 +8,7 @@ ghost use Rattle.script.specs.Engines.{EndsRun, IsTold, IsEnd, failures};
 ghost use Rattle.script.specs.Outs.{Wrote, Broke};
 ghost use Rattle.script.specs.Printing.{refused_text};
 ghost use Rattle.script.specs.Answers.{TakesSince};
-ghost use Rattle.script.specs.Text.{BitemporalSession, input_command_refusal, carry_out, after_command, piece};
+ghost use Rattle.script.specs.Text.{BitemporalSession, input_command_refusal, carry_out, after_command, frontier_made, piece};
 ghost use Rattle.script.specs.declared.fault.RunFault.TheVariants.{Refused};
 
 use crate::engine::{CatchUp, Engine};
@@ -15,6 +16,7 @@ use crate::fault::RunFault;
 use crate::output_buffer::OutputBuffer;
 use crate::outputs::Out;
 use crate::printer::{print_changes, print_frontier, print_rows};
+use antichain::Antichain;
 use grammar::{Command, CommandLine, InputCommand, Script, ViewCommand};
 use lattice::Bitime;
 use plan::NodeId;
@@ -60,9 +62,25 @@ fn hand_over<E: Engine>(
                 diff: *diff,
             },
         ),
-        InputCommand::Advance { input, times } => engine.advance(*input, times.copy(alloc)?),
-        InputCommand::Close { input } => engine.advance(*input, Times::from(Vec::new(alloc))),
+        InputCommand::Advance { input, times } => {
+            let frontier = frontier_of(alloc, times)?;
+            engine.advance(alloc, *input, &frontier)
+        }
+        InputCommand::Close { input } => {
+            let closed = Antichain::new(alloc);
+            engine.advance(alloc, *input, &closed)
+        }
     }
+}
+
+// The frontier that the times of a line make: the least of them.
+fn frontier_of(alloc: Global, times: &Times<Bitime>) -> Result<Antichain<Bitime>, Refusal>
+    ensures made { IfOk result (λ frontier. frontier ≡ frontier_made times.now) }
+    ensures refused { IfErr result (λ refusal. refusal ≡ OutOfMemory) }
+{
+    let frontier = Antichain::least_of(alloc, times.as_slice())?;
+    frontier.known();
+    Ok(frontier)
 }
 
 // Hands to the engine from which times on a view may be read.
@@ -75,9 +93,11 @@ fn hand_since<E: Engine>(
     requires about { IsAbout (E.plan engine.old) (Allow view times.now) }
     ensures plan { E.plan engine.new ≡ E.plan engine.old }
     ensures answered { (s : BitemporalSession) → E.stands engine.old s
-        → TakesSince (E.plan engine.old) s view times.now (E.stands engine.new) result }
+        → TakesSince (E.plan engine.old) s view (frontier_made times.now) (E.stands engine.new)
+        result }
 {
-    engine.allow(view, times.copy(alloc)?)
+    let frontier = frontier_of(alloc, times)?;
+    engine.allow(alloc, view, &frontier)
 }
 
 // Ends the run. The whole text of the earlier lines is written first.

@@ -31,7 +31,7 @@ use crate::outputs::Out;
 use crate::run::run;
 use antichain::{Antichain, is_beyond};
 use grammar::Script;
-use lattice::{Bitime, Minimum};
+use lattice::Bitime;
 use machine::InputFrontiers;
 use oracle::{differences, evaluate, inputs_before};
 use plan::{NodeId, Plan};
@@ -260,11 +260,23 @@ impl Engine for OracleEngine {
         self.take_change(input, update)
     }
 
-    fn advance(&mut self, input: NodeId, times: Times<Bitime>) -> Result<(), Refusal> {
+    fn advance(
+        &mut self,
+        alloc: Global,
+        input: NodeId,
+        frontier: &Antichain<Bitime>,
+    ) -> Result<(), Refusal> {
+        let times = Times::from_slice(alloc, frontier.elements())?;
         self.take_frontier(input, times)
     }
 
-    fn allow(&mut self, view: NodeId, times: Times<Bitime>) -> Result<(), Refusal> {
+    fn allow(
+        &mut self,
+        alloc: Global,
+        view: NodeId,
+        frontier: &Antichain<Bitime>,
+    ) -> Result<(), Refusal> {
+        let times = Times::from_slice(alloc, frontier.elements())?;
         self.take_since(view, times)
     }
 

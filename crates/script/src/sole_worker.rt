@@ -10,13 +10,10 @@ ghost use Rattle.lattice.specs.Bitimes.{bitime_below};
 ghost use Rattle.lattice.specs.Pairs.{make_pair};
 ghost use Rattle.update.specs.declared.refusal.Refusal.{Refusal};
 ghost use Rattle.update.specs.declared.refusal.Refusal.TheVariants.{OutOfMemory};
-ghost use Rattle.shared_board.specs.Tenures.{IsFirst, terms_for};
 ghost use Rattle.script.specs.Employment.{HasNothingToDo, HasPaused};
 ghost use Rattle.script.specs.declared.sole_worker.Work.TheVariants.{Stopped};
 
-use crate::board_engine::BoardActor;
 use lattice::Bitime;
-use plan::Plan;
 use shared_board::BitemporalBoards;
 use std::alloc::Global;
 use std::marker::Model;
@@ -25,7 +22,7 @@ use std::sync::Wait;
 use steps::{Step, Worker};
 use update::Refusal;
 
-type BoardWorker = Worker<Bitime, BitemporalBoards>;
+pub(crate) type BoardWorker = Worker<Bitime, BitemporalBoards>;
 
 /// The only worker of a board. A contract sees the worker, or what stopped it.
 #[derive(Drop)]
@@ -50,22 +47,12 @@ impl<'a, R: Wait> Model for SoleWorker<'a, R> {
 }
 
 impl<'a, R: Wait> SoleWorker<'a, R> {
-    /// A worker that has made no step, from an actor that has looked once. Refused only with
-    /// `OutOfMemory`.
-    pub(crate) fn new(
-        runtime: &'a R,
-        alloc: Global,
-        plan: &Plan,
-        actor: BoardActor,
-    ) -> Result<SoleWorker<'a, R>, Refusal>
-        requires first { IsFirst (terms_for plan.now 1 1) 0 actor }
-        ensures refused { IfErr result (λ refusal. refusal ≡ OutOfMemory) }
-    {
-        let worker = Worker::new(alloc, actor, plan, 1, 0)?;
-        Ok(SoleWorker {
+    /// A worker who goes on.
+    pub(crate) fn new(runtime: &'a R, worker: BoardWorker) -> SoleWorker<'a, R> {
+        SoleWorker {
             runtime,
             work: Work::Runs(worker),
-        })
+        }
     }
 
     /// Steps until there is no piece, and tidies. What is too large the worker tells, and then the

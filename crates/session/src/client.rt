@@ -11,7 +11,7 @@ ghost use Rattle.histories.specs.Histories.{IsInput};
 ghost use Rattle.histories.specs.Histories.Dataflows.{node_of};
 ghost use Rattle.shared_board.specs.Calls.{AreListed, IsAnswered, IsDone};
 ghost use Rattle.shared_board.specs.Found.{IsChangesRefusalFound, dataflow_of};
-ghost use Rattle.shared_board.specs.Tenures.{terms_in};
+ghost use Rattle.shared_board.specs.Tenures.{IsActor, terms_in};
 ghost use Rattle.session.specs.Clients.{HasAskedLarge, HasAskedQuiet, HasRead, IsAdvanced, IsClosed, IsFed, IsGivenUp, IsProbed, row_fed};
 
 mod waiting;
@@ -52,6 +52,13 @@ impl<T: Minimum, P: BoardProtocol<T>> Client<T, P> {
         ensures { result ≡ actor }
     {
         Client { actor }
+    }
+
+    /// Costs nothing. It tells the prover what holds of each client.
+    pub fn known(&self)
+        ensures { IsActor T.below T.least self.now }
+    {
+        self.actor.known();
     }
 
     /// Changes an input's table: a row of these columns, in order, comes so many times more from

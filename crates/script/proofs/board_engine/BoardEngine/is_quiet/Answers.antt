@@ -17,6 +17,6 @@ returns-clause-stands g c s =
     let k = c.self.inside.client in
     let number = c.self.invariant.0 ∙ sym (ap (λ (t : Terms). t.dataflow.workers) c.self.invariant.1) in
     let one = ap (λ (t : Terms). t.actors) c.self.invariant.1 ∙ sym (ap (λ (t : Terms). suc t.dataflow.workers) c.self.invariant.1) in
-    let new = c.is_quiet-quiet.new.self in
+    let new = c.quiet_wait-quiet.new.self in
     subst (λ (e : Known (Doing (Pair ℕ ℕ))). StandsAs bitime_below (make_pair 0 0) e s → StandsAs bitime_below (make_pair 0 0) new s) c.self.view_is
-    (λ a. after_looked bitime_below (make_pair 0 0) o k new k.number s (client_step bitime_below (make_pair 0 0) o k new (Look k.number) number one c.known.ensures c.is_quiet-quiet.ensures.looked) a)
+    (λ a. after_looked bitime_below (make_pair 0 0) o k new k.number s (client_step bitime_below (make_pair 0 0) o k new (Look k.number) number one c.known.ensures c.quiet_wait-quiet.ensures.0) a)

@@ -20,9 +20,9 @@ returns-clause-stands g c s =
     let k = c.self.inside.client in
     let number = c.self.invariant.0 ∙ sym (ap (λ (t : Terms). t.dataflow.workers) c.self.invariant.1) in
     let one = ap (λ (t : Terms). t.actors) c.self.invariant.1 ∙ sym (ap (λ (t : Terms). suc t.dataflow.workers) c.self.invariant.1) in
-    let new = c.is_too_large-large.new.self in
+    let new = c.is_too_large_wait-large.new.self in
     subst (λ (e : Known (Doing (Pair ℕ ℕ))). StandsAs bitime_below (make_pair 0 0) e s → StandsAs bitime_below (make_pair 0 0) new s) c.self.view_is
-    (λ a. after_looked bitime_below (make_pair 0 0) o k new k.number s (client_step bitime_below (make_pair 0 0) o k new (Look k.number) number one c.known.ensures c.is_too_large-large.ensures.looked) a)
+    (λ a. after_looked bitime_below (make_pair 0 0) o k new k.number s (client_step bitime_below (make_pair 0 0) o k new (Look k.number) number one c.known.ensures c.is_too_large_wait-large.ensures.0) a)
 
 -- what the client heard of has its cause in the session
 pub returns-clause-cause : goal.returns-clause-cause
@@ -34,8 +34,8 @@ returns-clause-cause g c s =
     let l = pair_bounds nat_bounds nat_bounds in
     let x = pair_extends nat_extends nat_extends in
     let total = then_total (on_total (λ (t : Pair ℕ ℕ). t.first) nat_cmp_total) (on_total (λ (t : Pair ℕ ℕ). t.second) nat_cmp_total) in
-    let new = c.is_too_large-large.new.self in
-    let step = client_step bitime_below (make_pair 0 0) o k new (Look k.number) number one c.known.ensures c.is_too_large-large.ensures.looked in
-    subst (λ (e : Known (Doing (Pair ℕ ℕ))). StandsAs bitime_below (make_pair 0 0) e s → c.is_too_large-large.result ≡ true → IsLarge (dataflow_of e).nodes s) c.self.view_is
+    let new = c.is_too_large_wait-large.new.self in
+    let step = client_step bitime_below (make_pair 0 0) o k new (Look k.number) number one c.known.ensures c.is_too_large_wait-large.ensures.0 in
+    subst (λ (e : Known (Doing (Pair ℕ ℕ))). StandsAs bitime_below (make_pair 0 0) e s → c.is_too_large_wait-large.result ≡ true → IsLarge (dataflow_of e).nodes s) c.self.view_is
     (λ a told. large_session o l x total (dataflow_of k) (state_found bitime_below (make_pair 0 0) new) s step.dataflow
-    (session_found bitime_below (make_pair 0 0) o (dataflow_of k) (state_left bitime_below (make_pair 0 0) k) (state_found bitime_below (make_pair 0 0) new) s step.clients a) (c.is_too_large-large.ensures.cause told))
+    (session_found bitime_below (make_pair 0 0) o (dataflow_of k) (state_left bitime_below (make_pair 0 0) k) (state_found bitime_below (make_pair 0 0) new) s step.clients a) (c.is_too_large_wait-large.ensures.1 told))

@@ -11,6 +11,7 @@ use Rattle.shared_board.specs.declared.event.Doing.{Doing}
 use Rattle.script.specs.Answers.{TakesFrontier}
 use Rattle.script.specs.Standing.{StandsAs}
 use Rattle.script.proofs.StandingLemmas.{frontier_answered, input_there}
+use Rattle.script.proofs.TurnLemmas.{ends_of}
 use Rattle.script.proofs.board_engine.BoardEngineEngine.advance.Goals as goal
 
 pub returns-clause-answered : goal.returns-clause-answered
@@ -19,9 +20,10 @@ returns-clause-answered g c s =
     let k = c.self.inside.client in
     let number = c.self.invariant.0 ∙ sym (ap (λ (t : Terms). t.dataflow.workers) c.self.invariant.1) in
     let one = ap (λ (t : Terms). t.actors) c.self.invariant.1 ∙ sym (ap (λ (t : Terms). suc t.dataflow.workers) c.self.invariant.1) in
-    let new = c.advance-told.new.self in
+    let new = c.advance_wait-told.new.self in
     let i = c.args.input in
-    let ts = c.args.times in
+    let ts = c.args.frontier.now in
+    let ends = ends_of k new _ _ _ c.advance_wait-told.result c.advance_wait-told.ensures in
     let there = subst (λ (e : Known (Doing (Pair ℕ ℕ))). IsTrue (is_input_of (dataflow_of e).nodes i)) (sym c.self.view_is) c.requires in
-    subst (λ (e : Known (Doing (Pair ℕ ℕ))). StandsAs bitime_below (make_pair 0 0) e s → TakesFrontier (dataflow_of e).nodes s i ts (StandsAs bitime_below (make_pair 0 0) new) c.advance-told.result) c.self.view_is
-    (λ a. frontier_answered bitime_below (make_pair 0 0) o k new number one c.known.ensures s c.advance-told.result a i ts (input_there (dataflow_of k) i there).0 c.advance-told.ensures.advanced c.advance-told.ensures.accepted c.advance-told.ensures.refused c.advance-told.ensures.unchanged)
+    subst (λ (e : Known (Doing (Pair ℕ ℕ))). StandsAs bitime_below (make_pair 0 0) e s → TakesFrontier (dataflow_of e).nodes s i ts (StandsAs bitime_below (make_pair 0 0) new) c.advance_wait-told.result) c.self.view_is
+    (λ a. frontier_answered bitime_below (make_pair 0 0) o k new number one c.known.ensures s c.advance_wait-told.result a i ts (input_there (dataflow_of k) i there).0 ends.done ends.accepted ends.refused ends.looked)

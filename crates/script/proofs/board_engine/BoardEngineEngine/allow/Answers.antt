@@ -1,4 +1,4 @@
-use Rattle.std.proofs.Common.{ℕ, suc, IsTrue, sym, subst, ap, ◌∙◌}
+use Rattle.std.proofs.Common.{ℕ, suc, sym, subst, ap, ◌∙◌}
 use Rattle.hub.specs.Known.{Known}
 use Rattle.lattice.specs.Bitimes.{bitime_below}
 use Rattle.lattice.specs.Naturals.{nat_order}
@@ -10,6 +10,7 @@ use Rattle.shared_board.specs.declared.event.Doing.{Doing}
 use Rattle.script.specs.Answers.{TakesSince}
 use Rattle.script.specs.Standing.{StandsAs}
 use Rattle.script.proofs.StandingLemmas.{since_answered}
+use Rattle.script.proofs.TurnLemmas.{ends_of}
 use Rattle.script.proofs.board_engine.BoardEngineEngine.allow.Goals as goal
 
 pub returns-clause-answered : goal.returns-clause-answered
@@ -18,8 +19,9 @@ returns-clause-answered g c s =
     let k = c.self.inside.client in
     let number = c.self.invariant.0 ∙ sym (ap (λ (t : Terms). t.dataflow.workers) c.self.invariant.1) in
     let one = ap (λ (t : Terms). t.actors) c.self.invariant.1 ∙ sym (ap (λ (t : Terms). suc t.dataflow.workers) c.self.invariant.1) in
-    let new = c.allow-told.new.self in
+    let new = c.allow_wait-told.new.self in
     let v = c.args.view in
-    let ts = c.args.times in
-    subst (λ (e : Known (Doing (Pair ℕ ℕ))). StandsAs bitime_below (make_pair 0 0) e s → TakesSince (dataflow_of e).nodes s v ts (StandsAs bitime_below (make_pair 0 0) new) c.allow-told.result) c.self.view_is
-    (λ a. since_answered bitime_below (make_pair 0 0) o k new number one c.known.ensures s c.allow-told.result a v ts c.allow-told.ensures.allowed c.allow-told.ensures.accepted c.allow-told.ensures.refused c.allow-told.ensures.unchanged)
+    let ts = c.args.frontier.now in
+    let ends = ends_of k new _ _ _ c.allow_wait-told.result c.allow_wait-told.ensures in
+    subst (λ (e : Known (Doing (Pair ℕ ℕ))). StandsAs bitime_below (make_pair 0 0) e s → TakesSince (dataflow_of e).nodes s v ts (StandsAs bitime_below (make_pair 0 0) new) c.allow_wait-told.result) c.self.view_is
+    (λ a. since_answered bitime_below (make_pair 0 0) o k new number one c.known.ensures s c.allow_wait-told.result a v ts ends.done ends.accepted ends.refused ends.looked)

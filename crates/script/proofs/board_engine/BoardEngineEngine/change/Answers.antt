@@ -5,12 +5,15 @@ use Rattle.lattice.specs.Naturals.{nat_order}
 use Rattle.lattice.specs.Pairs.{make_pair, pair_order}
 use Rattle.lattice.specs.declared.product.Pair.{Pair}
 use Rattle.histories.specs.declared.event.Fed.{Fed}
+use Rattle.shared_board.specs.Calls.{IsDoneInTurn}
 use Rattle.shared_board.specs.Found.{dataflow_of}
 use Rattle.shared_board.specs.Tenures.{Terms}
 use Rattle.shared_board.specs.declared.event.Doing.{Doing}
 use Rattle.script.specs.Answers.{TakesChange}
 use Rattle.script.specs.Standing.{StandsAs}
+use Rattle.session.specs.Clients.{IsFed, row_fed}
 use Rattle.script.proofs.StandingLemmas.{change_answered}
+use Rattle.script.proofs.TurnLemmas.{ends_of}
 use Rattle.script.proofs.board_engine.BoardEngineEngine.change.Goals as goal
 
 pub returns-clause-answered : goal.returns-clause-answered
@@ -19,7 +22,9 @@ returns-clause-answered g c s =
     let k = c.self.inside.client in
     let number = c.self.invariant.0 ∙ sym (ap (λ (t : Terms). t.dataflow.workers) c.self.invariant.1) in
     let one = ap (λ (t : Terms). t.actors) c.self.invariant.1 ∙ sym (ap (λ (t : Terms). suc t.dataflow.workers) c.self.invariant.1) in
-    let new = c.feed-told.new.self in
+    let new = c.feed_wait-told.new.self in
     let f : Fed (Pair ℕ ℕ) = record { input = c.args.input; update = c.args.update } in
-    subst (λ (e : Known (Doing (Pair ℕ ℕ))). StandsAs bitime_below (make_pair 0 0) e s → TakesChange (dataflow_of e).nodes s f (StandsAs bitime_below (make_pair 0 0) new) c.feed-told.result) c.self.view_is
-    (λ a. change_answered bitime_below (make_pair 0 0) o k new number one c.known.ensures s c.feed-told.result a f c.feed-told.ensures.fed c.feed-told.ensures.accepted c.feed-told.ensures.refused c.feed-told.ensures.unchanged)
+    let fed = subst (λ columns. IsFed bitime_below (make_pair 0 0) k new (IsDoneInTurn k new) (row_fed c.args.input columns c.args.update.time c.args.update.diff) c.feed_wait-told.result) c.columns.ensures.columns c.feed_wait-told.ensures in
+    let e = ends_of k new _ _ _ c.feed_wait-told.result fed in
+    subst (λ (x : Known (Doing (Pair ℕ ℕ))). StandsAs bitime_below (make_pair 0 0) x s → TakesChange (dataflow_of x).nodes s f (StandsAs bitime_below (make_pair 0 0) new) c.feed_wait-told.result) c.self.view_is
+    (λ a. change_answered bitime_below (make_pair 0 0) o k new number one c.known.ensures s c.feed_wait-told.result a f e.done e.accepted e.refused e.looked)

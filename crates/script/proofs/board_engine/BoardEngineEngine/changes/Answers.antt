@@ -20,6 +20,7 @@ use Rattle.script.specs.Bounds.{IsLarge, EndsByBound}
 use Rattle.script.specs.Standing.{HasSession, StandsAs}
 use Rattle.script.proofs.ReadLemmas.{changes_found, large_changes, refused_alike, same_changes_refusal}
 use Rattle.script.proofs.StandingLemmas.{after_looked, client_step, session_found}
+use Rattle.script.proofs.TurnLemmas.{answers_of}
 use Rattle.script.proofs.board_engine.BoardEngineEngine.changes.Goals as goal
 use Rattle.script.proofs.board_engine.BoardEngineEngine.changes.Goals.{in-Ok, in-Err}
 
@@ -29,9 +30,10 @@ returns-clause-stands g c s =
     let k = c.self.inside.client in
     let number = c.self.invariant.0 ∙ sym (ap (λ (t : Terms). t.dataflow.workers) c.self.invariant.1) in
     let one = ap (λ (t : Terms). t.actors) c.self.invariant.1 ∙ sym (ap (λ (t : Terms). suc t.dataflow.workers) c.self.invariant.1) in
-    let new = c.changes-changes.new.self in
+    let new = c.changes_wait-changes.new.self in
+    let answer = answers_of k new _ _ c.changes_wait-changes.result c.changes_wait-changes.ensures in
     subst (λ (e : Known (Doing (Pair ℕ ℕ))). StandsAs bitime_below (make_pair 0 0) e s → StandsAs bitime_below (make_pair 0 0) new s) c.self.view_is
-    (λ a. after_looked bitime_below (make_pair 0 0) o k new k.number s (client_step bitime_below (make_pair 0 0) o k new (Look k.number) number one c.known.ensures c.changes-changes.ensures.looked) a)
+    (λ a. after_looked bitime_below (make_pair 0 0) o k new k.number s (client_step bitime_below (make_pair 0 0) o k new (Look k.number) number one c.known.ensures answer.looked) a)
 
 pub returns-clause-answered : goal.returns-clause-answered
 returns-clause-answered g c s =
@@ -42,11 +44,12 @@ returns-clause-answered g c s =
     let l = pair_bounds nat_bounds nat_bounds in
     let x = pair_extends nat_extends nat_extends in
     let total = then_total (on_total (λ (t : Pair ℕ ℕ). t.first) nat_cmp_total) (on_total (λ (t : Pair ℕ ℕ). t.second) nat_cmp_total) in
-    let new = c.changes-changes.new.self in
+    let new = c.changes_wait-changes.new.self in
+    let answer = answers_of k new _ _ c.changes_wait-changes.result c.changes_wait-changes.ensures in
     let v = c.args.view in
     let p = dataflow_of k in
     let w = state_found bitime_below (make_pair 0 0) new in
-    let step = client_step bitime_below (make_pair 0 0) o k new (Look k.number) number one c.known.ensures c.changes-changes.ensures.looked in
+    let step = client_step bitime_below (make_pair 0 0) o k new (Look k.number) number one c.known.ensures answer.looked in
     let there = subst (λ (e : Known (Doing (Pair ℕ ℕ))). IsTrue (is_view_of (dataflow_of e).nodes v)) (sym c.self.view_is) c.requires.view in
     let within : v < length p.nodes = ltb-true v (length p.nodes) (and_parts _ _ there).0 in
     let still = subst (λ (e : Known (Doing (Pair ℕ ℕ))). IsQuiet bitime_below (dataflow_of e) (state_left bitime_below (make_pair 0 0) e)) (sym c.self.view_is) c.requires.caught_up in
@@ -59,11 +62,11 @@ returns-clause-answered g c s =
     (elim c.match-changes.branch [
       | in-Ok z ↦ subst (Answered k) (sym z.result-is)
           (λ a. (
-            sym (same_changes_refusal bitime_below (make_pair 0 0) o p step.dataflow w s (found a) v caught) ∙ z.in-Ok.ensures.accepted,
-            z.from.ensures ∙ changes_found bitime_below (make_pair 0 0) o p step.dataflow w s (found a) v caught l x total within z.in-Ok.changes.items z.in-Ok.ensures.differences,
+            sym (same_changes_refusal bitime_below (make_pair 0 0) o p step.dataflow w s (found a) v caught) ∙ z.in-Ok.ensures.1.accepted,
+            z.from.ensures ∙ changes_found bitime_below (make_pair 0 0) o p step.dataflow w s (found a) v caught l x total within z.in-Ok.changes.items z.in-Ok.ensures.1.differences,
           ))
       | in-Err z ↦ subst (Answered k) (sym z.result-is)
           (λ a. refused_alike (HasLargeListed bitime_below p w v) (IsLarge p.nodes s) (changes_refusal_in bitime_below (make_pair 0 0) w v) _ z.in-Err.refusal
           (same_changes_refusal bitime_below (make_pair 0 0) o p step.dataflow w s (found a) v caught)
-          (large_changes o l x total p step.dataflow w s (found a) v within) z.in-Err.ensures.refused)
+          (large_changes o l x total p step.dataflow w s (found a) v within) z.in-Err.ensures.1)
     ])

@@ -19,6 +19,7 @@ use Rattle.script.specs.Bounds.{EndsByBound}
 use Rattle.script.specs.Standing.{HasSession, StandsAs}
 use Rattle.script.proofs.ReadLemmas.{frontier_found}
 use Rattle.script.proofs.StandingLemmas.{after_looked, client_step, session_found}
+use Rattle.script.proofs.TurnLemmas.{answers_of}
 use Rattle.script.proofs.board_engine.BoardEngineEngine.frontier.Goals as goal
 use Rattle.script.proofs.board_engine.BoardEngineEngine.frontier.Goals.{in-Ok, in-Err}
 
@@ -28,9 +29,10 @@ returns-clause-stands g c s =
     let k = c.self.inside.client in
     let number = c.self.invariant.0 ∙ sym (ap (λ (t : Terms). t.dataflow.workers) c.self.invariant.1) in
     let one = ap (λ (t : Terms). t.actors) c.self.invariant.1 ∙ sym (ap (λ (t : Terms). suc t.dataflow.workers) c.self.invariant.1) in
-    let new = c.frontier-frontier.new.self in
+    let new = c.probe_wait-frontier.new.self in
+    let answer = answers_of k new _ _ c.probe_wait-frontier.result c.probe_wait-frontier.ensures in
     subst (λ (e : Known (Doing (Pair ℕ ℕ))). StandsAs bitime_below (make_pair 0 0) e s → StandsAs bitime_below (make_pair 0 0) new s) c.self.view_is
-    (λ a. after_looked bitime_below (make_pair 0 0) o k new k.number s (client_step bitime_below (make_pair 0 0) o k new (Look k.number) number one c.known.ensures c.frontier-frontier.ensures.looked) a)
+    (λ a. after_looked bitime_below (make_pair 0 0) o k new k.number s (client_step bitime_below (make_pair 0 0) o k new (Look k.number) number one c.known.ensures answer.looked) a)
 
 pub returns-clause-answered : goal.returns-clause-answered
 returns-clause-answered g c s =
@@ -41,11 +43,12 @@ returns-clause-answered g c s =
     let l = pair_bounds nat_bounds nat_bounds in
     let x = pair_extends nat_extends nat_extends in
     let total = then_total (on_total (λ (t : Pair ℕ ℕ). t.first) nat_cmp_total) (on_total (λ (t : Pair ℕ ℕ). t.second) nat_cmp_total) in
-    let new = c.frontier-frontier.new.self in
+    let new = c.probe_wait-frontier.new.self in
+    let answer = answers_of k new _ _ c.probe_wait-frontier.result c.probe_wait-frontier.ensures in
     let v = c.args.view in
     let p = dataflow_of k in
     let w = state_found bitime_below (make_pair 0 0) new in
-    let step = client_step bitime_below (make_pair 0 0) o k new (Look k.number) number one c.known.ensures c.frontier-frontier.ensures.looked in
+    let step = client_step bitime_below (make_pair 0 0) o k new (Look k.number) number one c.known.ensures answer.looked in
     let there = subst (λ (e : Known (Doing (Pair ℕ ℕ))). IsTrue (is_view_of (dataflow_of e).nodes v)) (sym c.self.view_is) c.requires.view in
     let within : v < length p.nodes = ltb-true v (length p.nodes) (and_parts _ _ there).0 in
     let still = subst (λ (e : Known (Doing (Pair ℕ ℕ))). IsQuiet bitime_below (dataflow_of e) (state_left bitime_below (make_pair 0 0) e)) (sym c.self.view_is) c.requires.caught_up in
@@ -56,6 +59,6 @@ returns-clause-answered g c s =
     subst (λ e. Answered e c.match-frontier.result) c.self.view_is
     (elim c.match-frontier.branch [
       | in-Ok z ↦ subst (Answered k) (sym z.result-is)
-          (λ a. (refl, frontier_found bitime_below (make_pair 0 0) o p step.dataflow w s (found a) v caught total x.exact z.in-Ok.frontier z.known-in-Ok.ensures z.in-Ok.ensures.frontier))
-      | in-Err z ↦ subst (Answered k) (sym z.result-is) (λ a. inr (inl z.in-Err.ensures.refused))
+          (λ a. (refl, frontier_found bitime_below (make_pair 0 0) o p step.dataflow w s (found a) v caught total x.exact z.in-Ok.frontier z.known-in-Ok.ensures z.in-Ok.ensures.1))
+      | in-Err z ↦ subst (Answered k) (sym z.result-is) (λ a. inr (inl z.in-Err.ensures.1))
     ])

@@ -1,4 +1,5 @@
 use Rattle.std.proofs.Common.{ℕ, ◌<◌, suc, length, IsTrue, ltb-true, sym, subst, ap, ◌∙◌}
+use Rattle.std.proofs.lemmas.Result.{IfOk-weaker}
 use Rattle.std.proofs.lemmas.Cmp.{then_total, on_total, nat_cmp_total}
 use Rattle.hub.specs.Known.{Known}
 use Rattle.lattice.specs.Bitimes.{bitime_below}
@@ -20,6 +21,7 @@ use Rattle.script.specs.Bounds.{IsLarge, EndsByBound}
 use Rattle.script.specs.Standing.{HasSession, StandsAs}
 use Rattle.script.proofs.ReadLemmas.{read_answered, large_read}
 use Rattle.script.proofs.StandingLemmas.{after_looked, client_step, session_found}
+use Rattle.script.proofs.TurnLemmas.{answers_of, on_ok_of}
 use Rattle.script.proofs.board_engine.BoardEngineEngine.read.Goals as goal
 
 pub returns-clause-stands : goal.returns-clause-stands
@@ -28,9 +30,10 @@ returns-clause-stands g c s =
     let k = c.self.inside.client in
     let number = c.self.invariant.0 ∙ sym (ap (λ (t : Terms). t.dataflow.workers) c.self.invariant.1) in
     let one = ap (λ (t : Terms). t.actors) c.self.invariant.1 ∙ sym (ap (λ (t : Terms). suc t.dataflow.workers) c.self.invariant.1) in
-    let new = c.read-rows.new.self in
+    let new = c.read_wait-rows.new.self in
+    let answer = answers_of k new _ _ c.read_wait-rows.result c.read_wait-rows.ensures in
     subst (λ (e : Known (Doing (Pair ℕ ℕ))). StandsAs bitime_below (make_pair 0 0) e s → StandsAs bitime_below (make_pair 0 0) new s) c.self.view_is
-    (λ a. after_looked bitime_below (make_pair 0 0) o k new k.number s (client_step bitime_below (make_pair 0 0) o k new (Look k.number) number one c.known.ensures c.read-rows.ensures.looked) a)
+    (λ a. after_looked bitime_below (make_pair 0 0) o k new k.number s (client_step bitime_below (make_pair 0 0) o k new (Look k.number) number one c.known.ensures answer.looked) a)
 
 pub returns-clause-answered : goal.returns-clause-answered
 returns-clause-answered g c s =
@@ -41,19 +44,21 @@ returns-clause-answered g c s =
     let l = pair_bounds nat_bounds nat_bounds in
     let x = pair_extends nat_extends nat_extends in
     let total = then_total (on_total (λ (t : Pair ℕ ℕ). t.first) nat_cmp_total) (on_total (λ (t : Pair ℕ ℕ). t.second) nat_cmp_total) in
-    let new = c.read-rows.new.self in
+    let new = c.read_wait-rows.new.self in
+    let answer = answers_of k new _ _ c.read_wait-rows.result c.read_wait-rows.ensures in
     let v = c.args.view in
     let p = dataflow_of k in
     let w = state_found bitime_below (make_pair 0 0) new in
-    let step = client_step bitime_below (make_pair 0 0) o k new (Look k.number) number one c.known.ensures c.read-rows.ensures.looked in
+    let step = client_step bitime_below (make_pair 0 0) o k new (Look k.number) number one c.known.ensures answer.looked in
     let there = subst (λ (e : Known (Doing (Pair ℕ ℕ))). IsTrue (is_view_of (dataflow_of e).nodes v)) (sym c.self.view_is) c.requires.view in
     let within : v < length p.nodes = ltb-true v (length p.nodes) (and_parts _ _ there).0 in
     let still = subst (λ (e : Known (Doing (Pair ℕ ℕ))). IsQuiet bitime_below (dataflow_of e) (state_left bitime_below (make_pair 0 0) e)) (sym c.self.view_is) c.requires.caught_up in
     let caught = step.caught v (subst (IsQuiet bitime_below p) (sym (step.quiet still)) still) in
     let found : StandsAs bitime_below (make_pair 0 0) k s → HasSession p w s = session_found bitime_below (make_pair 0 0) o p (state_left bitime_below (make_pair 0 0) k) w s step.clients in
     let t = c.args.time in
-    subst (λ (e : Known (Doing (Pair ℕ ℕ))). StandsAs bitime_below (make_pair 0 0) e s → FindsRows (EndsByBound (dataflow_of e).nodes s) (dataflow_of e).nodes s v t c.read-rows.result) c.self.view_is
+    subst (λ (e : Known (Doing (Pair ℕ ℕ))). StandsAs bitime_below (make_pair 0 0) e s → FindsRows (EndsByBound (dataflow_of e).nodes s) (dataflow_of e).nodes s v t c.read_wait-rows.result) c.self.view_is
     (λ a. read_answered bitime_below (make_pair 0 0) o p step.dataflow w s (found a) v caught t
-    (HasLargeCount (query_at bitime_below p.nodes (changes_in w) v t)) (IsLarge p.nodes s) c.read-rows.result
+    (HasLargeCount (query_at bitime_below p.nodes (changes_in w) v t)) (IsLarge p.nodes s) c.read_wait-rows.result
     (large_read o l x total p step.dataflow w s (found a) v within t)
-    c.read-rows.ensures.accepted c.read-rows.ensures.refused c.read-rows.ensures.bag c.read-rows.ensures.query)
+    (on_ok_of c.read_wait-rows.result (λ bag read. read.accepted) answer.found) answer.refused
+    (IfOk-weaker c.read_wait-rows.result _ _ (λ bag read. read.is_bag) answer.found) (IfOk-weaker c.read_wait-rows.result _ _ (λ bag read. read.query) answer.found))

@@ -1,7 +1,7 @@
 use Rattle.std.proofs.Common.{◌≡◌, ◌∙◌, ℕ, map, Vec, Global, refl, ap, sym, subst}
 use Rattle.std.proofs.lemmas.Cmp.{nat_cmp_total, then_total, on_total}
 use Rattle.lattice.specs.Naturals.{nat_order, nat_extends}
-use Rattle.lattice.specs.Pairs.{make_pair, pair_order, pair_extends}
+use Rattle.lattice.specs.Pairs.{pair_order, pair_extends}
 use Rattle.lattice.specs.declared.product.Pair.{Pair}
 use Rattle.update.specs.declared.change.Update.{Update}
 use Rattle.plan.specs.Changes.{open_for}

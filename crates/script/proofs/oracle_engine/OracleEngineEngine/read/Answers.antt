@@ -1,9 +1,9 @@
 use Rattle.std.proofs.Common.{rules, ◌≡◌, ◌<◌, ◌∙◌, ℕ, List, map, length, IsTrue, Vec, Global, ltb-true, inl, ap, sym, subst}
 use Rattle.std.specs.Prelude.{IfOk}
-use Rattle.std.proofs.lemmas.Bool.{and_parts, and_from}
+use Rattle.std.proofs.lemmas.Bool.{and_parts}
 use Rattle.std.proofs.lemmas.Cmp.{nat_cmp_total, then_total, on_total}
-use Rattle.lattice.specs.Naturals.{nat_order, nat_bounds, nat_extends, nat_lowest}
-use Rattle.lattice.specs.Pairs.{make_pair, pair_order, pair_bounds, pair_extends}
+use Rattle.lattice.specs.Naturals.{nat_order, nat_bounds, nat_extends}
+use Rattle.lattice.specs.Pairs.{pair_order, pair_bounds, pair_extends}
 use Rattle.lattice.specs.declared.product.Pair.{Pair}
 use Rattle.update.specs.Bags.{Alike}
 use Rattle.update.specs.declared.change.Update.{Update}

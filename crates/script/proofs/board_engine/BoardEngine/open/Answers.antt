@@ -1,0 +1,1 @@
+use Rattle.script.proofs.board_engine.BoardEngine.open.Goals as goal
