@@ -103,20 +103,6 @@ impl<T: Minimum, P: BoardProtocol<T>> Actor<T, P> {
         let _ = &self.number;
     }
 
-    /// The actor looks. Takes no memory.
-    pub fn look<R: Wait>(&mut self, rt: &R)
-        ensures looked { Adds self.old (Look self.old.number) self.new }
-    {
-        let Some(pass) = self.pass.take() else {
-            unreachable!()
-        };
-        let mut tenure = self.hub.enter(rt, pass);
-        let board = tenure.state();
-        board.look(self.number);
-        self.accepted = board.accepted();
-        self.pass = Some(tenure.leave());
-    }
-
     /// A worker tells that a number is too large with the changes that it has seen. The others can
     /// see it, unless more changes were accepted meanwhile. Takes no memory.
     pub fn tell_too_large<R: Wait>(&mut self, rt: &R)

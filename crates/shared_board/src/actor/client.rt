@@ -56,7 +56,8 @@ impl<T: Minimum, P: BoardProtocol<T>> Actor<T, P> {
         told
     }
 
-    /// A client moves an input's frontier forward. Refused as `Board::advance` says, and then it looks.
+    /// A client moves an input's frontier forward. Refused as `Board::advance` says, and then it
+    /// looks.
     pub fn try_advance(&mut self, input: NodeId, times: &[T]) -> Result<(), Refusal>
         requires client { (terms_in self.old.seen).dataflow.workers ≤ self.old.number }
         requires input { IsInput (terms_in self.old.seen).dataflow input }

@@ -1,19 +1,19 @@
 //! What a client does in its turn: each call waits until the board is at home.
 //!
-//! Each call is one event of the client, and its answer is right for the state that its tenure found.
-//! Its clause is that of its twin in `client`, which tries once, but that the board is never away.
-ghost use Rattle.std.specs.Prelude.{◌≡◌, ◌≤◌, ◌<◌, ◌↔◌, [], IsTrue, length};
+//! Each call is one event of the client, and its answer is right for the state that its tenure
+//! found. Its clause is that of its twin in `client`, but that the board is never away.
+ghost use Rattle.std.specs.Prelude.{◌≡◌, ◌≤◌, ◌<◌, ◌↔◌, [], None, Ok, IsTrue, length, ⊥};
 ghost use Rattle.antichain.specs.Antichains.{SameElements};
 ghost use Rattle.update.specs.Refusals.{IsRefusalBy};
 ghost use Rattle.update.specs.declared.refusal.Refusal.TheVariants.{OutOfMemory};
 ghost use Rattle.plan.specs.Nodes.{is_output};
-ghost use Rattle.histories.specs.declared.event.Event.TheVariants.{Advance, Allow, Feed, Look};
+ghost use Rattle.histories.specs.declared.event.Event.TheVariants.{Advance, Allow, Feed};
 ghost use Rattle.histories.specs.Histories.{IsInput};
 ghost use Rattle.histories.specs.Histories.Dataflows.{node_of};
 ghost use Rattle.histories.specs.Histories.States.{change_to};
-ghost use Rattle.shared_board.specs.Calls.{AreListed, IsAnsweredInTurn, IsDoneInTurn, IsRead};
+ghost use Rattle.shared_board.specs.Calls.{AreListed, HasLooked, IsAnsweredInTurn, IsDoneInTurn, IsRead};
 ghost use Rattle.shared_board.specs.Found.{IsChangesRefusalFound, IsReadRefusalFound, WasQuiet, WasTooLarge, feed_refusal_found, frontier_found};
-ghost use Rattle.shared_board.specs.Tenures.{Adds, advance_refusal_in, allow_refusal_in, state_found, terms_in};
+ghost use Rattle.shared_board.specs.Tenures.{advance_refusal_in, allow_refusal_in, state_found, terms_in};
 
 use crate::actor::Actor;
 use crate::actor::entering::enter;
@@ -25,6 +25,17 @@ use std::sync::Wait;
 use update::{Bag, Refusal, Update};
 
 impl<T: Minimum, P: BoardProtocol<T>> Actor<T, P> {
+    /// The actor looks. Takes no memory.
+    pub fn look<R: Wait>(&mut self, rt: &R)
+        ensures { HasLooked self.old self.new }
+    {
+        let mut tenure = enter(rt, &self.hub, &mut self.pass);
+        let board = tenure.state();
+        board.look(self.number);
+        self.accepted = board.accepted();
+        self.pass = Some(tenure.leave());
+    }
+
     /// A client changes an input's table. Refused as `Board::feed` says, and then it looks.
     pub fn feed<R: Wait>(&mut self, rt: &R, input: NodeId, update: Update<T>) -> Result<(), Refusal>
         requires client { (terms_in self.old.seen).dataflow.workers ≤ self.old.number }
@@ -44,7 +55,8 @@ impl<T: Minimum, P: BoardProtocol<T>> Actor<T, P> {
         told
     }
 
-    /// A client moves an input's frontier forward. Refused as `Board::advance` says, and then it looks.
+    /// A client moves an input's frontier forward. Refused as `Board::advance` says, and then it
+    /// looks.
     pub fn advance<R: Wait>(&mut self, rt: &R, input: NodeId, times: &[T]) -> Result<(), Refusal>
         requires client { (terms_in self.old.seen).dataflow.workers ≤ self.old.number }
         requires input { IsInput (terms_in self.old.seen).dataflow input }
@@ -66,12 +78,10 @@ impl<T: Minimum, P: BoardProtocol<T>> Actor<T, P> {
     pub fn close<R: Wait>(&mut self, rt: &R, input: NodeId)
         requires client { (terms_in self.old.seen).dataflow.workers ≤ self.old.number }
         requires input { IsInput (terms_in self.old.seen).dataflow input }
-        ensures closed { Adds self.old (Advance self.old.number input []) self.new }
+        ensures { IsDoneInTurn self.old self.new (Advance self.old.number input []) None
+            (λ refusal. ⊥) (Ok result) }
     {
-        let Some(pass) = self.pass.take() else {
-            unreachable!()
-        };
-        let mut tenure = self.hub.enter(rt, pass);
+        let mut tenure = enter(rt, &self.hub, &mut self.pass);
         let board = tenure.state();
         board.close(self.number, input);
         self.accepted = board.accepted();
@@ -152,35 +162,31 @@ impl<T: Minimum, P: BoardProtocol<T>> Actor<T, P> {
     /// Cost: linear in the nodes times the workers, and that of `Board::input_has_passed` for each
     /// held time.
     pub fn is_quiet<R: Wait>(&mut self, rt: &R) -> bool
-        ensures looked { Adds self.old (Look self.old.number) self.new }
-        ensures quiet { IsTrue result ↔ WasQuiet T.below T.least self.old self.new }
+        ensures { IsAnsweredInTurn self.old self.new
+            (λ quiet. IsTrue quiet ↔ WasQuiet T.below T.least self.old self.new) (λ refusal. ⊥)
+            (Ok result) }
     {
-        let Some(pass) = self.pass.take() else {
-            unreachable!()
-        };
-        let mut tenure = self.hub.enter(rt, pass);
+        let mut tenure = enter(rt, &self.hub, &mut self.pass);
         let board = tenure.state();
-        let answer = board.is_quiet(self.number);
+        let quiet = board.is_quiet(self.number);
         self.accepted = board.accepted();
         self.pass = Some(tenure.leave());
-        answer
+        quiet
     }
 
     /// Whether a worker told that a number is too large with the changes accepted so far. Takes no
     /// memory.
     pub fn is_too_large<R: Wait>(&mut self, rt: &R) -> bool
-        ensures looked { Adds self.old (Look self.old.number) self.new }
-        ensures cause { IsTrue result → WasTooLarge T.below T.least self.old self.new T.cmp }
+        ensures { IsAnsweredInTurn self.old self.new
+            (λ large. IsTrue large → WasTooLarge T.below T.least self.old self.new T.cmp)
+            (λ refusal. ⊥) (Ok result) }
     {
-        let Some(pass) = self.pass.take() else {
-            unreachable!()
-        };
-        let mut tenure = self.hub.enter(rt, pass);
+        let mut tenure = enter(rt, &self.hub, &mut self.pass);
         let board = tenure.state();
-        let answer = board.is_too_large();
+        let large = board.is_too_large();
         board.look(self.number);
         self.accepted = board.accepted();
         self.pass = Some(tenure.leave());
-        answer
+        large
     }
 }

@@ -1,7 +1,10 @@
-use Rattle.std.proofs.Common.{subst, refl, []}
-use Rattle.shared_board.specs.Tenures.{Adds}
-use Rattle.histories.specs.declared.event.Event.TheVariants.{Advance}
+use Rattle.std.proofs.Common.{subst}
+use Rattle.std.specs.Prelude.{Ok}
+use Rattle.shared_board.specs.Calls.{IsDoneInTurn}
+use Rattle.session.specs.Clients.{IsClosed}
 use Rattle.session.proofs.client.Client.close_input_wait.Goals as goal
 
 pub returns : goal.returns
-returns g c = (subst (λ k. Adds k (Advance k.number c.args.input []) c.close.new.self) c.self.view_is c.close.ensures.closed, refl)
+returns g c =
+    let new = c.close.new.self in
+    subst (λ k. IsClosed g.T.PartialOrder.below g.T.Minimum.least k new (IsDoneInTurn k new) c.args.input (Ok c.close.result)) c.self.view_is c.close.ensures
