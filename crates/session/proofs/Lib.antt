@@ -1,3 +1,4 @@
 pub mod ClientLemmas
 pub mod OpeningLemmas
 pub mod MoveLemmas
+pub mod ThreadLemmas

@@ -1,3 +1,4 @@
 pub mod Clients
 pub mod Moves
 pub mod Openings
+pub mod Threads

@@ -8,13 +8,16 @@
 //! before: its one clause says so of all that the client has seen.
 //!
 //! Workers step on any thread. A list of [`Move`]s is a schedule, and [`drive`] follows it on the
-//! caller's thread. Which schedule it is changes no answer.
+//! caller's thread. [`run_threads`] runs each worker on a thread of its own until the board is quiet,
+//! and lets them through a [`Gate`] before each step. Which schedule it is changes no answer.
 #![tactic(auto)]
 
 mod client;
 mod moves;
 mod opening;
+mod threads;
 
 pub use client::Client;
 pub use moves::{Move, drive};
 pub use opening::open;
+pub use threads::{Gate, OpenGate, Works, run_threads};

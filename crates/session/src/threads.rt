@@ -1,0 +1,212 @@
+//! Workers on threads: each steps on a thread of its own until it finds the board quiet.
+//!
+//! What a thread does reaches the others through the hub alone, so nothing is proved here of boards:
+//! each worker stands for the events of its own pass, on whichever thread it steps. What is here is
+//! who starts, who waits, and how a run ends. A worker lies under a lock of its own, which its thread
+//! takes once, since a scope can lend a list of locks to its threads and not a list of workers.
+//!
+//! A worker for which there is nothing waits longer each time before it looks again, and then yields
+//! its core. No clause says that a run ends: tests do.
+ghost use Rattle.std.specs.Prelude.{◌≡◌, IfErr};
+ghost use Rattle.std.specs.Result.{ForErr};
+ghost use Rattle.std.specs.Thread.{IsSync};
+ghost use Rattle.update.specs.declared.refusal.Refusal.TheVariants.{OutOfMemory};
+ghost use Rattle.session.specs.Threads.{EndsThreads, EndsWork};
+
+use crossbeam_utils::Backoff;
+use lattice::Minimum;
+use shared_board::BoardProtocol;
+use std::alloc::Global;
+use std::sync::atomic::{AtomicBool, Ordering};
+use std::sync::{Mutex, Wait};
+use std::thread::{Scope, Threads, scope, scope_env};
+use steps::{Step, Worker};
+use update::Refusal;
+
+/// A place where each worker passes before each of its steps.
+pub trait Gate {
+    /// A worker is about to step. `worker` is its place in the list, and `done` how many of its steps
+    /// in this run took or gave something. It may wait.
+    fn pass(&self, worker: usize, done: u64);
+}
+
+/// A gate at which nobody waits.
+pub struct OpenGate;
+
+impl Gate for OpenGate {
+    fn pass(&self, _worker: usize, _done: u64) {}
+}
+
+/// What works on a thread of its own, step by step.
+pub trait Works {
+    /// Makes a step.
+    fn step(&mut self, alloc: Global) -> Result<Step, Refusal>
+        ensures { IfErr result EndsWork };
+
+    /// Merges what it keeps. Whether there is nothing left to merge.
+    fn tidy(&mut self, alloc: Global, fuel: u64) -> Result<bool, Refusal>
+        ensures { IfErr result EndsWork };
+}
+
+impl<T: Minimum, P: BoardProtocol<T>> Works for Worker<T, P> {
+    fn step(&mut self, alloc: Global) -> Result<Step, Refusal> {
+        Worker::step(self, alloc)
+    }
+
+    fn tidy(&mut self, alloc: Global, fuel: u64) -> Result<bool, Refusal> {
+        Worker::tidy(self, alloc, fuel)
+    }
+}
+
+// A worker, and how its part of the run ended.
+#[derive(Drop)]
+struct Seat<'w, W> {
+    worker: &'w mut W,
+    told: Result<(), Refusal>,
+    ghost ended: { ForErr told EndsWork },
+}
+
+// Tidies until nothing is left to merge, or another worker was refused.
+fn tidy_up<W: Works, R: Wait>(
+    rt: &R,
+    alloc: Global,
+    worker: &mut W,
+    stop: &AtomicBool,
+) -> Result<(), Refusal>
+    ensures { IfErr result EndsWork }
+{
+    let backoff = Backoff::new();
+    for _ in rt.forever() {
+        if stop.load(Ordering::SeqCst) || worker.tidy(alloc, u64::MAX)? {
+            return Ok(());
+        }
+        backoff.snooze();
+    }
+    unreachable!()
+}
+
+// Steps until the board is quiet, or another worker was refused; then tidies.
+fn take_turns<W: Works, G: Gate, R: Wait>(
+    rt: &R,
+    alloc: Global,
+    worker: &mut W,
+    place: usize,
+    gate: &G,
+    stop: &AtomicBool,
+) -> Result<(), Refusal>
+    ensures { IfErr result EndsWork }
+{
+    let backoff = Backoff::new();
+    let mut done: u64 = 0;
+    for _ in rt.forever() {
+        if stop.load(Ordering::SeqCst) {
+            return Ok(());
+        }
+        gate.pass(place, done);
+        match worker.step(alloc)? {
+            Step::Took | Step::Gave => {
+                done = done.saturating_add(1);
+                backoff.reset();
+            }
+            Step::Idle { quiet: true } => return tidy_up(rt, alloc, worker, stop),
+            Step::Busy | Step::Idle { .. } => backoff.snooze(),
+        }
+    }
+    unreachable!()
+}
+
+// One worker's part of the run. If it is refused, the others stop.
+fn run_seat<W: Works, G: Gate, R: Wait>(
+    rt: &R,
+    alloc: Global,
+    seat: &Mutex<Seat<'_, W>>,
+    place: usize,
+    gate: &G,
+    stop: &AtomicBool,
+) {
+    let mut seat = seat.lock(rt);
+    let told = take_turns(rt, alloc, &mut *seat.worker, place, gate, stop);
+    if told.is_err() {
+        stop.store(true, Ordering::SeqCst);
+    }
+    seat.told = told;
+}
+
+// Puts each worker under a lock of its own.
+fn seated<'w, W>(alloc: Global, workers: &'w mut [W]) -> Result<Vec<Mutex<Seat<'w, W>>>, Refusal>
+    ensures { IfErr result (λ refusal. refusal ≡ OutOfMemory) }
+{
+    let mut seats = Vec::new(alloc);
+    let each = workers.iter_mut();
+    for worker in each {
+        seats.push(Mutex::new(Seat {
+            worker,
+            told: Ok(()),
+        }))?;
+    }
+    Ok(seats)
+}
+
+// Starts a thread for each seat. All have ended when it answers.
+fn run_all<W: Works + Send, G: Gate + Sync, R: Threads + Wait + Sync>(
+    rt: &R,
+    alloc: Global,
+    seats: &[Mutex<Seat<'_, W>>],
+    gate: &G,
+    stop: &AtomicBool,
+) -> bool {
+    scope(
+        scope_env(),
+        rt,
+        |s: &Scope<'_, _>| -> bool
+            requires { IsSync R.row }
+        {
+            for at in 0..seats.len() {
+                let seat = &seats[at];
+                if s.spawn(move || run_seat(rt, alloc, seat, at, gate, stop))
+                    .is_err()
+                {
+                    stop.store(true, Ordering::SeqCst);
+                    return false;
+                }
+            }
+            true
+        },
+    )
+}
+
+// The refusal of the lowest worker that was refused.
+fn first_told<W>(seats: Vec<Mutex<Seat<'_, W>>>) -> Result<(), Refusal>
+    ensures { IfErr result EndsWork }
+{
+    for seat in seats {
+        let Seat { told, .. } = seat.into_inner();
+        told?;
+    }
+    Ok(())
+}
+
+/// Runs workers at once, each on a thread of its own, and comes back when all of them have ended. A
+/// worker ends when it finds the board quiet; then it merges what it keeps. If one is refused or a
+/// thread could not be made, the others end before their next step. What was done stays done, so the
+/// next run goes on from there.
+///
+/// Refused with [`Refusal::NoThread`], else as the refused worker of the lowest place: with
+/// [`Refusal::OutOfMemory`], [`Refusal::Overflow`] or [`Refusal::Failed`], as [`Worker::step_at`] says.
+///
+/// Cost: a thread for each worker, and what their steps cost.
+pub fn run_threads<W: Works + Send, G: Gate + Sync, R: Threads + Wait + Sync>(
+    rt: &R,
+    alloc: Global,
+    workers: &mut [W],
+    gate: &G,
+) -> Result<(), Refusal>
+    ensures { IfErr result EndsThreads }
+{
+    let stop = AtomicBool::new(false);
+    let seats = seated(alloc, workers)?;
+    if !run_all(rt, alloc, seats.as_slice(), gate, &stop) {
+        return Err(Refusal::NoThread);
+    }
+    first_told(seats)
+}
