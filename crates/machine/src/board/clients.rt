@@ -2,7 +2,7 @@
 //! the frontiers beyond which views may be read. If a change may not be fed, or a frontier would go
 //! back, the call is refused and the event is a look. The history then shows that the client was
 //! there and did nothing.
-ghost use Rattle.std.specs.Prelude.{◌≡◌, ◌<◌, ◌≤◌, ◌+◌, List, [], ◌∷◌, None, IfErr, IfOk, IsTrue, OnErr, OnOk, length, ⊥};
+ghost use Rattle.std.specs.Prelude.{◌≡◌, ◌<◌, ◌≤◌, ◌+◌, List, [], ◌∷◌, None, IfErr, IfOk, IsTrue, OnErr, OnOk, length};
 ghost use Rattle.update.specs.declared.refusal.Refusal.TheVariants.{OutOfMemory};
 ghost use Rattle.update.specs.Refusals.{IsRefusalBy};
 ghost use Rattle.histories.specs.declared.event.Event.{Event};

@@ -2,7 +2,7 @@
 //!
 //! Each call is one event of the client, and its answer is right for the state that its tenure
 //! found. Its clause is that of its twin in `client`, but that the board is never away.
-ghost use Rattle.std.specs.Prelude.{◌≡◌, ◌≤◌, ◌<◌, ◌↔◌, [], None, Ok, IsTrue, length, ⊥};
+ghost use Rattle.std.specs.Prelude.{◌≡◌, ◌≤◌, ◌<◌, ◌↔◌, [], None, Ok, IsTrue, length};
 ghost use Rattle.antichain.specs.Antichains.{SameElements};
 ghost use Rattle.update.specs.Refusals.{IsRefusalBy};
 ghost use Rattle.update.specs.declared.refusal.Refusal.TheVariants.{OutOfMemory};
