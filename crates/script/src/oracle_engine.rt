@@ -31,7 +31,7 @@ use crate::outputs::Out;
 use crate::run::run;
 use antichain::{Antichain, is_beyond};
 use grammar::Script;
-use lattice::Bitime;
+use lattice::{Bitime, Minimum};
 use machine::InputFrontiers;
 use oracle::{differences, evaluate, inputs_before};
 use plan::{NodeId, Plan};
