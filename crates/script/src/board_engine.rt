@@ -133,15 +133,11 @@ impl<'a, R: Wait> Engine for BoardEngine<'a, R> {
         input: NodeId,
         update: Update<Bitime>,
     ) -> Result<(), Refusal> {
-        let columns = update.row.columns();
-        let told = self.client.feed_wait(
-            self.runtime,
-            alloc,
-            input,
-            columns,
-            update.time,
-            update.diff,
-        );
+        let Update { time, row, diff } = update;
+        let columns = row.columns();
+        let told = self
+            .client
+            .feed_wait(self.runtime, alloc, input, columns, time, diff);
         self.client.known();
         told
     }
