@@ -16,6 +16,11 @@ invariant_of-result g c =
       terms ∙ sym (ap (λ (t : Terms). terms_for t.dataflow.nodes 1 1) terms),
     )
 
+pub returns-clause-plan : goal.returns-clause-plan
+returns-clause-plan g c =
+    let there : slice_get c.in_ok-seats.seats.items 0 ≡ Some c.unwrap-client.result = search rules in
+    ap (λ es. (terms_in es).dataflow.nodes) (c.in_ok-seats.ensures.opened.each_client 0 c.unwrap-client.result there).seen
+
 pub returns-clause-stands : goal.returns-clause-stands
 returns-clause-stands g c =
     let there : slice_get c.in_ok-seats.seats.items 0 ≡ Some c.unwrap-client.result = search rules in
