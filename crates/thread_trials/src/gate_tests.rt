@@ -12,6 +12,7 @@ use trials::sketches::{at, built, input, view};
 use update::Update;
 
 // Where two workers meet after the first step of each that took something.
+#[derive(Drop)]
 struct Meeting {
     first: AtomicU64,
     second: AtomicU64,
