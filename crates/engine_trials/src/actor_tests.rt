@@ -53,8 +53,10 @@ impl<T: Minimum> Client<T> {
     }
 
     // Moves the frontier of the input to one time.
-    fn advance<R: Wait>(&mut self, rt: &R, time: T) -> Result<(), Refusal> {
-        self.actor.advance(rt, NodeId::new(0), &[time])
+    fn advance<R: Wait>(&mut self, rt: &R, alloc: Global, time: T) -> Result<(), Refusal> {
+        let mut times = Vec::new(alloc);
+        times.push(time)?;
+        self.actor.advance(rt, NodeId::new(0), times.as_slice())
     }
 
     fn close<R: Wait>(&mut self, rt: &R) {
@@ -144,8 +146,8 @@ fn is_fed<T: Minimum, R: Wait + Abort>(
         Err(Refusal::OutOfMemory) => client.feed(rt, alloc, start)?,
         done => done?,
     }
-    match client.advance(rt, later) {
-        Err(Refusal::OutOfMemory) => client.advance(rt, later)?,
+    match client.advance(rt, alloc, later) {
+        Err(Refusal::OutOfMemory) => client.advance(rt, alloc, later)?,
         done => done?,
     }
     let late = match client.feed(rt, alloc, start) {
