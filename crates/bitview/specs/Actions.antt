@@ -1,5 +1,5 @@
 -- What the program can be asked for, and what it then writes.
-use Rattle.std.specs.Prelude.{◌≡◌, ℕ, List, [], ◌∷◌, ◌++◌, length, codes, decimal}
+use Rattle.std.specs.Prelude.{◌≤◌, ℕ, List, [], ◌∷◌, ◌++◌, length, codes, decimal}
 use Rattle.grammar.specs.ScriptModels.{ScriptModel}
 use Rattle.script.specs.Ends.{IsTextBeforeOverflow}
 use Rattle.script.specs.Text.{text}
@@ -8,7 +8,7 @@ use Rattle.bitview.specs.declared.command_line.Action.TheVariants.{Run, Plain, C
 
 -- the number of workers is supported
 abbrev pub IsInRange : Action → Type 0
-IsInRange (Run file workers) = workers ≡ 1
+IsInRange (Run file workers) = (1 ≤ workers) × (workers ≤ 16)
 IsInRange (Plain file) = Unit {0}
 IsInRange (Check file) = Unit {0}
 

@@ -13,8 +13,10 @@ ghost use Rattle.bitview.specs.Acts.{Acts, IsCarriedOut, status_of, fault_status
 use crate::command_line::Action;
 use grammar::{Fault, Script, parse};
 use script::{Out, RunFault, plain_script, put_all, run_script};
+use session::OpenGate;
 use std::alloc::{AllocError, Global};
 use std::sync::Wait;
+use std::thread::Threads;
 
 /// Carries out the action on the file's bytes, or on `None` if the file was not read. The script's
 /// text, or for `check` the number of its nodes and commands, goes to the first output. One line
@@ -24,14 +26,14 @@ use std::sync::Wait;
 /// |---|---|---|
 /// | 0 | done, refused commands included | none |
 /// | 2 | the file is at fault | `fault line L code C` |
-/// | 3 | memory was refused, or the file or the output failed | `no memory`; `cannot read FILE`; `cannot write` |
+/// | 3 | memory was refused or a thread could not be made, or the file or the output failed | `no memory`; `no thread`; `cannot read FILE`; `cannot write` |
 /// | 4 | a number does not fit in 64 bits | `overflow` |
 ///
 /// Status 4 comes only if the changes give some node a bound of 2 to the 63 or more. Then exactly
 /// the text of the lines before the one that asked for the number was written.
 ///
 /// Cost: that of parsing the script and of running it. The bytes are given back before it runs.
-pub fn act<R: Wait, W: Out, E: Out>(
+pub fn act<R: Threads + Wait + Sync, W: Out, E: Out>(
     runtime: &R,
     alloc: Global,
     action: Action<'_>,
@@ -78,7 +80,7 @@ fn parsed(alloc: Global, bytes: Vec<u8>) -> Result<Script, Fault>
 }
 
 // Parses the bytes of the file and carries out the action.
-fn act_on<R: Wait, W: Out, E: Out>(
+fn act_on<R: Threads + Wait + Sync, W: Out, E: Out>(
     runtime: &R,
     alloc: Global,
     action: Action<'_>,
@@ -101,7 +103,7 @@ fn act_on<R: Wait, W: Out, E: Out>(
 }
 
 // Carries out the action on a script.
-fn carry_out<R: Wait, W: Out, E: Out>(
+fn carry_out<R: Threads + Wait + Sync, W: Out, E: Out>(
     runtime: &R,
     alloc: Global,
     action: Action<'_>,
@@ -121,7 +123,7 @@ fn carry_out<R: Wait, W: Out, E: Out>(
 }
 
 // Writes the text that the action asks for.
-fn write_asked<R: Wait, W: Out>(
+fn write_asked<R: Threads + Wait + Sync, W: Out>(
     runtime: &R,
     alloc: Global,
     action: Action<'_>,
@@ -138,7 +140,7 @@ fn write_asked<R: Wait, W: Out>(
         × IsPartBeforeOverflow action.entry script.now part × W.took out.old part 0 out.new) }
 {
     match action {
-        Action::Run { workers, .. } => run_script(runtime, alloc, script, workers, out),
+        Action::Run { workers, .. } => run_script(runtime, alloc, script, workers, out, &OpenGate),
         Action::Plain { .. } => plain_script(alloc, script, out),
         Action::Check { .. } => write_size(alloc, script, out),
     }
@@ -158,8 +160,8 @@ fn write_size<W: Out>(alloc: Global, script: &Script, out: &mut W) -> Result<(),
     Ok(())
 }
 
-// Reports why a run ended early. Only codes 1 and 10 occur today: the number of workers is always
-// 1, and there are no threads that might not start.
+// Reports why a run ended early. Beside codes 10 and 1 that is 24 alone, since the number of workers
+// is in range.
 fn end<E: Out>(alloc: Global, fault: RunFault, error: &mut E) -> u8
     ensures { result ≡ status_of fault }
 {

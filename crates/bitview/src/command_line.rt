@@ -8,7 +8,7 @@ use std::alloc::{AllocError, Global};
 
 // The text after the options in the help. `docs/SCRIPT.md` says the same in more detail.
 const AFTER_HELP: &str = "Example:
-  bitview run examples/late_correction.bv --workers 1
+  bitview run examples/late_correction.bv --workers 4
 
 FILE may be /dev/stdin. Nothing is written before the file ends. A line ends with a
 newline alone: a carriage return is part of the word before it.
@@ -17,7 +17,7 @@ Statuses:
   0  done, refused lines included
   1  the command line was not understood, or help or the version was asked for
   2  the file is at fault: `fault line L code C` on standard error
-  3  no memory, the file was not read, or the output failed
+  3  no memory or no thread, the file was not read, or the output failed
   4  overflow: a number is no 64-bit number
 
 Refusals: `refused LINE CODE` on standard output. The line changes nothing, and the
@@ -50,6 +50,9 @@ Faults: `fault line L code C` on standard error. Nothing is run.
 
 docs/SCRIPT.md describes the lines of a file.";
 
+// The greatest number of workers.
+const MOST_WORKERS: u64 = 16;
+
 /// What the command line asks for.
 #[derive(Clone, Copy)]
 pub enum Action<'a> {
@@ -57,7 +60,7 @@ pub enum Action<'a> {
     Run {
         /// The file's name.
         file: &'a str,
-        /// The number of workers. For now it is 1.
+        /// The number of workers, 1 to 16.
         workers: u64,
     },
     /// Writes the same text without workers, with every answer computed from scratch.
@@ -115,8 +118,11 @@ fn asked_run<'a>(alloc: Global, file: &'a str, inner: &ArgMatches<'a>) -> Result
     ensures { IfOk result IsInRange }
 {
     match inner.get_one::<u64>("workers") {
-        Some(1) => Ok(Action::Run { file, workers: 1 }),
-        _ => Err(command(alloc)?.error(ErrorKind::InvalidValue, "the number of workers is 1")?),
+        Some(workers) if 1 <= workers && workers <= MOST_WORKERS => Ok(Action::Run {
+            file,
+            workers,
+        }),
+        _ => Err(command(alloc)?.error(ErrorKind::InvalidValue, "the workers are 1 to 16")?),
     }
 }
 
@@ -146,8 +152,8 @@ fn run<'a>(alloc: Global) -> Result<Command<'a>, AllocError> {
         .long("workers")
         .value_name("N")
         .default_value("1")
-        .value_parser(clap::value_parser!(u64).range(1..2))
-        .help("How many workers, for now 1");
+        .value_parser(clap::value_parser!(u64).range(1..17))
+        .help("How many workers, 1 to 16");
     Command::new(alloc, "run")
         .about("Runs a command file by workers, and writes what it asks for")
         .arg(file(alloc))?

@@ -25,6 +25,7 @@ use std::env::Env;
 use std::fs::Files;
 use std::process::ExitCode;
 use std::sync::Wait;
+use std::thread::Threads;
 use std::{env, fs, io, str};
 
 fn main(rt: HostRuntime) -> ExitCode {
@@ -71,7 +72,7 @@ fn slices<'a>(alloc: Global, given: &'a [String]) -> Result<Vec<&'a str>, AllocE
 }
 
 // Carries out what the arguments ask for, and returns the status.
-fn answer<R: Files + AllocGlobal + Print + Eprint + Wait>(
+fn answer<R: Files + AllocGlobal + Print + Eprint + Threads + Wait + Sync>(
     rt: &R,
     alloc: Global,
     given: &[String],
@@ -83,7 +84,7 @@ fn answer<R: Files + AllocGlobal + Print + Eprint + Wait>(
 }
 
 // Parses the arguments and performs their action.
-fn parse_and_perform<R: Files + AllocGlobal + Print + Eprint + Wait>(
+fn parse_and_perform<R: Files + AllocGlobal + Print + Eprint + Threads + Wait + Sync>(
     rt: &R,
     alloc: Global,
     given: &[&str],
@@ -95,7 +96,7 @@ fn parse_and_perform<R: Files + AllocGlobal + Print + Eprint + Wait>(
 }
 
 // Reads the file and acts on its bytes.
-fn perform<R: Files + AllocGlobal + Print + Eprint + Wait>(
+fn perform<R: Files + AllocGlobal + Print + Eprint + Threads + Wait + Sync>(
     rt: &R,
     alloc: Global,
     action: Action<'_>,

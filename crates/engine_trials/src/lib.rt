@@ -12,6 +12,8 @@
 #[cfg(test)]
 mod actor_tests;
 #[cfg(test)]
+mod gate_tests;
+#[cfg(test)]
 mod gathered_tests;
 #[cfg(test)]
 mod hub_tests;

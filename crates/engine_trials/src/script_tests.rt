@@ -2,10 +2,12 @@
 //! taken, and the same script runs once there is memory.
 use grammar::{Fault, Script, parse};
 use script::{MemoryOut, RunFault, plain_script, run_script};
+use session::OpenGate;
 use std::alloc::Global;
 use std::process::Abort;
 use std::sync::Wait;
 use std::test::Fail;
+use std::thread::Threads;
 
 // The text of the script below.
 const TEXT: &str = "refused 5 8\nread v 0 0 1\n1 7\n";
@@ -67,26 +69,33 @@ fn script(alloc: Global, bytes: &[u8]) -> Result<Script, Fault> {
     }
 }
 
-// A run by one worker. Its contract says no more than the tests use, which keeps their proofs
+// A run by so many workers. Its contract says no more than the tests use, which keeps their proofs
 // short.
-fn run<R: Wait>(
+fn run<R: Threads + Wait + Sync>(
     rt: &R,
     alloc: Global,
     script: &Script,
+    workers: u64,
     out: &mut MemoryOut,
 ) -> Result<(), RunFault> {
-    run_script(rt, alloc, script, 1, out)
+    run_script(rt, alloc, script, workers, out, &OpenGate)
 }
 
 // Runs the script of these bytes, again if memory was refused. The output then has the text, and a
 // refused run leaves a beginning of it.
-fn writes<R: Wait + Abort>(rt: &R, alloc: Global, bytes: &[u8], text: &str) -> Result<(), Fail> {
+fn writes<R: Threads + Wait + Abort + Sync>(
+    rt: &R,
+    alloc: Global,
+    workers: u64,
+    bytes: &[u8],
+    text: &str,
+) -> Result<(), Fail> {
     let script = script(alloc, bytes)?;
     let mut out = MemoryOut::new(alloc);
-    if run(rt, alloc, &script, &mut out).is_err() {
+    if run(rt, alloc, &script, workers, &mut out).is_err() {
         assert!(rt; text.as_bytes().starts_with(out.bytes()));
         out = MemoryOut::new(alloc);
-        run(rt, alloc, &script, &mut out)?;
+        run(rt, alloc, &script, workers, &mut out)?;
     }
     assert_eq!(rt; out.bytes(), text.as_bytes());
     Ok(())
@@ -94,12 +103,20 @@ fn writes<R: Wait + Abort>(rt: &R, alloc: Global, bytes: &[u8], text: &str) -> R
 
 #[test]
 fn runs_take_memory(rt: HostRuntime) -> Result<(), Fail> {
-    writes(&rt, rt.alloc(), SCRIPT, TEXT)
+    writes(&rt, rt.alloc(), 1, SCRIPT, TEXT)
 }
 
 #[test]
 fn runs_of_every_kind_take_memory(rt: HostRuntime) -> Result<(), Fail> {
-    writes(&rt, rt.alloc(), EVERY_KIND, EVERY_KIND_TEXT)
+    writes(&rt, rt.alloc(), 1, EVERY_KIND, EVERY_KIND_TEXT)
+}
+
+#[test]
+fn runs_on_threads_take_memory(rt: HostRuntime) -> Result<(), Fail> {
+    for workers in [2, 3, 16] {
+        writes(&rt, rt.alloc(), workers, EVERY_KIND, EVERY_KIND_TEXT)?;
+    }
+    Ok(())
 }
 
 #[test]

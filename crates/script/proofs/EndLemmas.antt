@@ -7,7 +7,7 @@ use Rattle.lattice.specs.Frontiers.{is_beyond}
 use Rattle.lattice.specs.Pairs.{make_pair}
 use Rattle.update.specs.Refusals.{code_of, IsMemoryOrOverflow}
 use Rattle.update.specs.declared.refusal.Refusal.{Refusal}
-use Rattle.update.specs.declared.refusal.Refusal.TheVariants.{OutOfMemory, Overflow, NotPassed, GivenUp}
+use Rattle.update.specs.declared.refusal.Refusal.TheVariants.{OutOfMemory, Overflow, NoThread, NotPassed, GivenUp}
 use Rattle.plan.specs.Rules.{first_refusal}
 use Rattle.plan.specs.declared.node.Node.{Node}
 use Rattle.grammar.specs.declared.command.Command.{Command}
@@ -20,7 +20,7 @@ use Rattle.histories.specs.Histories.Readings.{is_from_start}
 use Rattle.outstanding.specs.Inputs.{front_at, feed_faults, advance_faults}
 use Rattle.histories.specs.Histories.States.{fed_to}
 use Rattle.script.specs.Ends.{IsTextBefore}
-use Rattle.script.specs.Engines.{EndsRun, IsEnd, IsRunEnd}
+use Rattle.script.specs.Engines.{EndsRun, IsCrewEnd, IsEnd, IsRunEnd}
 use Rattle.script.specs.Sessions.{view_frontier}
 use Rattle.script.specs.Text.{BitemporalSession, HoldsAlong, command_refusal, frontier_made}
 use Rattle.lattice.specs.Bitimes.{bitime_below}
@@ -49,6 +49,34 @@ cause_of_end {Ends} ending (fault.Refused code) (inr end) is = by (ending end.0 
     by (inr (inl large)) = subst Ends large end.2
     by (inr (inr thread)) = let ten = end.1 ∙ ap code_of thread in absurd cc
 cause_of_end ending fault.Write e is = absurd cc
+
+-- ---- the ends of a run by a crew
+
+-- weakens the cause of an end by a crew
+pub crew_weaker : {A B : Refusal → Type 0} → ((refusal : Refusal) → A refusal → B refusal) → (f : RunFault) → IsCrewEnd A f → IsCrewEnd B f
+crew_weaker h f (inl end) = inl (end_weaker h f end)
+crew_weaker h f (inr thread) = inr thread
+
+-- if a crew's run ended with an overflow, the engine refused with `Overflow`
+pub cause_of_crew_end : {Ends : Refusal → Type 0} → ((refusal : Refusal) → Ends refusal → EndsRun refusal) → (f : RunFault) → IsCrewEnd Ends f → f ≡ fault.Refused 10 → Ends Overflow
+cause_of_crew_end ending f (inl end) is = cause_of_end ending f end is
+cause_of_crew_end ending f (inr thread) is = let other = sym is ∙ thread in absurd cc
+
+-- workers that ran ahead were refused for want of memory or of a thread
+pub ahead_end : (Ends : Refusal → Type 0) (refusal : Refusal) (f : RunFault) → (refusal ≡ OutOfMemory) ⊎ (refusal ≡ NoThread) → IsEnd (λ met. met ≡ refusal) f → IsCrewEnd Ends f
+ahead_end Ends refusal (fault.Refused code) why (inl memory) = inl (inl memory)
+ahead_end Ends refusal (fault.Refused code) (inl memory) (inr end) = inl (inl (end.1 ∙ ap code_of (end.2 ∙ memory)))
+ahead_end Ends refusal (fault.Refused code) (inr thread) (inr end) = inr (ap fault.Refused (end.1 ∙ ap code_of (end.2 ∙ thread)))
+ahead_end Ends refusal fault.Write why u = inl u
+
+pub ahead_ends : (Ends : Refusal → Type 0) {X : Type 0} (refusal : Refusal) (r : Result X RunFault) → (refusal ≡ OutOfMemory) ⊎ (refusal ≡ NoThread) → IfErr r (IsEnd (λ met. met ≡ refusal)) → IfErr r (IsCrewEnd Ends)
+ahead_ends Ends refusal (Ok x) why e = tt
+ahead_ends Ends refusal (Err f) why e = ahead_end Ends refusal f why e
+
+-- so none of them ends with an overflow
+pub ahead_is_small : {X : Type 0} (C : RunFault → Type 0) (refusal : Refusal) (r : Result X RunFault) → (refusal ≡ OutOfMemory) ⊎ (refusal ≡ NoThread) → IfErr r (IsEnd (λ met. met ≡ refusal)) → IfErr r (λ f. f ≡ fault.Refused 10 → C f)
+ahead_is_small C refusal (Ok x) why e = tt
+ahead_is_small C refusal (Err f) why e = λ ten. absurd (cause_of_crew_end {Ends = λ other. ⊥} (λ other none. absurd none) f (ahead_end (λ other. ⊥) refusal f why e) ten)
 
 -- ---- a session goes on after its own refusals
 
@@ -108,7 +136,48 @@ bound_end p s lines (fault.Refused code) (inr (refusal, is, (done, rest, split, 
 bound_end p s lines (fault.Refused code) (inr (refusal, is, (done, rest, split, inr large))) = inr (is ∙ ap code_of large.0, (done, rest, split, large.1))
 bound_end p s lines fault.Write u = u
 
--- answers the clause `known` of run_script and plain_script
+-- no end of a run is that of a number of workers
+not_a_run_end : (L : Type 0) (code : ℕ) → code ≡ 23 → IsRunEnd L (fault.Refused code) → ⊥
+not_a_run_end L code is (inl memory) = let one = sym is ∙ memory in absurd cc
+not_a_run_end L code is (inr large) = let ten = sym is ∙ large.0 in absurd cc
+
+pub not_for_workers : {X : Type 0} (L : Type 0) (r : Result X RunFault) → IfErr r (IsRunEnd L) → r ≡ Err (fault.Refused 23) → ⊥
+not_for_workers {X} L r e is = not_a_run_end L 23 refl (subst (λ (x : Result X RunFault). IfErr x (IsRunEnd L)) is e)
+
+-- answers the clause `known` of run_script
+pub crew_ends : {X : Type 0} (p : List Node) (s : BitemporalSession) (lines : List CommandLine) (r : Result X RunFault)
+    → IfErr r (IsCrewEnd (λ refusal. HoldsAlong (λ now. EndsByBound p now refusal) p s lines)) → IfErr r (λ f. IsRunEnd (IsLargeAlong p s lines) f ⊎ ((f ≡ fault.Refused 23) ⊎ (f ≡ fault.Refused 24)))
+crew_ends p s lines (Ok x) e = tt
+crew_ends p s lines (Err f) (inl end) = inl (bound_end p s lines f end)
+crew_ends p s lines (Err f) (inr thread) = inr (inr thread)
+
+-- a run by a crew is not refused for its number of workers
+abbrev code_met : RunFault → ℕ
+code_met (fault.Refused code) = code
+code_met fault.Write = 0
+
+apart : (code : ℕ) → code ≡ 23 → code ≡ 24 → ⊥
+apart code is other = true≢false (sym (ap (λ n. eqb n 23) is) ∙ ap (λ n. eqb n 23) other)
+
+not_a_crew_end : (Ends : Refusal → Type 0) (L : Type 0) → ((f : RunFault) → IsEnd Ends f → IsRunEnd L f) → (code : ℕ) → code ≡ 23 → IsCrewEnd Ends (fault.Refused code) → ⊥
+not_a_crew_end Ends L run_end code is (inl end) = not_a_run_end L code is (run_end (fault.Refused code) end)
+not_a_crew_end Ends L run_end code is (inr thread) = apart code is (ap code_met thread)
+
+pub crew_counts : {X : Type 0} (p : List Node) (s : BitemporalSession) (lines : List CommandLine) (r : Result X RunFault)
+    → IfErr r (IsCrewEnd (λ refusal. HoldsAlong (λ now. EndsByBound p now refusal) p s lines)) → r ≡ Err (fault.Refused 23) → ⊥
+crew_counts {X} p s lines r e is =
+    let Ends : Refusal → Type 0 = λ refusal. HoldsAlong (λ now. EndsByBound p now refusal) p s lines in
+    not_a_crew_end Ends (IsLargeAlong p s lines) (bound_end p s lines) 23 refl (subst (λ (x : Result X RunFault). IfErr x (IsCrewEnd Ends)) is e)
+
+-- an answer is not a refusal
+abbrev IsAnswer : {A B : Type 0} → Result A B → Type 0
+IsAnswer (Ok x) = Unit {0}
+IsAnswer (Err e) = ⊥
+
+pub not_both : {A B : Type 0} (x : A) (e : B) (r : Result A B) → r ≡ Ok x → r ≡ Err e → ⊥
+not_both x e r ok err = subst IsAnswer (sym ok ∙ err) tt
+
+-- answers the clause `known` of plain_script
 pub bound_ends : {X : Type 0} (p : List Node) (s : BitemporalSession) (lines : List CommandLine) (r : Result X RunFault)
     → IfErr r (IsEnd (λ refusal. HoldsAlong (λ now. EndsByBound p now refusal) p s lines)) → IfErr r (IsRunEnd (IsLargeAlong p s lines))
 bound_ends p s lines (Ok x) e = tt
@@ -133,11 +202,3 @@ overflow_texts t s lines Took (Err f) e = λ ten. let met = e ten in (met.0, bou
 pub refusal_weaker : {A B : Type 0} → (A → B) → (r : Refusal) → IsMemoryOrOverflow A r → IsMemoryOrOverflow B r
 refusal_weaker h r (inl memory) = inl memory
 refusal_weaker h r (inr large) = inr (large.0, h large.1)
-
--- a run by one worker is not refused for its number of workers
-not_a_run_end : (L : Type 0) (code : ℕ) → code ≡ 23 → IsRunEnd L (fault.Refused code) → ⊥
-not_a_run_end L code is (inl memory) = let one = sym is ∙ memory in absurd cc
-not_a_run_end L code is (inr large) = let ten = sym is ∙ large.0 in absurd cc
-
-pub not_for_workers : {X : Type 0} (L : Type 0) (r : Result X RunFault) → IfErr r (IsRunEnd L) → r ≡ Err (fault.Refused 23) → ⊥
-not_for_workers {X} L r e is = not_a_run_end L 23 refl (subst (λ (x : Result X RunFault). IfErr x (IsRunEnd L)) is e)

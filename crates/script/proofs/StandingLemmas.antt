@@ -1,6 +1,6 @@
 -- The board engine still stands for a session after its client's events, whatever others did in
 -- between.
-use Rattle.std.proofs.Common.{◌≡◌, ℕ, suc, ◌++◌, ◌∷◌, ◌<◌, Bool, ltb-true, List, [], length, Option, Some, None, Result, Ok, Err, IsTrue, refl, sym, ◌∙◌, ap, subst, inl, inr, ◌⊎◌}
+use Rattle.std.proofs.Common.{arith, ◌≡◌, ℕ, suc, ◌+◌, ◌++◌, ◌∷◌, ◌<◌, Bool, ltb-true, List, [], length, Option, Some, None, Result, Ok, Err, IsTrue, refl, sym, ◌∙◌, ap, subst, inl, inr, ◌⊎◌}
 use Rattle.std.specs.Cmp.{IsTotalOrder}
 use Rattle.std.specs.Prelude.{IfErr, OnOk, OnErr}
 use Rattle.std.specs.declared.cmp.Ordering.{Ordering}
@@ -68,6 +68,9 @@ pub none_from : {A : Type 0} (o : Option A) → ((x : A) → o ≡ Some x → �
 none_from None none = refl
 none_from (Some x) none = absurd (none x refl)
 
+one_more : (n : ℕ) → n + 1 ≡ suc n
+one_more n = omega arith
+
 -- ---- a tenure of the only client
 
 module _ {T : Type 0} (below : T → T → Bool) (minimum : T) (o : PartialOrderLaws below) where
@@ -83,7 +86,7 @@ module _ {T : Type 0} (below : T → T → Bool) (minimum : T) (o : PartialOrder
     pub caught : (v : ℕ) → IsQuiet below (dataflow_of old) (state_found below minimum new)
         → SameElements (frontier below (dataflow_of old) (state_found below minimum new) v) (least below (open_for below (dataflow_of old).nodes (λ i. open_at i (state_found below minimum new).open_times) v))
 
-  pub client_step : (old new : Known (Doing T)) (event : Event T) → old.number ≡ (dataflow_of old).workers → (terms_in old.seen).actors ≡ suc (dataflow_of old).workers → IsActor below minimum new → Adds old event new → IsClientStep old new event
+  pub client_step : (old new : Known (Doing T)) (event : Event T) → old.number ≡ (dataflow_of old).workers → (terms_in old.seen).actors ≡ (dataflow_of old).workers + 1 → IsActor below minimum new → Adds old event new → IsClientStep old new event
   client_step old new event number one actor adds = subst (λ k. IsClientStep old k event) (sym adds.new_is) (made (subst (IsActor below minimum) adds.new_is actor))
     where
       after : Known (Doing T)
@@ -95,11 +98,12 @@ module _ {T : Type 0} (below : T → T → Bool) (minimum : T) (o : PartialOrder
           let p = dataflow_of old in
           let w = left_by below minimum p (adds.others ++ old.seen) in
           let apart = subst (λ n. NoneBy n adds.others) number adds.apart in
+          let alone = one ∙ one_more p.workers in
           record {
             number = refl;
             terms = refl;
-            clients = only_client below minimum p t p.workers adds.others old.seen refl one apart actor.known.1 actor.legal.1;
-            quiet = λ quiet. stays below minimum p t p.workers adds.others old.seen refl one apart actor.known.1 actor.legal.1 quiet;
+            clients = only_client below minimum p t p.workers adds.others old.seen refl alone apart actor.known.1 actor.legal.1;
+            quiet = λ quiet. stays below minimum p t p.workers adds.others old.seen refl alone apart actor.known.1 actor.legal.1 quiet;
             left = refl;
             dataflow = actor.dataflow;
             caught = λ v quiet. caught_up_lem below o p actor.dataflow w v (λ x m. (in_place_lem p actor.dataflow below minimum (events (adds.others ++ old.seen)) actor.legal.1).inputs x (contains_among x w.open_times m)) quiet;
@@ -155,7 +159,7 @@ module _ {T : Type 0} (below : T → T → Bool) (minimum : T) (o : PartialOrder
   same_frontier_refusal : (p : Dataflow) (w : State T) (s : Session T) (i : ℕ) (ts : List T) → HasSession p w s → advance_refusal_in below w i ts ≡ frontier_refusal below p.nodes s i ts
   same_frontier_refusal p w s i ts a = λ j. first_refusal (advance_faults below (a.inputs i j) ts)
 
-  module _ (old new : Known (Doing T)) (number : old.number ≡ (dataflow_of old).workers) (one : (terms_in old.seen).actors ≡ suc (dataflow_of old).workers) (actor : IsActor below minimum new) (s : Session T) (r : Result (Unit {0}) Refusal) (a : StandsAs below minimum old s) where
+  module _ (old new : Known (Doing T)) (number : old.number ≡ (dataflow_of old).workers) (one : (terms_in old.seen).actors ≡ (dataflow_of old).workers + 1) (actor : IsActor below minimum new) (s : Session T) (r : Result (Unit {0}) Refusal) (a : StandsAs below minimum old s) where
     abbrev p : Dataflow
     p = dataflow_of old
 
@@ -203,9 +207,9 @@ module _ {T : Type 0} (below : T → T → Bool) (minimum : T) (o : PartialOrder
 
   -- ---- before the first command
 
-  -- the client's first look finds nothing but what the worker did
-  pub first_stands : (nodes : List Node) (k : Known (Doing T)) → IsActor below minimum k → IsFirst (terms_for nodes 1 1) 1 k → StandsAs below minimum k (first_session minimum nodes)
-  first_stands nodes k actor first = subst (λ (es : List (Entry (Doing T))). HasSession (terms_in es).dataflow (left_by below minimum (terms_in es).dataflow es) (first_session minimum nodes)) (sym first.seen)
+  -- the client's first look finds nothing but what the workers did
+  pub first_stands : (nodes : List Node) (workers : ℕ) (k : Known (Doing T)) → IsActor below minimum k → IsFirst (terms_for nodes workers 1) workers k → StandsAs below minimum k (first_session minimum nodes)
+  first_stands nodes workers k actor first = subst (λ (es : List (Entry (Doing T))). HasSession (terms_in es).dataflow (left_by below minimum (terms_in es).dataflow es) (first_session minimum nodes)) (sym first.seen)
       (session_found p (initial_state below minimum p) (left_by below minimum p first.others) (first_session minimum nodes) same (record {
         fed = refl;
         inputs = λ i. sym (first_front minimum nodes i);
@@ -214,15 +218,15 @@ module _ {T : Type 0} (below : T → T → Bool) (minimum : T) (o : PartialOrder
       }))
     where
       t : Terms
-      t = terms_for nodes 1 1
+      t = terms_for nodes workers 1
 
       p : Dataflow
       p = t.dataflow
 
-      known : AreKnown (entry 1 (doing t (Look 1)) ∷ first.others)
+      known : AreKnown (entry workers (doing t (Look workers)) ∷ first.others)
       known = subst AreKnown first.seen actor.known
 
-      legal : IsLegal below minimum p (Look 1 ∷ events first.others)
+      legal : IsLegal below minimum p (Look workers ∷ events first.others)
       legal = subst (λ (es : List (Entry (Doing T))). IsLegal below minimum (terms_in es).dataflow (events es)) first.seen actor.legal
 
       none : first.others ++ [] ≡ first.others
@@ -230,7 +234,7 @@ module _ {T : Type 0} (below : T → T → Bool) (minimum : T) (o : PartialOrder
 
       same : IsSameOfClients (initial_state below minimum p) (left_by below minimum p first.others)
       same = subst (λ es. IsSameOfClients (initial_state below minimum p) (left_by below minimum p es)) none
-          (only_client below minimum p t 1 first.others [] refl refl first.apart (subst (AreOn t) (sym none) known.1) (subst (λ es. IsLegal below minimum p (events es)) (sym none) legal.1))
+          (only_client below minimum p t workers first.others [] refl (one_more workers) first.apart (subst (AreOn t) (sym none) known.1) (subst (λ es. IsLegal below minimum p (events es)) (sym none) legal.1))
 
 -- a number that is too large has its cause in the session
 pub large_session : {T : Type 0} {below : T → T → Bool} {joined met : T → T → T} {cmp : T → T → Ordering} → PartialOrderLaws below → LatticeLaws below joined met → ExtendsLaws below cmp → IsTotalOrder cmp

@@ -60,7 +60,7 @@ module _ (p : List Node) where
   client_stands plan hub =
       let actor = looked_actor plan hub in
       let first = looked_first hub in
-      (looked hub, actor, first, first_stands bitime_below (make_pair 0 0) (pair_order nat_order nat_order) p (looked hub) actor first, record { in_flight = refl; hand = λ k l. refl; held = refl })
+      (looked hub, actor, first, first_stands bitime_below (make_pair 0 0) (pair_order nat_order nat_order) p 1 (looked hub) actor first, record { in_flight = refl; hand = λ k l. refl; held = refl })
 
   -- a register without changes
   abbrev blank : Register Bitime

@@ -1,13 +1,11 @@
--- The only worker of a board: what it has left when it pauses.
-use Rattle.std.specs.Prelude.{◌≡◌, ℕ, Bool, false, ⊤}
+-- A worker that pauses: what it has left.
+use Rattle.std.specs.Prelude.{◌≡◌, ℕ, Bool, false}
 use Rattle.lattice.specs.declared.product.Pair.{Pair}
 use Rattle.machine.specs.Boards.Pieces.{HasNoPiece}
 use Rattle.desk_laws.specs.declared.hand.Hand.TheVariants.{Free}
 use Rattle.shared_board.specs.Found.{dataflow_of}
 use Rattle.shared_board.specs.Tenures.{state_found}
 use Rattle.steps.specs.Workers.{WorkerView}
-use Rattle.script.specs.declared.sole_worker.Work.{Work}
-use Rattle.script.specs.declared.sole_worker.Work.TheVariants.{Runs, Stopped}
 
 module _ (below : Pair ℕ ℕ → Pair ℕ ℕ → Bool) (minimum : Pair ℕ ℕ) where
   -- the worker goes on. It has nothing in hand, and when it looked last there was no piece for it
@@ -15,8 +13,3 @@ module _ (below : Pair ℕ ℕ → Pair ℕ ℕ → Bool) (minimum : Pair ℕ �
     pub going : w.failed ≡ false
     pub free : w.hand ≡ Free
     pub none : HasNoPiece below (dataflow_of w.known) (state_found below minimum w.known) w.known.number
-
-  -- so it is with the worker, or it was stopped
-  abbrev pub HasPaused : Work → Type 0
-  HasPaused (Runs worker) = HasNothingToDo worker
-  HasPaused (Stopped refusal) = ⊤

@@ -33,8 +33,12 @@ IsEnd Ends (fault.Refused code) = (code ≡ 1)
     ⊎ ((refusal : Refusal) × (code ≡ code_of refusal) × Ends refusal)
 IsEnd Ends fault.Write = Unit {0}
 
--- why a run by one worker may end early: the output failed, memory was refused, or a number is too
--- large for this cause
+-- why a run by a crew may end early: as by another engine, or a thread could not be made
+abbrev pub IsCrewEnd : (Refusal → Type 0) → RunFault → Type 0
+IsCrewEnd Ends met = IsEnd Ends met ⊎ (met ≡ fault.Refused 24)
+
+-- why a run may end early for all that its threads do: the output failed, memory was refused, or a number
+-- is too large for this cause
 abbrev pub IsRunEnd : Type 0 → RunFault → Type 0
 IsRunEnd Large (fault.Refused code) = (code ≡ 1) ⊎ ((code ≡ 10) × Large)
 IsRunEnd Large fault.Write = Unit {0}

@@ -12,17 +12,18 @@
 //!
 //! - The loop over the lines (`run`, `line`) talks to an `Engine`, which carries out commands and
 //!   stands for a session. A command either changes an input or asks about a view. Before a
-//!   question, the loop lets the engine catch up.
-//! - There are two engines. `board_engine` reaches a board of crate `machine` through a hub:
-//!   commands are events of its client there, and its worker (`sole_worker`, over crate `steps`)
-//!   carries on what is in flight. The theorems about histories then say that its views are right.
+//!   question, the loop lets the engine catch up, and the workers of a crew run ahead.
+//! - There are two engines. `crew` is a session of crate `session`: commands are events of its
+//!   client on a board, and its workers carry on what is in flight, on threads of their own or on the
+//!   caller's (`employment`). The theorems about histories then say that its views are right.
 //!   `oracle_engine` keeps the changes and computes each answer from scratch, by crate `oracle`. So
 //!   the text of the first engine can be compared with that of the second.
 //! - Printed text (`printer`) is collected in an `output_buffer` and goes in large pieces to an
 //!   [`Out`], whose contract says which bytes it took.
 #![tactic(auto)]
 
-mod board_engine;
+mod crew;
+mod employment;
 mod engine;
 mod fault;
 mod laws;
@@ -33,7 +34,6 @@ mod output_buffer;
 mod outputs;
 mod printer;
 mod run;
-mod sole_worker;
 
 pub use fault::RunFault;
 pub use laws::{

@@ -101,7 +101,11 @@ fn hand_since<E: Engine>(
 }
 
 // Ends the run. The whole text of the earlier lines is written first.
-fn end_run<W: Out>(buffer: &mut OutputBuffer, out: &mut W, refusal: Refusal) -> Result<(), RunFault>
+pub(crate) fn end_run<W: Out>(
+    buffer: &mut OutputBuffer,
+    out: &mut W,
+    refusal: Refusal,
+) -> Result<(), RunFault>
     ensures ends { OnOk result ⊥ }
     ensures broke { IfErr result
         (λ fault. Broke W.took out.old buffer.old [] (failures fault) out.new) }

@@ -1,23 +1,33 @@
-//! The loop over the lines of a script, and a run by one worker.
-ghost use Rattle.std.specs.Prelude.{◌≡◌, ◌≢◌, ◌⊎◌, ◌↔◌, ◌++◌, ℕ, List, [], IfErr, OnOk, IsErrOf};
-ghost use Rattle.script.specs.Ends.{IsTextBefore, IsTextBeforeOverflow};
+//! The loop over the lines of a script, and a run by workers.
+//!
+//! A crew's loop is the same with one thing more: before a question its workers run ahead. It is a
+//! function of its own, since threads need a runtime whose bounds stand at the function.
+ghost use Rattle.std.specs.Prelude.{◌≡◌, ◌⊎◌, ◌↔◌, ◌++◌, ℕ, List, [], IfErr, OnOk, IsErrOf};
+ghost use Rattle.lattice.specs.Bitimes.{bitime_below};
+ghost use Rattle.lattice.specs.Pairs.{make_pair};
 ghost use Rattle.update.specs.declared.refusal.Refusal.TheVariants.{Overflow};
-ghost use Rattle.script.specs.Engines.{IsEnd, IsRunEnd, failures};
+ghost use Rattle.grammar.specs.Commands.{IsAbout, IsQuestion};
+ghost use Rattle.shared_board.specs.Found.{dataflow_of};
+ghost use Rattle.session.specs.Openings.{AreCounts};
+ghost use Rattle.script.specs.Ends.{IsTextBefore, IsTextBeforeOverflow};
+ghost use Rattle.script.specs.Engines.{IsCrewEnd, IsEnd, IsRunEnd, failures};
 ghost use Rattle.script.specs.Outs.{IsBeginning, Wrote, Broke};
-ghost use Rattle.script.specs.Text.{BitemporalSession, HoldsAlong, lines_text, text};
-ghost use Rattle.script.specs.Bounds.{IsLargeScript};
+ghost use Rattle.script.specs.Standing.{StandsAs};
+ghost use Rattle.script.specs.Text.{BitemporalSession, HoldsAlong, after_command, lines_text, piece, text};
+ghost use Rattle.script.specs.Bounds.{EndsByBound, IsLargeScript};
 ghost use Rattle.script.specs.declared.fault.RunFault.TheVariants.{Refused};
 
-use crate::board_engine::BoardEngine;
+use crate::crew::Crew;
 use crate::engine::CatchUp;
 use crate::fault::RunFault;
-use crate::line::run_line;
+use crate::line::{end_run, run_line};
 use crate::output_buffer::OutputBuffer;
 use crate::outputs::Out;
-use grammar::Script;
+use grammar::{Command, CommandLine, Script};
+use session::Gate;
 use std::alloc::Global;
 use std::sync::Wait;
-use update::Refusal;
+use std::thread::Threads;
 
 // Carries out all lines in order. The text of the last ones may still wait in the buffer.
 fn run_lines<E: CatchUp, W: Out>(
@@ -83,8 +93,101 @@ pub(crate) fn run<E: CatchUp, W: Out>(
     Ok(())
 }
 
-/// Runs a script with workers and writes its text. All of it runs on the caller's thread; the
-/// runtime is that of the program.
+// Runs a line by a crew. Before a question its workers run ahead.
+fn run_crew_line<R: Threads + Wait + Sync, G: Gate + Sync, W: Out>(
+    alloc: Global,
+    crew: &mut Crew<'_, R>,
+    script: &Script,
+    line: &CommandLine,
+    gate: &G,
+    buffer: &mut OutputBuffer,
+    out: &mut W,
+) -> Result<(), RunFault>
+    requires plan { script.now.plan ≡ (dataflow_of crew.old).nodes }
+    requires about { IsAbout (dataflow_of crew.old).nodes line.now.command }
+    ensures plan { (dataflow_of crew.new).nodes ≡ (dataflow_of crew.old).nodes }
+    ensures ran { (s : BitemporalSession) → StandsAs bitime_below (make_pair 0 0) crew.old s
+        → OnOk result (StandsAs bitime_below (make_pair 0 0) crew.new
+        (after_command script.now.plan s line.now.command) × Wrote W.took out.old buffer.old
+        (piece script.now s line.now.line line.now.command) out.new buffer.new) }
+    ensures broke { (s : BitemporalSession) → StandsAs bitime_below (make_pair 0 0) crew.old s
+        → IfErr result (λ fault. Broke W.took out.old buffer.old
+        (piece script.now s line.now.line line.now.command) (failures fault) out.new) }
+    ensures overflow { (s : BitemporalSession) → StandsAs bitime_below (make_pair 0 0) crew.old s
+        → IfErr result (λ fault. fault ≡ Refused 10
+        → IsQuestion line.now.command × W.took out.old buffer.old 0 out.new) }
+    ensures known { (s : BitemporalSession) → StandsAs bitime_below (make_pair 0 0) crew.old s
+        → IfErr result (IsCrewEnd (EndsByBound script.now.plan s)) }
+{
+    if let Command::View(_) = line.command {
+        if let Err(refusal) = crew.run_ahead(alloc, gate) {
+            return end_run(buffer, out, refusal);
+        }
+    }
+    run_line(alloc, crew, script, line, buffer, out)
+}
+
+// Carries out all lines in order by a crew. The text of the last ones may still wait in the buffer.
+fn run_crew_lines<R: Threads + Wait + Sync, G: Gate + Sync, W: Out>(
+    alloc: Global,
+    crew: &mut Crew<'_, R>,
+    script: &Script,
+    gate: &G,
+    buffer: &mut OutputBuffer,
+    out: &mut W,
+) -> Result<(), RunFault>
+    requires plan { script.now.plan ≡ (dataflow_of crew.old).nodes }
+    ensures wrote { (s : BitemporalSession) → StandsAs bitime_below (make_pair 0 0) crew.old s
+        → OnOk result (Wrote W.took out.old buffer.old
+        (lines_text script.now s script.now.commands) out.new buffer.new) }
+    ensures broke { (s : BitemporalSession) → StandsAs bitime_below (make_pair 0 0) crew.old s
+        → IfErr result (λ fault. Broke W.took out.old buffer.old
+        (lines_text script.now s script.now.commands) (failures fault) out.new) }
+    ensures overflow { (s : BitemporalSession) → StandsAs bitime_below (make_pair 0 0) crew.old s
+        → IfErr result (λ fault. fault ≡ Refused 10 → (part : List ℕ)
+        × IsTextBefore (λ now. EndsByBound script.now.plan now Overflow) script.now s
+        script.now.commands part × W.took out.old (buffer.old ++ part) 0 out.new) }
+    ensures known { (s : BitemporalSession) → StandsAs bitime_below (make_pair 0 0) crew.old s
+        → IfErr result (IsCrewEnd (λ refusal. HoldsAlong
+        (λ now. EndsByBound script.now.plan now refusal) script.now.plan s script.now.commands)) }
+{
+    for line in script.command_lines() {
+        run_crew_line(alloc, crew, script, line, gate, buffer, out)?;
+    }
+    Ok(())
+}
+
+// Carries out a script by a crew that has its plan, as `run` does by an engine.
+fn run_crew<R: Threads + Wait + Sync, G: Gate + Sync, W: Out>(
+    alloc: Global,
+    crew: &mut Crew<'_, R>,
+    script: &Script,
+    gate: &G,
+    out: &mut W,
+) -> Result<(), RunFault>
+    requires plan { script.now.plan ≡ (dataflow_of crew.old).nodes }
+    ensures wrote { (s : BitemporalSession) → StandsAs bitime_below (make_pair 0 0) crew.old s
+        → OnOk result (W.took out.old (lines_text script.now s script.now.commands) 0 out.new) }
+    ensures broke { (s : BitemporalSession) → StandsAs bitime_below (make_pair 0 0) crew.old s
+        → IfErr result (λ fault. Broke W.took out.old []
+        (lines_text script.now s script.now.commands) (failures fault) out.new) }
+    ensures overflow { (s : BitemporalSession) → StandsAs bitime_below (make_pair 0 0) crew.old s
+        → IfErr result (λ fault. fault ≡ Refused 10 → (part : List ℕ)
+        × IsTextBefore (λ now. EndsByBound script.now.plan now Overflow) script.now s
+        script.now.commands part × W.took out.old part 0 out.new) }
+    ensures known { (s : BitemporalSession) → StandsAs bitime_below (make_pair 0 0) crew.old s
+        → IfErr result (IsCrewEnd (λ refusal. HoldsAlong
+        (λ now. EndsByBound script.now.plan now refusal) script.now.plan s script.now.commands)) }
+{
+    let mut buffer = OutputBuffer::new(alloc);
+    run_crew_lines(alloc, crew, script, gate, &mut buffer, out)?;
+    Ok(buffer.flush(out)?)
+}
+
+/// Runs a script with 1 to 16 workers and writes its text, which does not depend on their number.
+/// One worker steps on the caller's thread. Of more, each steps on a thread of its own whenever a
+/// question finds changes in flight, and passes the gate before each step. The runtime is that of
+/// the program.
 ///
 /// If the result is Ok, exactly the script's text was taken. After a fault, a beginning of it was.
 /// After `Refused(10)`, that beginning is the whole text of the lines before the one that
@@ -92,9 +195,10 @@ pub(crate) fn run<E: CatchUp, W: Out>(
 ///
 /// | Fault | When |
 /// |---|---|
-/// | `Refused(23)` | the number of workers is not 1; no other number is supported yet |
+/// | `Refused(23)` | the number of workers is not 1 to 16 |
 /// | `Refused(1)` | an allocation was refused |
 /// | `Refused(10)` | a number does not fit in 64 bits |
+/// | `Refused(24)` | a thread could not be made |
 /// | `Write` | the output failed; after any other fault, no call of the output has failed |
 ///
 /// `Refused(10)` comes only if the accepted changes give some node a bound of 2 to the 63 or more.
@@ -107,25 +211,23 @@ pub(crate) fn run<E: CatchUp, W: Out>(
 /// since the view's last read, if that read was at a time at or before this one. Otherwise it costs
 /// a sort of everything that the view captured up to its time. A question for changes sorts
 /// everything that the view captured at passed times.
-pub fn run_script<R: Wait, W: Out>(
+pub fn run_script<R: Threads + Wait + Sync, G: Gate + Sync, W: Out>(
     runtime: &R,
     alloc: Global,
     script: &Script,
     workers: u64,
     out: &mut W,
+    gate: &G,
 ) -> Result<(), RunFault>
     ensures written { OnOk result (W.took out.old (text script.now) 0 out.new) }
     ensures beginning { IfErr result (λ fault. (part : List ℕ) × IsBeginning part (text script.now)
         × W.took out.old part (failures fault) out.new) }
     ensures overflow { IfErr result (λ fault. fault ≡ Refused 10
         → (part : List ℕ) × IsTextBeforeOverflow script.now part × W.took out.old part 0 out.new) }
-    ensures workers { IsErrOf result (Refused 23) ↔ (workers ≢ 1) }
+    ensures workers { IsErrOf result (Refused 23) ↔ (AreCounts workers 1 → ⊥) }
     ensures known { IfErr result (λ fault. IsRunEnd (IsLargeScript script.now) fault
-        ⊎ (fault ≡ Refused 23)) }
+        ⊎ ((fault ≡ Refused 23) ⊎ (fault ≡ Refused 24))) }
 {
-    if workers != 1 {
-        return Err(RunFault::from(Refusal::BadWorkers));
-    }
-    let mut engine = BoardEngine::open(runtime, alloc, script.plan())?;
-    run(alloc, &mut engine, script, out)
+    let mut crew = Crew::open(runtime, alloc, script.plan(), workers as usize)?;
+    run_crew(alloc, &mut crew, script, gate, out)
 }

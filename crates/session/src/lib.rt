@@ -15,6 +15,7 @@
 mod client;
 mod moves;
 mod opening;
+mod signals;
 mod threads;
 
 pub use client::Client;

@@ -5,19 +5,20 @@
 //! who starts, who waits, and how a run ends. A worker lies under a lock of its own, which its thread
 //! takes once, since a scope can lend a list of locks to its threads and not a list of workers.
 //!
-//! A worker for which there is nothing waits longer each time before it looks again, and then yields
-//! its core. No clause says that a run ends: tests do.
+//! A worker for which there is nothing waits for the bell (`signals`). One that finds the board away
+//! waits longer each time before it tries again, and then yields its core. No clause says that a run
+//! ends: tests do.
 ghost use Rattle.std.specs.Prelude.{◌≡◌, IfErr};
 ghost use Rattle.std.specs.Result.{ForErr};
 ghost use Rattle.std.specs.Thread.{IsSync};
 ghost use Rattle.update.specs.declared.refusal.Refusal.TheVariants.{OutOfMemory};
 ghost use Rattle.session.specs.Threads.{EndsThreads, EndsWork};
 
+use crate::signals::Signals;
 use crossbeam_utils::Backoff;
 use lattice::Minimum;
 use shared_board::BoardProtocol;
 use std::alloc::Global;
-use std::sync::atomic::{AtomicBool, Ordering};
 use std::sync::{Mutex, Wait};
 use std::thread::{Scope, Threads, scope, scope_env};
 use steps::{Step, Worker};
@@ -71,13 +72,13 @@ fn tidy_up<W: Works, R: Wait>(
     rt: &R,
     alloc: Global,
     worker: &mut W,
-    stop: &AtomicBool,
+    signals: &Signals,
 ) -> Result<(), Refusal>
     ensures { IfErr result EndsWork }
 {
     let backoff = Backoff::new();
     for _ in rt.forever() {
-        if stop.load(Ordering::SeqCst) || worker.tidy(alloc, u64::MAX)? {
+        if signals.has_stopped() || worker.tidy(alloc, u64::MAX)? {
             return Ok(());
         }
         backoff.snooze();
@@ -92,24 +93,31 @@ fn take_turns<W: Works, G: Gate, R: Wait>(
     worker: &mut W,
     place: usize,
     gate: &G,
-    stop: &AtomicBool,
+    signals: &Signals,
 ) -> Result<(), Refusal>
     ensures { IfErr result EndsWork }
 {
     let backoff = Backoff::new();
     let mut done: u64 = 0;
     for _ in rt.forever() {
-        if stop.load(Ordering::SeqCst) {
+        if signals.has_stopped() {
             return Ok(());
         }
         gate.pass(place, done);
+        let heard = signals.rings();
         match worker.step(alloc)? {
-            Step::Took | Step::Gave => {
+            Step::Took => {
                 done = done.saturating_add(1);
                 backoff.reset();
             }
-            Step::Idle { quiet: true } => return tidy_up(rt, alloc, worker, stop),
-            Step::Busy | Step::Idle { .. } => backoff.snooze(),
+            Step::Gave => {
+                done = done.saturating_add(1);
+                backoff.reset();
+                signals.ring();
+            }
+            Step::Idle { quiet: true } => return tidy_up(rt, alloc, worker, signals),
+            Step::Idle { .. } => signals.wait(rt, heard),
+            Step::Busy => backoff.snooze(),
         }
     }
     unreachable!()
@@ -122,12 +130,12 @@ fn run_seat<W: Works, G: Gate, R: Wait>(
     seat: &Mutex<Seat<'_, W>>,
     place: usize,
     gate: &G,
-    stop: &AtomicBool,
+    signals: &Signals,
 ) {
     let mut seat = seat.lock(rt);
-    let told = take_turns(rt, alloc, &mut *seat.worker, place, gate, stop);
+    let told = take_turns(rt, alloc, &mut *seat.worker, place, gate, signals);
     if told.is_err() {
-        stop.store(true, Ordering::SeqCst);
+        signals.stop();
     }
     seat.told = told;
 }
@@ -153,7 +161,7 @@ fn run_all<W: Works + Send, G: Gate + Sync, R: Threads + Wait + Sync>(
     alloc: Global,
     seats: &[Mutex<Seat<'_, W>>],
     gate: &G,
-    stop: &AtomicBool,
+    signals: &Signals,
 ) -> bool {
     scope(
         scope_env(),
@@ -163,10 +171,10 @@ fn run_all<W: Works + Send, G: Gate + Sync, R: Threads + Wait + Sync>(
         {
             for at in 0..seats.len() {
                 let seat = &seats[at];
-                if s.spawn(move || run_seat(rt, alloc, seat, at, gate, stop))
+                if s.spawn(move || run_seat(rt, alloc, seat, at, gate, signals))
                     .is_err()
                 {
-                    stop.store(true, Ordering::SeqCst);
+                    signals.stop();
                     return false;
                 }
             }
@@ -203,9 +211,9 @@ pub fn run_threads<W: Works + Send, G: Gate + Sync, R: Threads + Wait + Sync>(
 ) -> Result<(), Refusal>
     ensures { IfErr result EndsThreads }
 {
-    let stop = AtomicBool::new(false);
+    let signals = Signals::new();
     let seats = seated(alloc, workers)?;
-    if !run_all(rt, alloc, seats.as_slice(), gate, &stop) {
+    if !run_all(rt, alloc, seats.as_slice(), gate, &signals) {
         return Err(Refusal::NoThread);
     }
     first_told(seats)

@@ -7,3 +7,4 @@ pub mod ApartLemmas
 pub mod QuietLemmas
 pub mod TakenLemmas
 pub mod PortLemmas
+pub mod CrossingLemmas

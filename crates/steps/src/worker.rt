@@ -126,11 +126,12 @@ impl<T: Minimum, P: BoardProtocol<T>> Worker<T, P> {
         actor.tell_too_large(rt);
     }
 
-    // Whether an earlier step met a number that is too large.
-    pub(crate) fn has_failed(&self) -> bool
+    /// Whether an earlier step met a number that is too large. Such a worker takes no more steps.
+    pub fn has_failed(&self) -> bool
         ensures { result ≡ self.now.failed }
     {
-        self.failed
+        let Worker { failed, .. } = self;
+        *failed
     }
 
     // The node of the piece in hand.
