@@ -1,9 +1,10 @@
 -- Reading what a view captured: the update at a position, and the copies of those that are at or
 -- before a time.
-use Rattle.std.proofs.Common.{◌-◌, ℤ, pos, ◌+ℤ◌, Option, None, IsTrue, ap₂, append-nil, ◌≡◌, ℕ, zero, suc, ◌+◌, ◌<◌, ◌≤◌, Bool, true, false, cond, not, List, [], ◌∷◌, ◌++◌, length, take, drop, get_or, slice_get, Some, IsSomeAnd, map, refl, sym, ap, ◌∙◌, subst, add-one, length-take-le, take_all, arith}
-use Rattle.std.specs.List.{filter, flat_map}
+use Rattle.std.proofs.Common.{slice_set, ◌-◌, ℤ, pos, ◌+ℤ◌, Option, None, IsTrue, ap₂, append-nil, ◌≡◌, ℕ, zero, suc, ◌+◌, ◌<◌, ◌≤◌, Bool, true, false, cond, not, List, [], ◌∷◌, ◌++◌, length, take, drop, get_or, slice_get, Some, IsSomeAnd, map, refl, sym, ap, ◌∙◌, subst, add-one, length-take-le, take_all, arith}
+use Rattle.std.specs.List.{filter, flat_map, remove}
 use Rattle.std.proofs.lemmas.Int.{ints}
-use Rattle.std.proofs.lemmas.List.{length_push, length-append, map-append, drop-append-le, take-append-drop}
+use Rattle.std.proofs.lemmas.Option.{slice_get_within}
+use Rattle.std.proofs.lemmas.List.{length-append, map-append, drop-append-le, take-append-drop}
 use Rattle.std.proofs.lemmas.List.Concat.{flat_map-append}
 use Rattle.std.proofs.lemmas.List.Elements.{filter-append}
 use Rattle.update.specs.Bags.{Entry, Alike, count_of, entry_of, same_row}
@@ -14,17 +15,6 @@ use Rattle.plan.proofs.CountLemmas.{count_of-append, row_same}
 use Rattle.views.specs.Views.{update_at, is_later_at, later_below, IsReadOf}
 use Rattle.views.proofs.ViewLemmas.{take_position, later_there}
 use Rattle.views.proofs.SumLemmas.{sum_at-append}
-
--- the element at the place of the last one
-last_there : {X : Type 0} (xs : List X) (x : X) → slice_get (xs ++ x ∷ []) (length xs) ≡ Some x
-last_there [] x = refl
-last_there (y ∷ xs) x = last_there xs x
-
--- what leaves a list at its end is its last element
-pub last_left : {X : Type 0} (all rest : List X) (x : X) → all ≡ rest ++ x ∷ [] → slice_get all (length all - 1) ≡ Some x
-last_left all rest x e =
-    let long = ap length e ∙ length_push rest x in
-    ap₂ slice_get e (omega (arith, long)) ∙ last_there rest x
 
 out : {X : Type 0} → Option X → X → X
 out (Some x) d = x
@@ -54,16 +44,35 @@ module _ {T : Type 0} where
   found_at (u ∷ us) zero l = (u, refl, refl, refl)
   found_at (u ∷ us) (suc k) l = found_at us k (omega (arith, l))
 
-  -- what the last update and a difference sum to takes the place of the update
-  pub added_up : (rest ys : List (Update T)) (x : Update T) (diff sum : ℤ) → sum ≡ x.diff +ℤ diff → ((row : List ℤ) → count_of (map entry ys) row ≡ cond (same_row x.row row) sum (pos 0))
-      → Alike (map entry (rest ++ ys)) (map entry (rest ++ x ∷ []) ++ entry_of x.row diff ∷ [])
-  added_up rest ys x diff sum e same row =
-      let new = ap (λ es. count_of es row) (map-append entry rest ys) ∙ count_of-append (map entry rest) (map entry ys) row in
-      let old = ap (λ es. count_of es row) (map-append entry rest (x ∷ [])) ∙ count_of-append (map entry rest) (entry x ∷ []) row in
-      let whole = count_of-append (map entry (rest ++ x ∷ [])) (entry_of x.row diff ∷ []) row in
-      let parts = both (same_row x.row row) x.diff diff sum e in
-      let now = same row in
-      omega (arith, ints, new, old, whole, parts, now)
+  -- what an update and a difference sum to takes the place of the update
+  pub sum_put : (us : List (Update T)) (k : ℕ) (x y : Update T) (diff : ℤ) → slice_get us k ≡ Some x → y.row ≡ x.row → y.diff ≡ x.diff +ℤ diff → Alike (map entry (slice_set us k y)) (map entry us ++ entry_of x.row diff ∷ [])
+  sum_put [] k x y diff at own sum row = absurd (omega (arith, slice_get_within [] k x at))
+  sum_put (u ∷ us) zero x y diff at own sum row =
+      let it = some_same u x at in
+      let new = ap (λ r. cond (same_row r row) y.diff (pos 0)) own in
+      let old = ap (λ v. cond (same_row v.row row) v.diff (pos 0)) it in
+      let more = count_of-append (map entry us) (entry_of x.row diff ∷ []) row in
+      let parts = both (same_row x.row row) x.diff diff y.diff sum in
+      omega (arith, ints, new, old, more, parts)
+  sum_put (u ∷ us) (suc k) x y diff at own sum row =
+      let rest = sum_put us k x y diff at own sum row in
+      omega (arith, ints, rest)
+
+  -- if they sum to nothing, then the update goes
+  sum_gone : (us : List (Update T)) (k : ℕ) (x : Update T) (diff : ℤ) → slice_get us k ≡ Some x → pos 0 ≡ x.diff +ℤ diff → Alike (map entry (remove us k)) (map entry us ++ entry_of x.row diff ∷ [])
+  sum_gone [] k x diff at sum row = absurd (omega (arith, slice_get_within [] k x at))
+  sum_gone (u ∷ us) zero x diff at sum row =
+      let old = ap (λ v. cond (same_row v.row row) v.diff (pos 0)) (some_same u x at) in
+      let more = count_of-append (map entry us) (entry_of x.row diff ∷ []) row in
+      let parts = both (same_row x.row row) x.diff diff (pos 0) sum in
+      let none = none_count x.row row in
+      omega (arith, ints, old, more, parts, none)
+  sum_gone (u ∷ us) (suc k) x diff at sum row =
+      let rest = sum_gone us k x diff at sum row in
+      omega (arith, ints, rest)
+
+  pub sum_went : (us new : List (Update T)) (k : ℕ) (x : Update T) (diff : ℤ) → new ≡ remove us k → slice_get us k ≡ Some x → pos 0 ≡ x.diff +ℤ diff → Alike (map entry new) (map entry us ++ entry_of x.row diff ∷ [])
+  sum_went us new k x diff e at sum row = rw e (sum_gone us k x diff at sum row)
 
   -- rows that compare as equal are equal
   pub same_rows : (o : Option (Update T)) (b : Bool) (row : List ℤ) → IsSomeAnd o (λ u. b ≡ same_row u.row row) → IsTrue b → IsSomeAnd o (λ u. u.row ≡ row)
@@ -79,10 +88,6 @@ module _ {T : Type 0} where
   pub of_last : (o : Option (Update T)) {P : Update T → Type 0} {Q : Type 0} → IsSomeAnd o P → ((u : Update T) → o ≡ Some u → P u → Q) → Q
   of_last None p f = absurd p
   of_last (Some u) p f = f u refl p
-
-  -- an update alone counts for its row
-  pub one_counts : (y : Update T) (row : List ℤ) → count_of (map entry (y ∷ [])) row ≡ cond (same_row y.row row) y.diff (pos 0)
-  one_counts y row = omega (arith, ints)
 
 -- what is like one of two parts takes its place
 pub alike_before : (xs ys more all : List Entry) → Alike xs ys → Alike all (xs ++ more) → Alike all (ys ++ more)

@@ -2,15 +2,15 @@
 //!
 //! What a view captured is kept column by column ([`Columns`]), since it is the longest list on a
 //! board. A read copies the updates that it adds up, part by part, and folds each part into a bag.
-//! So it takes memory for two bags and not for all that was captured. Neighbours of one row become one
-//! on the way, so what cancels side by side is not sorted.
+//! So it takes memory for two bags and not for all that was captured. Updates of one row that lie next to
+//! each other, or one apart, become one on the way, so what cancels there is not sorted.
 //!
 //! A read remembers its time, its bag, how many captured updates it knows, and the positions of
 //! those that are not at or before its time. A read at the same time or a later one looks only at
 //! those positions and at what was captured since. It adds the updates that are now at or before its
 //! time to the bag. So a read after each change costs as much as the bag is long, however much was
 //! captured. A read at any other time sums anew. Each read becomes the last one.
-ghost use Rattle.std.specs.Prelude.{◌≡◌, ◌≤◌, ◌<◌, ◌⊎◌, ◌-◌, ◌++◌, ◌∷◌, List, [], Some, IfErr, IfOk, OnErr, OnOk, IsSomeAnd, IsTrue, false, length, map, take, drop, slice_get};
+ghost use Rattle.std.specs.Prelude.{◌≡◌, ◌≤◌, ◌<◌, ◌⊎◌, ◌-◌, ◌++◌, ◌∷◌, List, [], Some, IfErr, IfOk, OnErr, OnOk, IfSome, IsSomeAnd, IsTrue, false, length, map, take, drop, slice_get};
 ghost use Rattle.std.specs.List.{All, filter, flat_map};
 ghost use Rattle.update.specs.Bags.{Alike, IsBag, entry_of};
 ghost use Rattle.update.specs.Updates.{as_of, entry};
@@ -27,6 +27,10 @@ use update::{Bag, Entries, Refusal, Update};
 // A read that starts from nothing adds up at least so many updates at a time: so many are sorted in
 // the cache. A read that goes on asks for room for so many at once.
 const PART: usize = 4096;
+
+// An update that is added up is compared with so many before it. A reduction gives at each time the new
+// row of a key and takes the old one back, so a row and its end lie one apart, in one order or the other.
+const NEAR: usize = 2;
 
 // A read: its time, its bag, and what it knows of the captured updates.
 #[derive(Drop)]
@@ -200,8 +204,8 @@ pub(crate) fn read_on<T: Minimum>(
     })
 }
 
-// Copies the updates at or before a time that are missing from the bag of an earlier read. Neighbours
-// with the same row become one.
+// Copies the updates at or before a time that are missing from the bag of an earlier read. Those of one
+// row become one where they lie close together.
 fn arrived_since<T: Minimum>(
     alloc: Global,
     captured: &Columns<T>,
@@ -241,8 +245,8 @@ fn later_since<T: Minimum>(
     Ok(later)
 }
 
-// Copies the updates at these positions that are at or before a time. Neighbours with the same row
-// become one.
+// Copies the updates at these positions that are at or before a time. Those of one row become one where
+// they lie close together.
 fn arrived_at<T: Minimum>(
     alloc: Global,
     captured: &Columns<T>,
@@ -262,8 +266,8 @@ fn arrived_at<T: Minimum>(
     Ok(arrived)
 }
 
-// Appends copies of the updates of a part that are at or before a time. Neighbours with the same row
-// become one.
+// Appends copies of the updates of a part that are at or before a time. Those of one row become one where
+// they lie close together.
 fn push_arrived<T: Minimum>(
     arrived: &mut Vec<Update<T>>,
     captured: &Columns<T>,
@@ -283,9 +287,9 @@ fn push_arrived<T: Minimum>(
     Ok(())
 }
 
-// Appends a copy of the update at a position if it is at or before a time. If the last one has the same
-// row, then it is added to that. The search for its run begins at `near`. Returns where the next
-// search begins.
+// Appends a copy of the update at a position if it is at or before a time. If one near the end has
+// the same row, then it is added to that. The search for its run begins at `near`. Returns where the
+// next search begins.
 fn push_if_arrived<T: Minimum>(
     arrived: &mut Vec<Update<T>>,
     captured: &Columns<T>,
@@ -302,73 +306,70 @@ fn push_if_arrived<T: Minimum>(
         return Ok(near);
     }
     let run = captured.run_near(position, near);
-    if is_added(arrived, captured, position, run, near) {
+    if is_added(arrived, captured, position, run) {
         return Ok(run);
     }
     arrived.push(captured.copy(position, run))?;
     Ok(run)
 }
 
-// Adds the update at a position to the last of these, if that is of the same run and has its row, and
-// the sum of the differences is a 64-bit number. `near` is the run of the last one. The answer is whether
-// it was added; if not, then nothing has changed.
+// Adds the update at a position to one near the end of these, if that has its row, and the sum of the
+// differences is a 64-bit number. The answer is whether it was added; if not, then nothing has changed.
 fn is_added<T: Minimum>(
     arrived: &mut Vec<Update<T>>,
     captured: &Columns<T>,
     position: usize,
     run: usize,
-    near: usize,
 ) -> bool
     requires { position < length captured.now }
     ensures added { IsTrue result → IsSomeAnd (slice_get captured.now position) (λ u.
         Alike (map entry arrived.new.items) (map entry arrived.old.items ++ entry u ∷ [])) }
     ensures same { result ≡ false → arrived.new.items ≡ arrived.old.items }
 {
-    if run != near {
+    let Some(place) = find_near_end(arrived.as_slice(), captured, position, run) else {
         return false;
-    }
-    if !has_row_of_last(arrived.as_slice(), captured, position, run) {
-        return false;
-    }
-    add_to_last(arrived, captured.diff(position))
+    };
+    add_at(arrived, place, captured.diff(position))
 }
 
-// Whether the update at a position has the row of the last of these.
-fn has_row_of_last<T: Minimum>(
+// The place of an update near the end of these that has the row of the update at a position.
+fn find_near_end<T: Minimum>(
     arrived: &[Update<T>],
     captured: &Columns<T>,
     position: usize,
     run: usize,
-) -> bool
+) -> Option<usize>
     requires { position < length captured.now }
-    ensures { IsTrue result → IsSomeAnd (slice_get arrived.now (length arrived.now - 1)) (λ last.
-        IsSomeAnd (slice_get captured.now position) (λ u. u.row ≡ last.row)) }
+    ensures { IfSome result (λ place. IsSomeAnd (slice_get arrived.now place) (λ x.
+        IsSomeAnd (slice_get captured.now position) (λ u. u.row ≡ x.row))) }
 {
-    match arrived.last() {
-        Some(last) => captured.has_row(position, run, last.row.columns()),
-        None => false,
+    let mut place = arrived.len();
+    let first = place.saturating_sub(NEAR);
+    while place > first {
+        place -= 1;
+        if captured.has_row(position, run, arrived[place].row.columns()) {
+            return Some(place);
+        }
     }
+    None
 }
 
-// Adds to the difference of the last update, if the sum is a 64-bit number. An update whose
+// Adds to the difference of the update at a place, if the sum is a 64-bit number. An update whose
 // difference would be 0 goes. The answer is whether it was added; if not, then nothing has changed.
-fn add_to_last<T: Minimum>(arrived: &mut Vec<Update<T>>, diff: i64) -> bool
-    ensures added { IsTrue result → (last : Update T)
-        → slice_get arrived.old.items (length arrived.old.items - 1) ≡ Some last
-        → Alike (map entry arrived.new.items)
-        (map entry arrived.old.items ++ entry_of last.row diff ∷ []) }
+fn add_at<T: Minimum>(arrived: &mut Vec<Update<T>>, place: usize, diff: i64) -> bool
+    requires { place < length arrived.old.items }
+    ensures added { IsTrue result → IsSomeAnd (slice_get arrived.old.items place) (λ x.
+        Alike (map entry arrived.new.items)
+        (map entry arrived.old.items ++ entry_of x.row diff ∷ [])) }
     ensures same { result ≡ false → arrived.new.items ≡ arrived.old.items }
 {
-    let Some(mut last) = arrived.pop() else {
+    let Some(sum) = arrived[place].diff.checked_add(diff) else {
         return false;
     };
-    let Some(sum) = last.diff.checked_add(diff) else {
-        arrived.push_reserved(last);
-        return false;
-    };
-    if sum != 0 {
-        last.diff = sum;
-        arrived.push_reserved(last);
+    if sum == 0 {
+        arrived.remove(place);
+    } else {
+        arrived[place].diff = sum;
     }
     true
 }
