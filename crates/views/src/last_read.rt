@@ -2,14 +2,14 @@
 //!
 //! What a view captured is kept column by column ([`Columns`]), since it is the longest list on a
 //! board. A read copies the updates that it adds up, part by part, and folds each part into a bag.
-//! So it takes memory for two bags and not for all that was captured. Updates of one row that lie next to
-//! each other, or one apart, become one on the way, so what cancels there is not sorted.
+//! So it takes memory for two bags and not for all that was captured. Updates of one row that lie
+//! next to each other, or one apart, become one on the way, so what cancels there is not sorted.
 //!
 //! A read remembers its time, its bag, how many captured updates it knows, and the positions of
 //! those that are not at or before its time. A read at the same time or a later one looks only at
-//! those positions and at what was captured since. It adds the updates that are now at or before its
-//! time to the bag. So a read after each change costs as much as the bag is long, however much was
-//! captured. A read at any other time sums anew. Each read becomes the last one.
+//! those positions and at what was captured since. It adds the updates that are now at or before
+//! its time to the bag. So a read after each change costs as much as the bag is long, however much
+//! was captured. A read at any other time sums anew. Each read becomes the last one.
 ghost use Rattle.std.specs.Prelude.{◌≡◌, ◌≤◌, ◌<◌, ◌⊎◌, ◌-◌, ◌++◌, ◌∷◌, List, [], Some, IfErr, IfOk, OnErr, OnOk, IfSome, IsSomeAnd, IsTrue, false, length, map, take, drop, slice_get};
 ghost use Rattle.std.specs.List.{All, filter, flat_map};
 ghost use Rattle.update.specs.Bags.{Alike, IsBag, entry_of};
@@ -28,8 +28,9 @@ use update::{Bag, Entries, Refusal, Update};
 // the cache. A read that goes on asks for room for so many at once.
 const PART: usize = 4096;
 
-// An update that is added up is compared with so many before it. A reduction gives at each time the new
-// row of a key and takes the old one back, so a row and its end lie one apart, in one order or the other.
+// An update that is added up is compared with so many before it. A reduction gives at each time the
+// new row of a key and takes the old one back, so a row and its end lie one apart, in one order or
+// the other.
 const NEAR: usize = 2;
 
 // A read: its time, its bag, and what it knows of the captured updates.
@@ -43,8 +44,8 @@ pub(crate) struct LastRead<T> {
     pub(crate) later: Vec<usize>,
 }
 
-// A read that starts from nothing, part by part. If a sum on the way is too large, then all is added
-// up at once, so that the order of the updates does not matter.
+// A read that starts from nothing, part by part. If a sum on the way is too large, then all is
+// added up at once, so that the order of the updates does not matter.
 pub(crate) fn read_anew<T: Minimum>(
     alloc: Global,
     captured: &Columns<T>,
@@ -62,8 +63,9 @@ pub(crate) fn read_anew<T: Minimum>(
     }
 }
 
-// A read that adds up part by part. A part is as long as the bag so far, or longer. So the copies of
-// the bag are no longer together than what was captured, and a read needs no list of all updates.
+// A read that adds up part by part. A part is as long as the bag so far, or longer. So the copies
+// of the bag are no longer together than what was captured, and a read needs no list of all
+// updates.
 fn read_in_parts<T: Minimum>(
     alloc: Global,
     captured: &Columns<T>,
@@ -204,8 +206,8 @@ pub(crate) fn read_on<T: Minimum>(
     })
 }
 
-// Copies the updates at or before a time that are missing from the bag of an earlier read. Those of one
-// row become one where they lie close together.
+// Copies the updates at or before a time that are missing from the bag of an earlier read. Those of
+// one row become one where they lie close together.
 fn arrived_since<T: Minimum>(
     alloc: Global,
     captured: &Columns<T>,
@@ -245,8 +247,8 @@ fn later_since<T: Minimum>(
     Ok(later)
 }
 
-// Copies the updates at these positions that are at or before a time. Those of one row become one where
-// they lie close together.
+// Copies the updates at these positions that are at or before a time. Those of one row become one
+// where they lie close together.
 fn arrived_at<T: Minimum>(
     alloc: Global,
     captured: &Columns<T>,
@@ -266,8 +268,8 @@ fn arrived_at<T: Minimum>(
     Ok(arrived)
 }
 
-// Appends copies of the updates of a part that are at or before a time. Those of one row become one where
-// they lie close together.
+// Appends copies of the updates of a part that are at or before a time. Those of one row become one
+// where they lie close together.
 fn push_arrived<T: Minimum>(
     arrived: &mut Vec<Update<T>>,
     captured: &Columns<T>,
@@ -288,8 +290,8 @@ fn push_arrived<T: Minimum>(
 }
 
 // Appends a copy of the update at a position if it is at or before a time. If one near the end has
-// the same row, then it is added to that. The search for its run begins at `near`. Returns where the
-// next search begins.
+// the same row, then it is added to that. The search for its run begins at `near`. Returns where
+// the next search begins.
 fn push_if_arrived<T: Minimum>(
     arrived: &mut Vec<Update<T>>,
     captured: &Columns<T>,
@@ -313,8 +315,9 @@ fn push_if_arrived<T: Minimum>(
     Ok(run)
 }
 
-// Adds the update at a position to one near the end of these, if that has its row, and the sum of the
-// differences is a 64-bit number. The answer is whether it was added; if not, then nothing has changed.
+// Adds the update at a position to one near the end of these, if that has its row, and the sum of
+// the differences is a 64-bit number. The answer is whether it was added; if not, then nothing has
+// changed.
 fn is_added<T: Minimum>(
     arrived: &mut Vec<Update<T>>,
     captured: &Columns<T>,
