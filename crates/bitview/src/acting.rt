@@ -15,6 +15,8 @@ use grammar::{Fault, Script, parse};
 use script::{Out, RunFault, plain_script, put_all, run_script};
 use session::OpenGate;
 use std::alloc::{AllocError, Global};
+use std::fmt;
+use std::fmt::Write;
 use std::sync::Wait;
 use std::thread::Threads;
 
@@ -50,7 +52,7 @@ pub fn act<R: Threads + Wait + Sync, W: Out, E: Out>(
         Some(bytes) => act_on(runtime, alloc, action, bytes, out, error),
         None => {
             let file = action.file();
-            tell(error, format!(in alloc; "cannot read {file}\n"));
+            let _told = writeln!(Told { error }, "cannot read {file}");
             3
         }
     }
@@ -98,7 +100,7 @@ fn act_on<R: Threads + Wait + Sync, W: Out, E: Out>(
             keep_freed_memory(alloc);
             carry_out(runtime, alloc, action, &script, out, error)
         }
-        Err(fault) => refuse(alloc, fault, error),
+        Err(fault) => refuse(fault, error),
     }
 }
 
@@ -118,7 +120,7 @@ fn carry_out<R: Threads + Wait + Sync, W: Out, E: Out>(
 {
     match write_asked(runtime, alloc, action, script, out) {
         Ok(()) => 0,
-        Err(fault) => end(alloc, fault, error),
+        Err(fault) => end(fault, error),
     }
 }
 
@@ -162,7 +164,7 @@ fn write_size<W: Out>(alloc: Global, script: &Script, out: &mut W) -> Result<(),
 
 // Reports why a run ended early. Beside codes 10 and 1 that is 24 alone, since the number of workers
 // is in range.
-fn end<E: Out>(alloc: Global, fault: RunFault, error: &mut E) -> u8
+fn end<E: Out>(fault: RunFault, error: &mut E) -> u8
     ensures { result ≡ status_of fault }
 {
     let (status, line) = match fault {
@@ -171,26 +173,34 @@ fn end<E: Out>(alloc: Global, fault: RunFault, error: &mut E) -> u8
         RunFault::Refused(_) => (3, "no thread\n"),
         RunFault::Write => (3, "cannot write\n"),
     };
-    tell(error, format!(in alloc; "{line}"));
+    let _told = put_all(error, line.as_bytes());
     status
 }
 
 // Reports the faulty line of the file, or that memory was refused.
-fn refuse<E: Out>(alloc: Global, fault: Fault, error: &mut E) -> u8
+fn refuse<E: Out>(fault: Fault, error: &mut E) -> u8
     ensures { result ≡ fault_status fault }
 {
     if fault.code == 1 {
-        tell(error, format!(in alloc; "no memory\n"));
+        let _told = put_all(error, "no memory\n".as_bytes());
         3
     } else {
-        tell(error, format!(in alloc; "{fault}\n"));
+        let _told = writeln!(Told { error }, "{fault}");
         2
     }
 }
 
-// Writes a line to standard error, if memory and the output allow it.
-fn tell<E: Out>(error: &mut E, line: Result<String, AllocError>) {
-    if let Ok(line) = line {
-        let _told = put_all(error, line.as_str().as_bytes());
+// Takes the parts of a line as they are formatted, so that to tell what went wrong takes no memory.
+#[derive(Drop)]
+struct Told<'e, E> {
+    error: &'e mut E,
+}
+
+impl<E: Out> fmt::Write for Told<'_, E> {
+    fn write_str(&mut self, part: &str) -> fmt::Result {
+        match put_all(self.error, part.as_bytes()) {
+            Ok(()) => Ok(()),
+            Err(_failed) => Err(fmt::Error),
+        }
     }
 }

@@ -16,17 +16,16 @@ mod writers;
 
 use crate::acting::act;
 use crate::command_line::{Action, words};
-use crate::writers::Output;
+use crate::writers::{Output, StandardError};
 use clap::Error;
 use clap::error::ErrorKind;
-use script::MemoryOut;
 use std::alloc::{AllocError, Global};
 use std::env::Env;
 use std::fs::Files;
 use std::process::ExitCode;
 use std::sync::Wait;
 use std::thread::Threads;
-use std::{env, fs, io, str};
+use std::{env, fs, io};
 
 fn main(rt: HostRuntime) -> ExitCode {
     let alloc = rt.alloc();
@@ -106,15 +105,12 @@ fn perform<R: Files + AllocGlobal + Print + Eprint + Threads + Wait + Sync>(
     let mut out = Output {
         writer: io::writer(rt),
     };
-    let mut error = MemoryOut::new(alloc);
-    let status = match fs::read(rt, action.file()) {
+    let mut error = StandardError { runtime: rt };
+    match fs::read(rt, action.file()) {
         Ok(bytes) => act(rt, alloc, action, Some(bytes), &mut out, &mut error),
+        Err(unread) if unread.kind() == io::ErrorKind::OutOfMemory => without_memory(rt),
         Err(_unread) => act(rt, alloc, action, None, &mut out, &mut error),
-    };
-    if let Ok(line) = str::from_utf8(error.bytes()) {
-        let _printed = rt.eprint(line);
     }
-    status
 }
 
 // Prints why the arguments were not understood, or the help or version that was asked for.

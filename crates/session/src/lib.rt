@@ -15,6 +15,7 @@
 mod client;
 mod moves;
 mod opening;
+mod rest;
 mod signals;
 mod threads;
 

@@ -1,21 +1,22 @@
 //! Workers on threads: each steps on a thread of its own until it finds the board quiet.
 //!
-//! What a thread does reaches the others through the hub alone, so nothing is proved here of boards:
-//! each worker stands for the events of its own pass, on whichever thread it steps. What is here is
-//! who starts, who waits, and how a run ends. A worker lies under a lock of its own, which its thread
-//! takes once, since a scope can lend a list of locks to its threads and not a list of workers.
+//! What a thread does reaches the others through the hub alone, so nothing is proved here of
+//! boards: each worker stands for the events of its own pass, on whichever thread it steps. What is
+//! here is who starts, who waits, and how a run ends. A worker lies under a lock of its own, which
+//! its thread takes once, since a scope can lend a list of locks to its threads and not a list of
+//! workers.
 //!
-//! A worker for which there is nothing waits for the bell (`signals`). One that finds the board away
-//! waits longer each time before it tries again, and then yields its core. No clause says that a run
-//! ends: tests do.
+//! A worker for which there is nothing sleeps until the bell rings (`signals`). One that finds the
+//! board away rests before it tries again (`rest`). Who gives rings the bell, unless more bundles
+//! wait for it at the node: then it gives nothing yet. No clause says that a run ends: tests do.
 ghost use Rattle.std.specs.Prelude.{◌≡◌, IfErr};
 ghost use Rattle.std.specs.Result.{ForErr};
 ghost use Rattle.std.specs.Thread.{IsSync};
 ghost use Rattle.update.specs.declared.refusal.Refusal.TheVariants.{OutOfMemory};
 ghost use Rattle.session.specs.Threads.{EndsThreads, EndsWork};
 
+use crate::rest::Rest;
 use crate::signals::Signals;
-use crossbeam_utils::Backoff;
 use lattice::Minimum;
 use shared_board::BoardProtocol;
 use std::alloc::Global;
@@ -26,8 +27,8 @@ use update::Refusal;
 
 /// A place where each worker passes before each of its steps.
 pub trait Gate {
-    /// A worker is about to step. `worker` is its place in the list, and `done` how many of its steps
-    /// in this run took or gave something. It may wait.
+    /// A worker is about to step. `worker` is its place in the list, and `done` how many of its
+    /// steps in this run took or gave something. It may wait.
     fn pass(&self, worker: usize, done: u64);
 }
 
@@ -44,6 +45,9 @@ pub trait Works {
     fn step(&mut self, alloc: Global) -> Result<Step, Refusal>
         ensures { IfErr result EndsWork };
 
+    /// Whether its next step gives nothing, and a piece is there for it after that.
+    fn holds_for_more(&self) -> bool;
+
     /// Merges what it keeps. Whether there is nothing left to merge.
     fn tidy(&mut self, alloc: Global, fuel: u64) -> Result<bool, Refusal>
         ensures { IfErr result EndsWork };
@@ -52,6 +56,10 @@ pub trait Works {
 impl<T: Minimum, P: BoardProtocol<T>> Works for Worker<T, P> {
     fn step(&mut self, alloc: Global) -> Result<Step, Refusal> {
         Worker::step(self, alloc)
+    }
+
+    fn holds_for_more(&self) -> bool {
+        Worker::holds_for_more(self)
     }
 
     fn tidy(&mut self, alloc: Global, fuel: u64) -> Result<bool, Refusal> {
@@ -76,12 +84,12 @@ fn tidy_up<W: Works, R: Wait>(
 ) -> Result<(), Refusal>
     ensures { IfErr result EndsWork }
 {
-    let backoff = Backoff::new();
+    let mut rest = Rest::new();
     for _ in rt.forever() {
         if signals.has_stopped() || worker.tidy(alloc, u64::MAX)? {
             return Ok(());
         }
-        backoff.snooze();
+        rest.take();
     }
     unreachable!()
 }
@@ -97,7 +105,7 @@ fn take_turns<W: Works, G: Gate, R: Wait>(
 ) -> Result<(), Refusal>
     ensures { IfErr result EndsWork }
 {
-    let backoff = Backoff::new();
+    let mut rest = Rest::new();
     let mut done: u64 = 0;
     for _ in rt.forever() {
         if signals.has_stopped() {
@@ -105,20 +113,23 @@ fn take_turns<W: Works, G: Gate, R: Wait>(
         }
         gate.pass(place, done);
         let heard = signals.rings();
+        let gives = !worker.holds_for_more();
         match worker.step(alloc)? {
-            Step::Took => {
-                done = done.saturating_add(1);
-                backoff.reset();
-            }
+            Step::Took => done = done.saturating_add(1),
             Step::Gave => {
                 done = done.saturating_add(1);
-                backoff.reset();
-                signals.ring();
+                if gives {
+                    signals.ring(rt);
+                }
             }
             Step::Idle { quiet: true } => return tidy_up(rt, alloc, worker, signals),
-            Step::Idle { .. } => signals.wait(rt, heard),
-            Step::Busy => backoff.snooze(),
+            Step::Idle { .. } => signals.sleep(rt, heard),
+            Step::Busy => {
+                rest.take();
+                continue;
+            }
         }
+        rest.shorten();
     }
     unreachable!()
 }
@@ -135,7 +146,7 @@ fn run_seat<W: Works, G: Gate, R: Wait>(
     let mut seat = seat.lock(rt);
     let told = take_turns(rt, alloc, &mut *seat.worker, place, gate, signals);
     if told.is_err() {
-        signals.stop();
+        signals.stop(rt);
     }
     seat.told = told;
 }
@@ -174,7 +185,7 @@ fn run_all<W: Works + Send, G: Gate + Sync, R: Threads + Wait + Sync>(
                 if s.spawn(move || run_seat(rt, alloc, seat, at, gate, signals))
                     .is_err()
                 {
-                    signals.stop();
+                    signals.stop(rt);
                     return false;
                 }
             }
@@ -196,8 +207,8 @@ fn first_told<W>(seats: Vec<Mutex<Seat<'_, W>>>) -> Result<(), Refusal>
 
 /// Runs workers at once, each on a thread of its own, and comes back when all of them have ended. A
 /// worker ends when it finds the board quiet; then it merges what it keeps. If one is refused or a
-/// thread could not be made, the others end before their next step. What was done stays done, so the
-/// next run goes on from there.
+/// thread could not be made, the others end before their next step. What was done stays done, so
+/// the next run goes on from there.
 ///
 /// Refused with [`Refusal::NoThread`], else as the refused worker of the lowest place: with
 /// [`Refusal::OutOfMemory`], [`Refusal::Overflow`] or [`Refusal::Failed`], as [`Worker::step_at`] says.

@@ -25,7 +25,7 @@ use Rattle.operator_laws.specs.Gathering.{IsCut}
 use Rattle.desk_laws.specs.Observed.{HoldsBeyondNewest}
 use Rattle.desk_laws.specs.Own.{DeskView, gives_passed, hand_node}
 use Rattle.desk_laws.specs.declared.hand.Hand.{Hand}
-use Rattle.desk_laws.specs.declared.hand.Hand.TheVariants.{Free, Taken, Turned, Ready, Sealed}
+use Rattle.desk_laws.specs.declared.hand.Hand.TheVariants.{Free, Taken, Kept, Turned, Ready, Sealed}
 use Rattle.desk.specs.Desks.{IsPutAway}
 use Rattle.desk.specs.Tidying.{AreTold, IsTidy, holds_elsewhere}
 use Rattle.steps.specs.declared.step.Step.{Step}
@@ -56,6 +56,11 @@ module _ {T : Type 0} where
   step_with (Bundled bundle more) = Took
   step_with (turned_piece node upper) = Took
   step_with (Nothing quiet) = Idle quiet
+
+  -- what a piece made lies on the desk, and more bundles wait at its node
+  abbrev pub holds_for_more : Hand T → Bool
+  holds_for_more (Kept node more) = more
+  holds_for_more other = false
 
   -- what is given of what is in hand: nothing of what is kept
   abbrev pub output_of : Hand T → List (Update T)

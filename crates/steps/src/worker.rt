@@ -15,7 +15,7 @@ ghost use Rattle.desk_laws.specs.Own.{gives_passed, hand_node};
 ghost use Rattle.desk_laws.specs.declared.hand.Hand.TheVariants.{Free};
 ghost use Rattle.desk.specs.Desks.{IsComputed};
 ghost use Rattle.desk.specs.Tidying.{AreTold, kept_of};
-ghost use Rattle.steps.specs.Steps.{HasLeftLater, HasStopped, HasTriedToGive, HasTriedToTake, IsTidyFor, LooksAtMost};
+ghost use Rattle.steps.specs.Steps.{HasLeftLater, HasStopped, HasTriedToGive, HasTriedToTake, IsTidyFor, LooksAtMost, holds_for_more};
 ghost use Rattle.steps.specs.Workers.{HasSeenTooLarge, IsRightOf};
 
 use crate::giving::give;
@@ -132,6 +132,17 @@ impl<T: Minimum, P: BoardProtocol<T>> Worker<T, P> {
     {
         let Worker { failed, .. } = self;
         *failed
+    }
+
+    /// Whether what the last piece made lies on the desk, and more bundles wait for the worker at that
+    /// node. Then its next give gives nothing, and a piece is there for its next take.
+    pub fn holds_for_more(&self) -> bool
+        ensures { result ≡ holds_for_more self.now.hand }
+    {
+        match &self.hand {
+            Hand::Kept { more, .. } => *more,
+            _ => false,
+        }
     }
 
     // The node of the piece in hand.
