@@ -1,8 +1,11 @@
-/* Refuses a process requests for memory: preloaded, it stands before the C library's malloc and realloc.
+/* Refuses a process memory or a write: preloaded, it stands before the C library's allocator and its write.
 
    REFUSE_NTH=N    the Nth request is refused, counted from 1, and no other
    REFUSE_FROM=N   the Nth request and all after it are refused
    REFUSE_COUNT=F  the file F holds the number of requests so far, as 8 bytes in the order of this machine
+
+   WRITE_FEW=K     a call that writes to standard output takes at most K bytes
+   WRITE_NTH=N     the Nth call that writes to standard output fails
 
    A request is a call of malloc, calloc, realloc, posix_memalign or aligned_alloc, on whichever thread. The C library's own
    requests count too, but for those before main. */
@@ -12,11 +15,13 @@
 #include <stdatomic.h>
 #include <stdlib.h>
 #include <sys/mman.h>
+#include <sys/syscall.h>
 #include <unistd.h>
 
 static atomic_ulong own;
 static atomic_ulong *requests = &own;
-static unsigned long nth, from;
+static unsigned long nth, from, few, failing;
+static atomic_ulong writes;
 static int is_on;
 
 extern void *__libc_malloc(size_t);
@@ -47,6 +52,8 @@ __attribute__((constructor)) static void begin(void)
 {
     nth = number_of("REFUSE_NTH");
     from = number_of("REFUSE_FROM");
+    few = number_of("WRITE_FEW");
+    failing = number_of("WRITE_NTH");
     if (getenv("REFUSE_COUNT"))
         count_in(getenv("REFUSE_COUNT"));
     is_on = 1;
@@ -90,3 +97,18 @@ int posix_memalign(void **block, size_t alignment, size_t size)
     *block = __libc_memalign(alignment, size);
     return *block ? 0 : ENOMEM;
 }
+
+ssize_t write(int file, const void *bytes, size_t count)
+{
+    if (file == STDOUT_FILENO) {
+        if (atomic_fetch_add(&writes, 1) + 1 == failing) {
+            errno = EIO;
+            return -1;
+        }
+        if (few && count > few)
+            count = few;
+    }
+    return syscall(SYS_write, file, bytes, count);
+}
+
+ssize_t __write(int file, const void *bytes, size_t count) __attribute__((alias("write")));

@@ -27,7 +27,7 @@ pub(crate) type BoardWorker = Worker<Bitime, BitemporalBoards>;
 /// with `OutOfMemory`; then the workers are of no use.
 ///
 /// Cost: that of [`Worker::step`] for each piece, and for each worker that of [`Worker::tidy`] without
-/// fuel.
+/// fuel. The workers move out of the list and back, which costs some hundred bytes for each.
 pub(crate) fn carry_on<R: Wait>(
     runtime: &R,
     alloc: Global,
