@@ -1,4 +1,4 @@
-/* Refuses a process memory or a write: preloaded, it stands before the C library's allocator and its write.
+/* Refuses a process memory, a write or a thread: preloaded, it stands before the C library's functions for these.
 
    REFUSE_NTH=N    the Nth request is refused, counted from 1, and no other
    REFUSE_FROM=N   the Nth request and all after it are refused
@@ -7,11 +7,15 @@
    WRITE_FEW=K     a call that writes to standard output takes at most K bytes
    WRITE_NTH=N     the Nth call that writes to standard output fails
 
+   THREAD_NTH=N    the Nth thread is not made, and no later one
+
    A request is a call of malloc, calloc, realloc, posix_memalign or aligned_alloc, on whichever thread. The C library's own
    requests count too, but for those before main. */
 #define _GNU_SOURCE
+#include <dlfcn.h>
 #include <errno.h>
 #include <fcntl.h>
+#include <pthread.h>
 #include <stdatomic.h>
 #include <stdlib.h>
 #include <sys/mman.h>
@@ -20,8 +24,8 @@
 
 static atomic_ulong own;
 static atomic_ulong *requests = &own;
-static unsigned long nth, from, few, failing;
-static atomic_ulong writes;
+static unsigned long nth, from, few, failing, lacking;
+static atomic_ulong writes, threads;
 static int is_on;
 
 extern void *__libc_malloc(size_t);
@@ -54,6 +58,7 @@ __attribute__((constructor)) static void begin(void)
     from = number_of("REFUSE_FROM");
     few = number_of("WRITE_FEW");
     failing = number_of("WRITE_NTH");
+    lacking = number_of("THREAD_NTH");
     if (getenv("REFUSE_COUNT"))
         count_in(getenv("REFUSE_COUNT"));
     is_on = 1;
@@ -112,3 +117,12 @@ ssize_t write(int file, const void *bytes, size_t count)
 }
 
 ssize_t __write(int file, const void *bytes, size_t count) __attribute__((alias("write")));
+
+int pthread_create(pthread_t *thread, const pthread_attr_t *attributes, void *(*begin_with)(void *), void *given)
+{
+    typedef int (*maker)(pthread_t *, const pthread_attr_t *, void *(*)(void *), void *);
+    unsigned long n = atomic_fetch_add(&threads, 1) + 1;
+    if (lacking && n >= lacking)
+        return EAGAIN;
+    return ((maker)dlsym(RTLD_NEXT, "pthread_create"))(thread, attributes, begin_with, given);
+}

@@ -1,12 +1,13 @@
-//! Clients of a session, who know the plan: an input of one column, and a view of it. So a test need not
-//! say which node it means, and no call asks for one that is not there.
-ghost use Rattle.std.specs.Prelude.{◌≡◌, ◌∷◌, [], IfOk};
-ghost use Rattle.plan.specs.declared.node.Node.TheVariants.{Input, Output};
+//! Clients of a session, who know the plan: an input of one column, a view of it, and a view of how often
+//! each row is there. So a test need not say which node it means, and no call asks for one that is not
+//! there.
+ghost use Rattle.std.specs.Prelude.{◌≡◌, IfOk};
 ghost use Rattle.shared_board.specs.Tenures.{terms_in};
+ghost use Rattle.client_trials.specs.Plans.{counted_rows};
 
 use antichain::Antichain;
 use lattice::Bitime;
-use plan::{Node, NodeId, Plan, PlanBuilder};
+use plan::{Kind, Node, NodeId, Plan, PlanBuilder};
 use session::{Client, open};
 use shared_board::BitemporalBoards;
 use std::alloc::Global;
@@ -17,14 +18,25 @@ use update::{Bag, Refusal, Update};
 /// The workers of a session.
 pub(crate) type Crew = Vec<Worker<Bitime, BitemporalBoards>>;
 
-// The plan of an input of one column and a view of it.
+// The plan of an input of one column, a view of it, and a view of its counts.
 fn viewed(alloc: Global) -> Result<Plan, Refusal>
-    ensures { IfOk result (λ plan. plan ≡ Input 1 ∷ Output 0 ∷ []) }
+    ensures { IfOk result (λ plan. plan ≡ counted_rows) }
 {
     let mut builder = PlanBuilder::new(alloc);
     builder.add(Node::Input { width: 1 })?;
     builder.add(Node::Output {
         source: NodeId::new(0),
+    })?;
+    builder.add(Node::Arrange {
+        source: NodeId::new(0),
+        key: 1,
+    })?;
+    builder.add(Node::Reduce {
+        kind: Kind::Count,
+        source: NodeId::new(2),
+    })?;
+    builder.add(Node::Output {
+        source: NodeId::new(3),
     })?;
     Ok(builder.finish())
 }
@@ -35,7 +47,7 @@ fn viewed(alloc: Global) -> Result<Plan, Refusal>
 pub(crate) struct Caller {
     client: Client<Bitime, BitemporalBoards>,
     pub(crate) waits: bool,
-    ghost knows: { (terms_in client.seen).dataflow.nodes ≡ Input 1 ∷ Output 0 ∷ [] },
+    ghost knows: { (terms_in client.seen).dataflow.nodes ≡ counted_rows },
 }
 
 impl Caller {
@@ -100,6 +112,13 @@ impl Caller {
             return self.client.read_wait(rt, NodeId::new(1), time);
         }
         self.client.read(NodeId::new(1), time)
+    }
+
+    pub(crate) fn read_counts<R: Wait>(&mut self, rt: &R, time: Bitime) -> Result<Bag, Refusal> {
+        if self.waits {
+            return self.client.read_wait(rt, NodeId::new(4), time);
+        }
+        self.client.read(NodeId::new(4), time)
     }
 
     pub(crate) fn changes<R: Wait>(&mut self, rt: &R) -> Result<Vec<Update<Bitime>>, Refusal> {

@@ -6,4 +6,6 @@ mod caller;
 #[cfg(test)]
 mod client_tests;
 #[cfg(test)]
+mod memory_tests;
+#[cfg(test)]
 mod session_tests;
