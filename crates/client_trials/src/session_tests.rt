@@ -79,6 +79,36 @@ fn a_late_correction_by_any_schedule(rt: HostRuntime) -> Result<(), Fail> {
     Ok(())
 }
 
+// One client reads at (4, 4), while the other gives up times up to there, and then beyond.
+fn reads_beside_allows<R: Wait + Abort>(rt: &R, alloc: Global) -> Result<(), Refusal> {
+    let mut draws = Draws::new(1);
+    let mut crew: Crew = Vec::new(alloc);
+    let mut clients = callers(rt, alloc, 2, 2, &mut crew)?;
+    let (Some(mut audit), Some(mut shop)) = (clients.pop(), clients.pop()) else {
+        panic!(rt; "there are two clients")
+    };
+    shop.feed(rt, alloc, &[7], at(0, 0), 1)?;
+    shop.feed(rt, alloc, &[8], at(4, 4), 2)?;
+    shop.close_input(rt)?;
+    settle(rt, alloc, &mut crew, &mut shop, &mut draws)?;
+    for given_up in [at(1, 1), at(4, 4)] {
+        audit.allow(rt, alloc, given_up)?;
+        assert_eq!(rt;
+            shop.read(rt, at(4, 4))?.to_string(alloc)?.as_str(),
+            "1 7\n2 8\n"
+        );
+    }
+    audit.allow(rt, alloc, at(5, 4))?;
+    assert!(rt; matches!(shop.read(rt, at(4, 4)), Err(Refusal::GivenUp)));
+    Ok(())
+}
+
+#[test]
+fn reads_go_on_up_to_what_is_given_up(rt: HostRuntime) -> Result<(), Fail> {
+    reads_beside_allows(&rt, rt.alloc())?;
+    Ok(())
+}
+
 // The numbers of workers and clients that a session has, or how it was refused.
 fn counts<R: Wait>(
     rt: &R,

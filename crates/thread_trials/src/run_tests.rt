@@ -102,8 +102,24 @@ fn a_second_run_changes_nothing(rt: HostRuntime) -> Result<(), Fail> {
     Ok(())
 }
 
+// Whether a worker has failed, and each that has is refused all steps and tidying.
+fn fails_from_now_on(alloc: Global, crew: &mut Crew) -> bool {
+    let mut has_failed = false;
+    for worker in crew.iter_mut() {
+        if worker.has_failed() {
+            has_failed = true;
+            let steps = matches!(worker.step(alloc), Err(Refusal::Failed));
+            let tidies = matches!(worker.tidy(alloc, u64::MAX), Err(Refusal::Failed));
+            if !steps || !tidies {
+                return false;
+            }
+        }
+    }
+    has_failed
+}
+
 // A worker that meets a number which 64 bits cannot say ends the run. It has failed, so the next run
-// ends too. What was right to read stays so.
+// ends too. The view of the second join never passes, and that of the first one is right if it has.
 #[test]
 fn a_number_that_is_too_large_ends_the_run(rt: HostRuntime) -> Result<(), Fail> {
     let alloc = rt.alloc();
@@ -135,12 +151,19 @@ fn a_number_that_is_too_large_ends_the_run(rt: HostRuntime) -> Result<(), Fail> 
         run_threads(&rt, alloc, &mut crew, &OpenGate),
         Err(Refusal::Failed)
     );
+    assert!(rt; fails_from_now_on(alloc, &mut crew));
     assert!(rt;
         matches!(
             client.read(&rt, NodeId::new(10), at((0, 0))),
             Err(Refusal::NotPassed)
         )
     );
+    match client.read(&rt, NodeId::new(7), at((0, 0))) {
+        Ok(rows) => {
+            assert_eq!(rt; rows.to_string(alloc)?.as_str(), "4611686014132420609 7\n");
+        }
+        Err(refusal) => assert_eq!(rt; refusal, Refusal::NotPassed),
+    }
     Ok(())
 }
 
