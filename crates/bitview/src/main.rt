@@ -113,11 +113,16 @@ fn perform<R: Files + AllocGlobal + Print + Eprint + Threads + Wait + Sync>(
     }
 }
 
-// Prints why the arguments were not understood, or the help or version that was asked for.
+// Prints why the arguments were not understood, or the help or version that was asked for. These two go
+// to standard output, which may fail.
 fn explain<R: Print + Eprint>(rt: &R, error: &Error) -> u8 {
     if error.kind() == ErrorKind::OutOfMemory {
         return without_memory(rt);
     }
-    let _printed = error.print(rt);
+    let printed = error.print(rt);
+    if printed.is_err() && !error.use_stderr() {
+        let _told = rt.eprint("cannot write\n");
+        return 3;
+    }
     1
 }

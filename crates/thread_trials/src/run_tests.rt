@@ -160,7 +160,7 @@ fn a_number_that_is_too_large_ends_the_run(rt: HostRuntime) -> Result<(), Fail> 
     );
     match client.read(&rt, NodeId::new(7), at((0, 0))) {
         Ok(rows) => {
-            assert_eq!(rt; rows.to_string(alloc)?.as_str(), "4611686014132420609 7\n");
+            assert_eq!(rt; rows.to_string(alloc)?.as_str(), "4611686014132420609 1\n");
         }
         Err(refusal) => assert_eq!(rt; refusal, Refusal::NotPassed),
     }
