@@ -28,6 +28,8 @@ enum Call {
     Probe(Who, Bitime),
     Read(Who, Bitime, &'static str),
     ReadCounts(Who, Bitime, &'static str),
+    // A read that is refused, since the view may still change there.
+    ReadTooEarly(Who, Bitime),
     // How many changes there are.
     Changes(Who, usize),
     Allow(Who, Bitime),
@@ -104,6 +106,13 @@ impl Row {
                 let found = self.caller(who).read_counts(rt, time)?;
                 assert_eq!(rt; found.to_string(alloc)?.as_str(), rows);
             }
+            Call::ReadTooEarly(who, time) => match self.caller(who).read(rt, time) {
+                Err(Refusal::NotPassed) => (),
+                told => {
+                    told?;
+                    panic!(rt; "the view was read while it may change")
+                }
+            },
             Call::Changes(who, count) => assert_eq!(rt; self.caller(who).changes(rt)?.len(), count),
             _ => (),
         }
@@ -124,20 +133,28 @@ impl Row {
     }
 }
 
-// A correction of what was read, and what is read before and after it. The times are (0, 0), (1, 0),
-// (0, 1), (1, 1) and (0, 2).
-fn corrects<R: Wait + Abort>(
+// Makes these calls in a new session. One that is refused memory is made again.
+fn make_all<R: Wait + Abort>(
     rt: &R,
     alloc: Global,
     waits: bool,
-    times: [Bitime; 5],
+    calls: &[Call],
 ) -> Result<(), Refusal> {
     let mut row = match Row::opened(rt, alloc, waits) {
         Err(Refusal::OutOfMemory) => Row::opened(rt, alloc, waits)?,
         told => told?,
     };
+    for call in calls {
+        row.make_at_last(rt, alloc, call)?;
+    }
+    Ok(())
+}
+
+// A correction of what was read, and what is read before and after it. The times are (0, 0), (1, 0),
+// (0, 1), (1, 1) and (0, 2).
+fn correction(times: [Bitime; 5]) -> [Call; 20] {
     let [first, next, corrected, both, end] = times;
-    let calls = [
+    [
         Call::Feed(Who::Shop, 7, first, 1),
         Call::Feed(Who::Audit, 9, next, 1),
         Call::Advance(Who::Shop, corrected),
@@ -158,19 +175,36 @@ fn corrects<R: Wait + Abort>(
         Call::Close(Who::Audit),
         Call::Settle(Who::Shop),
         Call::ReadCounts(Who::Audit, both, "1 8 1\n1 9 1\n"),
-    ];
-    for call in &calls {
-        row.make_at_last(rt, alloc, call)?;
-    }
-    Ok(())
+    ]
+}
+
+// What was fed is in flight until a worker carries it on. The times are (0, 0) and (0, 1).
+fn in_flight(first: Bitime, next: Bitime) -> [Call; 7] {
+    [
+        Call::Feed(Who::Shop, 7, first, 1),
+        Call::Advance(Who::Shop, next),
+        Call::Probe(Who::Shop, first),
+        Call::ReadTooEarly(Who::Shop, first),
+        Call::Settle(Who::Shop),
+        Call::Probe(Who::Shop, next),
+        Call::Read(Who::Shop, first, "1 7\n"),
+    ]
 }
 
 // No clause says that a call that was refused memory succeeds once there is some.
 #[test]
-fn a_row_of_calls_takes_memory(rt: HostRuntime) -> Result<(), Fail> {
+fn a_correction_takes_memory(rt: HostRuntime) -> Result<(), Fail> {
     for waits in [false, true] {
         let times = [at(0, 0), at(1, 0), at(0, 1), at(1, 1), at(0, 2)];
-        corrects(&rt, rt.alloc(), waits, times)?;
+        make_all(&rt, rt.alloc(), waits, &correction(times))?;
+    }
+    Ok(())
+}
+
+#[test]
+fn what_is_in_flight_takes_memory(rt: HostRuntime) -> Result<(), Fail> {
+    for waits in [false, true] {
+        make_all(&rt, rt.alloc(), waits, &in_flight(at(0, 0), at(0, 1)))?;
     }
     Ok(())
 }

@@ -1,4 +1,4 @@
-use Rattle.std.proofs.Common.{rules, ◌≡◌, ◌∷◌, ◌∙◌, ℕ, Some, sym, ap}
+use Rattle.std.proofs.Common.{rules, ◌≡◌, ◌∷◌, ◌∙◌, ℕ, sym, ap}
 use Rattle.std.specs.Prelude.{slice_get}
 use Rattle.lattice.specs.declared.product.Pair.{Pair}
 use Rattle.hub.specs.Known.{Known}
