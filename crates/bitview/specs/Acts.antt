@@ -3,7 +3,7 @@ use Rattle.std.specs.Prelude.{◌≡◌, ◌⊎◌, ℕ, eqb, if◌then◌else�
 use Rattle.update.specs.declared.refusal.Refusal.{Refusal}
 use Rattle.grammar.specs.Scripts.{script_of}
 use Rattle.grammar.specs.ScriptModels.{ScriptModel}
-use Rattle.script.specs.Outs.{IsBeginning}
+use Rattle.output.specs.Outs.{IsBeginning}
 use Rattle.script.specs.declared.fault.RunFault.{RunFault}
 use Rattle.script.specs.declared.fault.RunFault.TheVariants.{Refused, Write}
 use Rattle.grammar.specs.declared.fault.Fault.{Fault}

@@ -5,14 +5,15 @@
 ghost use Rattle.std.specs.Prelude.{◌≡◌, ℕ, List, Some, IfErr, OnOk, option_map};
 ghost use Rattle.grammar.specs.Scripts.{Answers, script_of};
 ghost use Rattle.script.specs.Engines.{failures};
-ghost use Rattle.script.specs.Outs.{IsBeginning};
+ghost use Rattle.output.specs.Outs.{IsBeginning};
 ghost use Rattle.script.specs.declared.fault.RunFault.TheVariants.{Refused};
 ghost use Rattle.bitview.specs.Actions.{IsInRange, IsPartBeforeOverflow, asked_text, check_text};
 ghost use Rattle.bitview.specs.Acts.{Acts, IsCarriedOut, status_of, fault_status};
 
 use crate::command_line::Action;
 use grammar::{Fault, Script, parse};
-use script::{Out, RunFault, plain_script, put_all, run_script};
+use output::{Out, put_all};
+use script::{RunFault, plain_script, run_script};
 use session::OpenGate;
 use std::alloc::{AllocError, Global};
 use std::fmt;

@@ -1,5 +1,5 @@
 //! The process's own outputs. No contract says where their bytes go.
-use script::{Out, OutFault};
+use output::{Out, OutFault};
 use std::io::Write;
 use std::str;
 

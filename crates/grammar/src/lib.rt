@@ -2,7 +2,8 @@
 //!
 //! A file is a list of lines, and a line is a list of words. The meaning of a line depends only on
 //! the lines before it, so each file has one reading. [`parse`] returns its [`Script`] or its one
-//! [`Fault`]: the first faulty line, and the first test that fails there. Names are resolved here
+//! [`Fault`]: the first faulty line, and the first test that fails there. A [`Reader`] goes on after a
+//! fault, to find the later ones. Names are resolved here
 //! and never again. The plan of a script keeps all rules of plans, and every command names an input
 //! of that plan, or a view if the command asks about one.
 //!
@@ -26,6 +27,7 @@ mod names;
 mod nodes;
 mod numbers;
 mod parser;
+mod reader;
 mod requests;
 mod script;
 mod text;
@@ -37,5 +39,9 @@ pub use laws::{
     first_faults_decide, joined_texts_are_cut_again, lines_are_spelled, numbers_have_one_form,
     scripts_are_spelled,
 };
+pub use names::is_name;
+pub use numbers::{signed_number, whole_number};
 pub use parser::parse;
+pub use reader::Reader;
 pub use script::Script;
+pub use text::first_line;

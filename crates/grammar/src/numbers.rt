@@ -21,8 +21,8 @@ fn is_numeral(digits: &[u8]) -> bool
     }
 }
 
-// The whole number that the word spells, if it spells one that fits in 64 bits.
-pub(crate) fn whole_number(word: &str) -> Option<u64>
+/// The whole number that the word spells, if it spells one that fits in 64 bits. Takes no memory.
+pub fn whole_number(word: &str) -> Option<u64>
     ensures { result ≡ whole_of word.now }
 {
     if is_numeral(word.as_bytes()) {
@@ -42,8 +42,8 @@ fn is_signed_numeral(word: &[u8]) -> bool
     }
 }
 
-// The signed number that the word spells, if it spells one that fits in 64 bits.
-pub(crate) fn signed_number(word: &str) -> Option<i64>
+/// The signed number that the word spells, if it spells one that fits in 64 bits. Takes no memory.
+pub fn signed_number(word: &str) -> Option<i64>
     ensures { result ≡ signed_of word.now }
 {
     if is_signed_numeral(word.as_bytes()) {

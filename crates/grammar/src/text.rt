@@ -18,8 +18,8 @@ fn newline(bytes: &[u8]) -> Option<usize>
     bytes.iter().position(|b| *b == b'\n')
 }
 
-// The first line without its newline, and the bytes after it.
-pub(crate) fn first_line(bytes: &[u8]) -> (&[u8], &[u8])
+/// The first line without its newline, and the bytes after it. Takes no memory.
+pub fn first_line(bytes: &[u8]) -> (&[u8], &[u8])
     requires { 0 < length bytes.now }
     ensures line { lines_of bytes.now ≡ result.0.now ∷ lines_of result.1.now }
     ensures shorter { length result.1.now < length bytes.now }

@@ -2,7 +2,7 @@
 use Rattle.std.proofs.Common.{◌≡◌, ℕ, ◌+◌, List, [], ◌++◌, Result, Ok, Err, refl, sym, ◌∙◌, ap, subst, append_assoc, arith}
 use Rattle.std.specs.Prelude.{IfErr}
 use Rattle.script.specs.Engines.{failures}
-use Rattle.script.specs.Outs.{IsBeginning, Wrote, Broke}
+use Rattle.output.specs.Outs.{IsBeginning, Wrote, Broke}
 use Rattle.script.specs.declared.fault.RunFault.{RunFault}
 
 joined : (waiting xs part left ys more rest : List ℕ) → waiting ++ xs ≡ part ++ left → left ++ ys ≡ more ++ rest → waiting ++ (xs ++ ys) ≡ (part ++ more) ++ rest

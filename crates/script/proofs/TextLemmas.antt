@@ -5,7 +5,7 @@ use Rattle.plan.specs.declared.node.Node.{Node}
 use Rattle.grammar.specs.declared.command.CommandLine.{CommandLine}
 use Rattle.grammar.specs.ScriptModels.{ScriptModel}
 use Rattle.script.specs.Ends.{IsTextBefore}
-use Rattle.script.specs.Outs.{IsBeginning}
+use Rattle.output.specs.Outs.{IsBeginning}
 use Rattle.script.specs.Text.{BitemporalSession, after_command, piece, after_lines, lines_text}
 
 module _ (p : List Node) where

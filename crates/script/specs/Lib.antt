@@ -1,9 +1,6 @@
 pub mod Bags
 pub mod Orders
 pub mod Changes
-pub mod Outs
-pub mod AppendLaws
-pub mod Printing
 pub mod Sessions
 pub mod Text
 pub mod Bounds

@@ -14,7 +14,7 @@ use Rattle.grammar.specs.declared.command.CommandLine.{CommandLine}
 use Rattle.grammar.specs.ScriptModels.{ScriptModel, name_at}
 use Rattle.antichain.specs.Antichains.{least}
 use Rattle.script.specs.Orders.{in_order}
-use Rattle.script.specs.Printing.{refused_text, rows_text, changes_text, frontier_text}
+use Rattle.output.specs.Printing.{refused_text, rows_text, changes_text, frontier_text}
 use Rattle.script.specs.Sessions.{Session, first_session, with_change, with_frontier, with_since, change_refusal, frontier_refusal, since_refusal, read_refusal, changes_refusal, rows_at, changes_at, frontier_at}
 use Rattle.lattice.specs.Bitimes.{bitime_below, bitime_cmp, bitime_join}
 

@@ -1,7 +1,7 @@
 //! Why a run ended before the last line.
 ghost use Rattle.std.specs.Prelude.{◌≡◌};
 
-use crate::outputs::OutFault;
+use output::OutFault;
 use std::alloc::AllocError;
 use thiserror::Error;
 use update::Refusal;

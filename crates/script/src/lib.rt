@@ -18,8 +18,8 @@
 //!   caller's (`employment`). The theorems about histories then say that its views are right.
 //!   `oracle_engine` keeps the changes and computes each answer from scratch, by crate `oracle`. So
 //!   the text of the first engine can be compared with that of the second.
-//! - Printed text (`printer`) is collected in an `output_buffer` and goes in large pieces to an
-//!   [`Out`], whose contract says which bytes it took.
+//! - Printed text (`printer`) is collected in an `OutputBuffer` of crate `output` and goes in large pieces
+//!   to an [`Out`], whose contract says which bytes it took.
 #![tactic(auto)]
 
 mod crew;
@@ -28,10 +28,7 @@ mod engine;
 mod fault;
 mod laws;
 mod line;
-mod memory;
 mod oracle_engine;
-mod output_buffer;
-mod outputs;
 mod printer;
 mod run;
 
@@ -40,7 +37,6 @@ pub use laws::{
     bounds_exist, engines_can_stand, large_numbers_have_large_bounds, the_bag_of_entries,
     the_changes_of_a_view, the_frontier_of_a_view,
 };
-pub use memory::MemoryOut;
 pub use oracle_engine::plain_script;
-pub use outputs::{Out, OutFault, put_all};
+pub use output::{MemoryOut, Out, OutFault, put_all};
 pub use run::run_script;

@@ -2,13 +2,12 @@
 ghost use Rattle.std.specs.Prelude.{◌<◌, IfErr, OnOk};
 ghost use Rattle.update.specs.Text.{entry_text};
 ghost use Rattle.script.specs.Engines.{IsEnd, failures};
-ghost use Rattle.script.specs.Outs.{Wrote, Broke};
-ghost use Rattle.script.specs.Printing.{rows_text, changes_text, frontier_text, update_text, element_text};
+ghost use Rattle.output.specs.Outs.{Wrote, Broke};
+ghost use Rattle.output.specs.Printing.{rows_text, changes_text, frontier_text, update_text, element_text};
 
 use crate::fault::RunFault;
-use crate::output_buffer::OutputBuffer;
-use crate::outputs::Out;
 use lattice::Bitime;
+use output::{Out, OutputBuffer};
 use row::Row;
 use update::{Bag, Update};
 

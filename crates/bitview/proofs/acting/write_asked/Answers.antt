@@ -2,7 +2,7 @@ use Rattle.std.proofs.Common.{◌≡◌, ℕ, List, Result, Ok, Err}
 use Rattle.std.specs.Prelude.{IfErr}
 use Rattle.grammar.specs.ScriptModels.{ScriptModel}
 use Rattle.script.specs.Ends.{IsTextBeforeOverflow}
-use Rattle.script.specs.Outs.{IsBeginning}
+use Rattle.output.specs.Outs.{IsBeginning}
 use Rattle.script.specs.Text.{opening_session, text}
 use Rattle.script.specs.declared.fault.RunFault.{RunFault}
 use Rattle.script.specs.declared.fault.RunFault.TheVariants.{Refused}

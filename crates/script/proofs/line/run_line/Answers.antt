@@ -2,7 +2,7 @@ use Rattle.std.proofs.Common.{[], sym, subst, ◌∙◌, ◌++◌}
 use Rattle.std.proofs.lemmas.List.{append-nil}
 use Rattle.std.proofs.lemmas.Result.{err_from_is_err_and}
 use Rattle.grammar.specs.declared.command.Command.{Command}
-use Rattle.script.specs.Outs.{Wrote}
+use Rattle.output.specs.Outs.{Wrote}
 use Rattle.script.specs.Text.{after_command, piece}
 use Rattle.script.proofs.OutLemmas.{broke_before, wrote_more, broke_more}
 use Rattle.script.proofs.line.run_line.Goals as goal

@@ -3,7 +3,7 @@ use Rattle.std.proofs.lemmas.Result.{IfErr-weaker}
 use Rattle.lattice.specs.Pairs.{make_pair}
 use Rattle.plan.specs.declared.node.Node.{Node}
 use Rattle.script.specs.Engines.{failures}
-use Rattle.script.specs.Outs.{IsBeginning, Broke}
+use Rattle.output.specs.Outs.{IsBeginning, Broke}
 use Rattle.script.specs.OracleStanding.{Records}
 use Rattle.script.specs.Text.{opening_session, lines_text, text}
 use Rattle.script.proofs.EndLemmas.{bound_ends, overflow_texts}

@@ -2,7 +2,7 @@ use Rattle.std.proofs.Common.{◌≡◌, take}
 use Rattle.lattice.specs.Bitimes.{bitime_below}
 use Rattle.lattice.specs.Pairs.{make_pair}
 use Rattle.shared_board.specs.Found.{dataflow_of}
-use Rattle.script.specs.Outs.{Wrote}
+use Rattle.output.specs.Outs.{Wrote}
 use Rattle.script.specs.Standing.{StandsAs}
 use Rattle.script.specs.Text.{BitemporalSession, after_lines, lines_text}
 use Rattle.script.proofs.run.run_crew_lines.Given as goal

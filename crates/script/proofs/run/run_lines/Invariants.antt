@@ -1,5 +1,5 @@
 use Rattle.std.proofs.Common.{◌≡◌, take}
-use Rattle.script.specs.Outs.{Wrote}
+use Rattle.output.specs.Outs.{Wrote}
 use Rattle.script.specs.Text.{BitemporalSession, after_lines, lines_text}
 use Rattle.script.proofs.run.run_lines.Given as goal
 

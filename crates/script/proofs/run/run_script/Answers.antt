@@ -3,7 +3,7 @@ use Rattle.std.proofs.lemmas.Result.{IfErr-weaker, err_from_is_err_and}
 use Rattle.update.specs.declared.refusal.Refusal.TheVariants.{BadWorkers}
 use Rattle.plan.specs.declared.node.Node.{Node}
 use Rattle.script.specs.Engines.{failures}
-use Rattle.script.specs.Outs.{IsBeginning, Broke}
+use Rattle.output.specs.Outs.{IsBeginning, Broke}
 use Rattle.lattice.specs.Bitimes.{bitime_below}
 use Rattle.lattice.specs.Pairs.{make_pair}
 use Rattle.script.specs.Standing.{StandsAs}

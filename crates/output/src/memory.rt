@@ -40,7 +40,7 @@ impl MemoryOut {
 
 impl Out for MemoryOut {
     ghost use Rattle.std.specs.Prelude.{◌≡◌, ◌++◌};
-    ghost use Rattle.script.specs.AppendLaws.{nothing_more, more_and_more};
+    ghost use Rattle.output.specs.AppendLaws.{nothing_more, more_and_more};
 
     ghost took = { λ out bytes failures later. later ≡ out ++ bytes };
 

@@ -3,7 +3,7 @@
 //! An output may take fewer bytes than it is given, as a pipe does. The writer then puts the rest,
 //! until nothing is left. The contract does not say where the bytes go: that is up to each output.
 ghost use Rattle.std.specs.Prelude.{ℕ, ◌<◌, ◌≤◌, ◌+◌, ◌++◌, List, [], IfOk, OnErr, OnOk, length, take};
-ghost use Rattle.script.specs.Outs.{IsBeginning};
+ghost use Rattle.output.specs.Outs.{IsBeginning};
 
 use thiserror::Error;
 

@@ -4,8 +4,8 @@
 //! here until a piece is large enough. Numbers and rows are printed straight into the waiting text,
 //! without an allocation for each.
 ghost use Rattle.std.specs.Prelude.{◌≡◌, ◌++◌, ℕ, List, [], OnErr, OnOk};
-ghost use Rattle.script.specs.Outs.{IsBeginning, Wrote, Broke};
-ghost use Rattle.script.specs.Printing.{refused_text, read_text, count_text, update_text, element_text};
+ghost use Rattle.output.specs.Outs.{IsBeginning, Wrote, Broke};
+ghost use Rattle.output.specs.Printing.{refused_text, read_text, count_text, update_text, element_text};
 ghost use Rattle.update.specs.Text.{entry_text};
 
 use crate::outputs::{Out, OutFault, put_all};
@@ -20,8 +20,8 @@ const PIECE: usize = 65_536;
 
 /// Text that waits for an output. A contract sees its bytes.
 #[derive(Drop)]
-pub(crate) struct OutputBuffer {
-    pub(crate) text: String,
+pub struct OutputBuffer {
+    text: String,
 }
 
 impl Model for OutputBuffer {
@@ -33,7 +33,8 @@ impl Model for OutputBuffer {
 }
 
 impl OutputBuffer {
-    pub(crate) fn new(alloc: Global) -> OutputBuffer
+    /// A buffer in which no text waits. Takes no memory.
+    pub fn new(alloc: Global) -> OutputBuffer
         ensures { result ≡ [] }
     {
         OutputBuffer {
@@ -41,8 +42,17 @@ impl OutputBuffer {
         }
     }
 
-    // Writes all waiting text.
-    pub(crate) fn flush<W: Out>(&mut self, out: &mut W) -> Result<(), OutFault>
+    /// Adds text behind the text that waits.
+    ///
+    /// Cost: linear in the text.
+    pub fn push(&mut self, text: &str) -> Result<(), AllocError>
+        ensures { OnOk result (self.new ≡ self.old ++ text.now) }
+    {
+        self.text.push_str(text)
+    }
+
+    /// Writes all waiting text.
+    pub fn flush<W: Out>(&mut self, out: &mut W) -> Result<(), OutFault>
         ensures all { OnOk result (W.took out.old self.old 0 out.new) }
         ensures empty { OnOk result (self.new ≡ []) }
         ensures beginning { OnErr result ((part : List ℕ) × IsBeginning part self.old
@@ -53,8 +63,8 @@ impl OutputBuffer {
         Ok(())
     }
 
-    // Writes the waiting text if it is large enough to be worth a call.
-    pub(crate) fn pass_on<W: Out>(&mut self, out: &mut W) -> Result<(), OutFault>
+    /// Writes the waiting text if it is large enough to be worth a call.
+    pub fn pass_on<W: Out>(&mut self, out: &mut W) -> Result<(), OutFault>
         ensures wrote { OnOk result (Wrote W.took out.old self.old [] out.new self.new) }
         ensures broke { OnErr result (Broke W.took out.old self.old [] 1 out.new) }
     {
@@ -64,16 +74,16 @@ impl OutputBuffer {
         self.flush(out)
     }
 
-    // `refused LINE CODE`: the command of the line was refused.
-    pub(crate) fn print_refused(&mut self, line: u64, refusal: Refusal) -> Result<(), AllocError>
+    /// `refused LINE CODE`: the command of the line was refused.
+    pub fn print_refused(&mut self, line: u64, refusal: Refusal) -> Result<(), AllocError>
         ensures { OnOk result (self.new ≡ self.old ++ refused_text line refusal) }
     {
         let code = refusal.code();
         writeln!(self.text, "refused {line} {code}")
     }
 
-    // `read VIEW VALID SYSTEM ROWS`: the header of a read's rows.
-    pub(crate) fn print_read(
+    /// `read VIEW VALID SYSTEM ROWS`: the header of a read's rows.
+    pub fn print_read(
         &mut self,
         view: &str,
         time: Bitime,
@@ -86,8 +96,8 @@ impl OutputBuffer {
         writeln!(self.text, "read {view} {valid} {system} {rows}")
     }
 
-    // `WORD VIEW LINES`: the header of a view's changes or of its frontier.
-    pub(crate) fn print_count(
+    /// `WORD VIEW LINES`: the header of a view's changes or of its frontier.
+    pub fn print_count(
         &mut self,
         word: &str,
         view: &str,
@@ -98,8 +108,8 @@ impl OutputBuffer {
         writeln!(self.text, "{word} {view} {lines}")
     }
 
-    // `VALID SYSTEM DIFF ROW`: one change of a view.
-    pub(crate) fn print_update(&mut self, update: &Update<Bitime>) -> Result<(), AllocError>
+    /// `VALID SYSTEM DIFF ROW`: one change of a view.
+    pub fn print_update(&mut self, update: &Update<Bitime>) -> Result<(), AllocError>
         ensures { OnOk result (self.new ≡ self.old ++ update_text update.now) }
     {
         let valid = update.time.first;
@@ -109,8 +119,8 @@ impl OutputBuffer {
         writeln!(self.text, "{valid} {system} {diff} {row}")
     }
 
-    // `VALID SYSTEM`: one element of a frontier.
-    pub(crate) fn print_element(&mut self, time: Bitime) -> Result<(), AllocError>
+    /// `VALID SYSTEM`: one element of a frontier.
+    pub fn print_element(&mut self, time: Bitime) -> Result<(), AllocError>
         ensures { OnOk result (self.new ≡ self.old ++ element_text time) }
     {
         let valid = time.first;
@@ -118,8 +128,8 @@ impl OutputBuffer {
         writeln!(self.text, "{valid} {system}")
     }
 
-    // `COUNT ROW`: one row of a read.
-    pub(crate) fn print_row(&mut self, count: i64, row: &Row) -> Result<(), AllocError>
+    /// `COUNT ROW`: one row of a read.
+    pub fn print_row(&mut self, count: i64, row: &Row) -> Result<(), AllocError>
         ensures { OnOk result
             (self.new ≡ self.old ++ entry_text (record { row = row.now; count = count })) }
     {

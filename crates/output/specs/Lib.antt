@@ -1,0 +1,3 @@
+pub mod AppendLaws
+pub mod Outs
+pub mod Printing
