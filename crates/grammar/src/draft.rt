@@ -47,7 +47,7 @@ impl Draft {
     }
 
     // The number of the node with this name.
-    fn place(&self, word: &str) -> Option<usize>
+    pub(crate) fn place(&self, word: &str) -> Option<usize>
         ensures { result ≡ number_of_name (parse_state self.now) word.now }
     {
         self.names.get_index_of(word)

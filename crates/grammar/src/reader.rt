@@ -65,7 +65,10 @@ impl Reader {
     pub fn find(&self, name: &str) -> Option<NodeId>
         ensures { result ≡ number_of_name self.now name.now }
     {
-        self.draft.names.get_index_of(name).map(NodeId::new)
+        match self.draft.place(name) {
+            Some(number) => Some(NodeId::new(number)),
+            None => None,
+        }
     }
 
     /// How many names there are: one for each node so far. Takes no memory.

@@ -83,12 +83,7 @@ impl OutputBuffer {
     }
 
     /// `read VIEW VALID SYSTEM ROWS`: the header of a read's rows.
-    pub fn print_read(
-        &mut self,
-        view: &str,
-        time: Bitime,
-        rows: usize,
-    ) -> Result<(), AllocError>
+    pub fn print_read(&mut self, view: &str, time: Bitime, rows: usize) -> Result<(), AllocError>
         ensures { OnOk result (self.new ≡ self.old ++ read_text view.now time rows) }
     {
         let valid = time.first;
@@ -97,12 +92,7 @@ impl OutputBuffer {
     }
 
     /// `WORD VIEW LINES`: the header of a view's changes or of its frontier.
-    pub fn print_count(
-        &mut self,
-        word: &str,
-        view: &str,
-        lines: usize,
-    ) -> Result<(), AllocError>
+    pub fn print_count(&mut self, word: &str, view: &str, lines: usize) -> Result<(), AllocError>
         ensures { OnOk result (self.new ≡ self.old ++ count_text word.now view.now lines) }
     {
         writeln!(self.text, "{word} {view} {lines}")

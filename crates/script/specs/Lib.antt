@@ -7,6 +7,7 @@ pub mod Bounds
 pub mod Engines
 pub mod Ends
 pub mod Answers
+pub mod Reads
 pub mod Standing
 pub mod Employment
 pub mod OracleStanding

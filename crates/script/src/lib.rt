@@ -30,6 +30,7 @@ mod laws;
 mod line;
 mod oracle_engine;
 mod printer;
+mod reads;
 mod run;
 
 pub use fault::RunFault;
@@ -39,4 +40,5 @@ pub use laws::{
 };
 pub use oracle_engine::plain_script;
 pub use output::{MemoryOut, Out, OutFault, put_all};
+pub use reads::{Rows, TwoReads, read_twice};
 pub use run::run_script;

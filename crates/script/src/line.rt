@@ -23,7 +23,7 @@ use std::alloc::Global;
 use update::{Refusal, Times, Update};
 
 // Whether the refusal ends the run. Such a refusal is never printed as a line.
-fn ends_run(refusal: Refusal) -> bool
+pub(crate) fn ends_run(refusal: Refusal) -> bool
     ensures ends { IsTrue result → EndsRun refusal }
     ensures goes_on { result ≡ false → EndsRun refusal → ⊥ }
 {
@@ -34,7 +34,7 @@ fn ends_run(refusal: Refusal) -> bool
 }
 
 // Hands a command that changes an input to the engine.
-fn hand_over<E: Engine>(
+pub(crate) fn hand_over<E: Engine>(
     alloc: Global,
     engine: &mut E,
     command: &InputCommand,
@@ -83,7 +83,7 @@ fn frontier_of(alloc: Global, times: &Times<Bitime>) -> Result<Antichain<Bitime>
 }
 
 // Hands to the engine from which times on a view may be read.
-fn hand_since<E: Engine>(
+pub(crate) fn hand_since<E: Engine>(
     alloc: Global,
     engine: &mut E,
     view: NodeId,
