@@ -32,13 +32,15 @@ mod oracle_engine;
 mod printer;
 mod reads;
 mod run;
+mod watch;
 
 pub use fault::RunFault;
 pub use laws::{
     bounds_exist, engines_can_stand, large_numbers_have_large_bounds, the_bag_of_entries,
     the_changes_of_a_view, the_frontier_of_a_view,
 };
-pub use oracle_engine::plain_script;
+pub use oracle_engine::{plain_script, plain_script_watched};
 pub use output::{MemoryOut, Out, OutFault, put_all};
 pub use reads::{Rows, TwoReads, read_twice};
-pub use run::run_script;
+pub use run::{run_script, run_script_watched};
+pub use watch::{Unwatched, Watch};

@@ -28,6 +28,7 @@ ghost use Rattle.script.specs.Bounds.{EndsByBound, IsLargeScript};
 use crate::engine::{CatchUp, Engine};
 use crate::fault::RunFault;
 use crate::run::run;
+use crate::watch::{Unwatched, Watch};
 use antichain::{Antichain, is_beyond};
 use grammar::Script;
 use lattice::{Bitime, Minimum};
@@ -347,6 +348,23 @@ pub fn plain_script<W: Out>(alloc: Global, script: &Script, out: &mut W) -> Resu
         → (part : List ℕ) × IsTextBeforeOverflow script.now part × W.took out.old part 0 out.new) }
     ensures known { IfErr result (IsRunEnd (IsLargeScript script.now)) }
 {
+    plain_script_watched(alloc, script, out, &mut Unwatched)
+}
+
+/// Carries out a script as [`plain_script`] does, and tells `watch` of each line that was carried out.
+pub fn plain_script_watched<W: Out, V: Watch>(
+    alloc: Global,
+    script: &Script,
+    out: &mut W,
+    watch: &mut V,
+) -> Result<(), RunFault>
+    ensures written { OnOk result (W.took out.old (text script.now) 0 out.new) }
+    ensures beginning { IfErr result (λ fault. (part : List ℕ) × IsBeginning part (text script.now)
+        × W.took out.old part (failures fault) out.new) }
+    ensures overflow { IfErr result (λ fault. fault ≡ Refused 10
+        → (part : List ℕ) × IsTextBeforeOverflow script.now part × W.took out.old part 0 out.new) }
+    ensures known { IfErr result (IsRunEnd (IsLargeScript script.now)) }
+{
     let mut engine = OracleEngine::open(alloc, script.plan())?;
-    run(alloc, &mut engine, script, out)
+    run(alloc, &mut engine, script, out, watch)
 }

@@ -21,6 +21,7 @@ use crate::crew::Crew;
 use crate::engine::CatchUp;
 use crate::fault::RunFault;
 use crate::line::{end_run, run_line};
+use crate::watch::{Unwatched, Watch};
 use grammar::{Command, CommandLine, Script};
 use output::{Out, OutputBuffer};
 use session::Gate;
@@ -29,12 +30,13 @@ use std::sync::Wait;
 use std::thread::Threads;
 
 // Carries out all lines in order. The text of the last ones may still wait in the buffer.
-fn run_lines<E: CatchUp, W: Out>(
+fn run_lines<E: CatchUp, W: Out, V: Watch>(
     alloc: Global,
     engine: &mut E,
     script: &Script,
     buffer: &mut OutputBuffer,
     out: &mut W,
+    watch: &mut V,
 ) -> Result<(), RunFault>
     requires plan { script.now.plan ≡ E.plan engine.old }
     ensures wrote { (s : BitemporalSession) → E.stands engine.old s
@@ -57,17 +59,19 @@ fn run_lines<E: CatchUp, W: Out>(
 {
     for line in script.command_lines() {
         run_line(alloc, engine, script, line, buffer, out)?;
+        watch.done(line);
     }
     Ok(())
 }
 
 /// Carries out a script on an engine that has its plan. The output takes what the lines write in
 /// the session for which the engine stands.
-pub(crate) fn run<E: CatchUp, W: Out>(
+pub(crate) fn run<E: CatchUp, W: Out, V: Watch>(
     alloc: Global,
     engine: &mut E,
     script: &Script,
     out: &mut W,
+    watch: &mut V,
 ) -> Result<(), RunFault>
     requires plan { script.now.plan ≡ E.plan engine.old }
     ensures wrote { (s : BitemporalSession) → E.stands engine.old s
@@ -87,7 +91,7 @@ pub(crate) fn run<E: CatchUp, W: Out>(
         (λ now. E.ends script.now.plan now refusal) script.now.plan s script.now.commands)) }
 {
     let mut buffer = OutputBuffer::new(alloc);
-    run_lines(alloc, engine, script, &mut buffer, out)?;
+    run_lines(alloc, engine, script, &mut buffer, out, watch)?;
     buffer.flush(out)?;
     Ok(())
 }
@@ -127,13 +131,14 @@ fn run_crew_line<R: Threads + Wait + Sync, G: Gate + Sync, W: Out>(
 }
 
 // Carries out all lines in order by a crew. The text of the last ones may still wait in the buffer.
-fn run_crew_lines<R: Threads + Wait + Sync, G: Gate + Sync, W: Out>(
+fn run_crew_lines<R: Threads + Wait + Sync, G: Gate + Sync, W: Out, V: Watch>(
     alloc: Global,
     crew: &mut Crew<'_, R>,
     script: &Script,
     gate: &G,
     buffer: &mut OutputBuffer,
     out: &mut W,
+    watch: &mut V,
 ) -> Result<(), RunFault>
     requires plan { script.now.plan ≡ (dataflow_of crew.old).nodes }
     ensures wrote { (s : BitemporalSession) → StandsAs bitime_below (make_pair 0 0) crew.old s
@@ -152,17 +157,19 @@ fn run_crew_lines<R: Threads + Wait + Sync, G: Gate + Sync, W: Out>(
 {
     for line in script.command_lines() {
         run_crew_line(alloc, crew, script, line, gate, buffer, out)?;
+        watch.done(line);
     }
     Ok(())
 }
 
 // Carries out a script by a crew that has its plan, as `run` does by an engine.
-fn run_crew<R: Threads + Wait + Sync, G: Gate + Sync, W: Out>(
+fn run_crew<R: Threads + Wait + Sync, G: Gate + Sync, W: Out, V: Watch>(
     alloc: Global,
     crew: &mut Crew<'_, R>,
     script: &Script,
     gate: &G,
     out: &mut W,
+    watch: &mut V,
 ) -> Result<(), RunFault>
     requires plan { script.now.plan ≡ (dataflow_of crew.old).nodes }
     ensures wrote { (s : BitemporalSession) → StandsAs bitime_below (make_pair 0 0) crew.old s
@@ -179,7 +186,7 @@ fn run_crew<R: Threads + Wait + Sync, G: Gate + Sync, W: Out>(
         (λ now. EndsByBound script.now.plan now refusal) script.now.plan s script.now.commands)) }
 {
     let mut buffer = OutputBuffer::new(alloc);
-    run_crew_lines(alloc, crew, script, gate, &mut buffer, out)?;
+    run_crew_lines(alloc, crew, script, gate, &mut buffer, out, watch)?;
     Ok(buffer.flush(out)?)
 }
 
@@ -227,6 +234,28 @@ pub fn run_script<R: Threads + Wait + Sync, G: Gate + Sync, W: Out>(
     ensures known { IfErr result (λ fault. IsRunEnd (IsLargeScript script.now) fault
         ⊎ ((fault ≡ Refused 23) ⊎ (fault ≡ Refused 24))) }
 {
+    run_script_watched(runtime, alloc, script, workers, out, gate, &mut Unwatched)
+}
+
+/// Runs a script as [`run_script`] does, and tells `watch` of each line that was carried out.
+pub fn run_script_watched<R: Threads + Wait + Sync, G: Gate + Sync, W: Out, V: Watch>(
+    runtime: &R,
+    alloc: Global,
+    script: &Script,
+    workers: u64,
+    out: &mut W,
+    gate: &G,
+    watch: &mut V,
+) -> Result<(), RunFault>
+    ensures written { OnOk result (W.took out.old (text script.now) 0 out.new) }
+    ensures beginning { IfErr result (λ fault. (part : List ℕ) × IsBeginning part (text script.now)
+        × W.took out.old part (failures fault) out.new) }
+    ensures overflow { IfErr result (λ fault. fault ≡ Refused 10
+        → (part : List ℕ) × IsTextBeforeOverflow script.now part × W.took out.old part 0 out.new) }
+    ensures workers { IsErrOf result (Refused 23) ↔ (AreCounts workers 1 → ⊥) }
+    ensures known { IfErr result (λ fault. IsRunEnd (IsLargeScript script.now) fault
+        ⊎ ((fault ≡ Refused 23) ⊎ (fault ≡ Refused 24))) }
+{
     let mut crew = Crew::open(runtime, alloc, script.plan(), workers as usize)?;
-    run_crew(alloc, &mut crew, script, gate, out)
+    run_crew(alloc, &mut crew, script, gate, out, watch)
 }

@@ -7,7 +7,7 @@ use Rattle.output.specs.Outs.{IsBeginning, Broke}
 use Rattle.script.specs.OracleStanding.{Records}
 use Rattle.script.specs.Text.{opening_session, lines_text, text}
 use Rattle.script.proofs.EndLemmas.{bound_ends, overflow_texts}
-use Rattle.script.proofs.oracle_engine.plain_script.Goals as goal
+use Rattle.script.proofs.oracle_engine.plain_script_watched.Goals as goal
 
 pub returns-clause-beginning : goal.returns-clause-beginning
 returns-clause-beginning g c =

@@ -9,7 +9,7 @@ use Rattle.lattice.specs.Pairs.{make_pair}
 use Rattle.script.specs.Standing.{StandsAs}
 use Rattle.script.specs.Text.{opening_session, text}
 use Rattle.script.proofs.EndLemmas.{crew_counts, crew_ends, not_both, overflow_texts}
-use Rattle.script.proofs.run.run_script.Goals as goal
+use Rattle.script.proofs.run.run_script_watched.Goals as goal
 
 pub returns-clause-known : goal.returns-clause-known
 returns-clause-known g c =
