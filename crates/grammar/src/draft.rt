@@ -1,7 +1,8 @@
 //! A script that is being read: what its lines so far have said. Each node has exactly one name.
 //! Names and nodes are kept in the order of the lines, so the index of a name is the number of its
 //! node.
-ghost use Rattle.std.specs.Prelude.{◌≡◌, None, IfOk, string_bytes};
+ghost use Rattle.std.specs.Prelude.{◌≡◌, None, IfOk, map, position, string_bytes};
+ghost use Rattle.std.specs.Str.{bytes_eq};
 ghost use Rattle.plan.specs.Rules.{is_readable};
 ghost use Rattle.update.specs.declared.refusal.Refusal.TheVariants.{UnknownName};
 ghost use Rattle.grammar.specs.Commands.{is_input_of, is_view_of};
@@ -34,6 +35,20 @@ fn unknown() -> LineError
     LineError::Refused(Refusal::UnknownName)
 }
 
+// The place of a name among the names. As each node has one name, it is the number of the node.
+pub(crate) fn place(names: &IndexSet<String>, word: &str) -> Option<usize>
+    ensures { result ≡ position (bytes_eq word.now) (map string_bytes names.now.keys) }
+{
+    names.get_index_of(word)
+}
+
+// Whether the node is a view.
+pub(crate) fn is_view(plan: &Plan, id: NodeId) -> bool
+    ensures { result ≡ is_view_of plan.now id }
+{
+    id.number() < plan.len() && plan.node(id).is_output()
+}
+
 impl Draft {
     pub(crate) fn new(alloc: Global) -> Draft
         ensures { parse_state result ≡ first_parse_state }
@@ -46,23 +61,10 @@ impl Draft {
         }
     }
 
-    // The number of the node with this name.
-    pub(crate) fn place(&self, word: &str) -> Option<usize>
-        ensures { result ≡ number_of_name (parse_state self.now) word.now }
-    {
-        self.names.get_index_of(word)
-    }
-
     fn is_input(&self, id: NodeId) -> bool
         ensures { result ≡ is_input_of self.now.plan id }
     {
         id.number() < self.plan.len() && self.plan.node(id).is_input()
-    }
-
-    fn is_view(&self, id: NodeId) -> bool
-        ensures { result ≡ is_view_of self.now.plan id }
-    {
-        id.number() < self.plan.len() && self.plan.node(id).is_output()
     }
 
     // The node with this name, if other nodes may read it.
@@ -70,7 +72,7 @@ impl Draft {
     pub(crate) fn source(&self, word: &str) -> Result<NodeId, LineError>
         ensures { Gives (λ id. id) result (source (parse_state self.now) word.now) }
     {
-        match self.place(word).map(NodeId::new) {
+        match place(&self.names, word).map(NodeId::new) {
             Some(id) if self.plan.is_readable(id) => Ok(id),
             _ => Err(unknown()),
         }
@@ -81,7 +83,7 @@ impl Draft {
     pub(crate) fn input(&self, word: &str) -> Result<NodeId, LineError>
         ensures { Gives (λ id. id) result (input (parse_state self.now) word.now) }
     {
-        match self.place(word).map(NodeId::new) {
+        match place(&self.names, word).map(NodeId::new) {
             Some(id) if self.is_input(id) => Ok(id),
             _ => Err(unknown()),
         }
@@ -92,8 +94,8 @@ impl Draft {
     pub(crate) fn view(&self, word: &str) -> Result<NodeId, LineError>
         ensures { Gives (λ id. id) result (view (parse_state self.now) word.now) }
     {
-        match self.place(word).map(NodeId::new) {
-            Some(id) if self.is_view(id) => Ok(id),
+        match place(&self.names, word).map(NodeId::new) {
+            Some(id) if is_view(&self.plan, id) => Ok(id),
             _ => Err(unknown()),
         }
     }
@@ -109,7 +111,7 @@ impl Draft {
         if !is_name(word) {
             return Err(LineError::Refused(Refusal::BadName));
         }
-        if self.place(word).is_some() {
+        if place(&self.names, word).is_some() {
             return Err(LineError::Refused(Refusal::DuplicateName));
         }
         Ok(String::from_str(alloc, word)?)

@@ -7,7 +7,7 @@ ghost use Rattle.grammar.specs.ParseStates.{number_of_name};
 ghost use Rattle.grammar.specs.ScriptModels.{name_at};
 ghost use Rattle.grammar.specs.Scripts.{Answers, first_parse_state, on_line};
 
-use crate::draft::Draft;
+use crate::draft::{Draft, place};
 use crate::fault::Fault;
 use crate::lines::take_line;
 use crate::parser::fault;
@@ -65,7 +65,7 @@ impl Reader {
     pub fn find(&self, name: &str) -> Option<NodeId>
         ensures { result ≡ number_of_name self.now name.now }
     {
-        match self.draft.place(name) {
+        match place(&self.draft.names, name) {
             Some(number) => Some(NodeId::new(number)),
             None => None,
         }

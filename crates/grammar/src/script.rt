@@ -6,10 +6,10 @@ ghost use Rattle.std.specs.List.{All};
 ghost use Rattle.grammar.specs.Commands.{IsAbout};
 ghost use Rattle.grammar.specs.ParseStates.{parse_state};
 ghost use Rattle.grammar.specs.Scripts.{model_of};
-ghost use Rattle.grammar.specs.ScriptModels.{IsWhole, name_at};
+ghost use Rattle.grammar.specs.ScriptModels.{IsWhole, name_at, view_named};
 
 use crate::command::CommandLine;
-use crate::draft::Draft;
+use crate::draft::{Draft, is_view, place};
 use indexmap::IndexSet;
 use plan::{NodeId, Plan};
 use std::marker::Model;
@@ -88,6 +88,19 @@ impl Script {
         ensures { result.now ≡ name_at self.now.names id }
     {
         self.names.get_index(id.number()).unwrap().as_str()
+    }
+
+    /// The view with this name. Takes no memory.
+    ///
+    /// Cost: one look into a hash table.
+    #[tactic(auto, unfolding(crate::specs::ScriptModels::view_named))]
+    pub fn view(&self, name: &str) -> Option<NodeId>
+        ensures { result ≡ view_named self.now name.now }
+    {
+        match place(&self.names, name).map(NodeId::new) {
+            Some(id) if is_view(&self.plan, id) => Some(id),
+            _ => None,
+        }
     }
 
     /// The commands in the order of their lines. Each is about an input of the plan, or about a
