@@ -1,4 +1,3 @@
 pub mod LineLemmas
 pub mod MergeLemmas
-pub mod OutLemmas
 pub mod RowLemmas

@@ -10,7 +10,7 @@ use Rattle.comparison.specs.declared.change.Change.{Change}
 use Rattle.comparison.specs.Differences.{is_removal, is_addition, change_text}
 use Rattle.comparison.specs.Merging.{merged}
 use Rattle.comparison.proofs.MergeLemmas.{removals_fit, additions_fit}
-use Rattle.comparison.proofs.OutLemmas.{InTurn, wrote_in_turn, broke_more}
+use Rattle.output.proofs.OutLemmas.{InTurn, wrote_in_turn, broke_more}
 
 module _ {W : Type 0} (took : W → List ℕ → ℕ → W → Type 0) where
   -- the rows before the cursors are printed and counted

@@ -4,8 +4,6 @@ use Rattle.std.specs.List.{Contains, count_by, flat_map}
 use Rattle.std.specs.List.Sorted.{IsStrictlySortedBy}
 use Rattle.std.specs.Cmp.Lexicographic.{slice_cmp}
 use Rattle.std.specs.Ordering.{int_cmp, int_eq}
-use Rattle.output.specs.declared.fault.PrintFault.{PrintFault}
-use Rattle.output.specs.declared.fault.PrintFault.TheVariants.{OutOfMemory, Write}
 use Rattle.update.specs.Bags.{Entry, entry_of, count_of}
 use Rattle.update.specs.Text.{entry_text}
 use Rattle.comparison.specs.declared.change.Change.{Change}
@@ -53,8 +51,3 @@ changes_text cs = flat_map change_text cs
 -- what changed between two bags, given the rows of either
 abbrev pub difference_text : List Entry → List Entry → List (List ℤ) → List ℕ
 difference_text before after rows = changes_text (map (change_of before after) rows)
-
--- how many calls of the output failed if a difference was not written to its end
-abbrev pub failures : PrintFault → ℕ
-failures OutOfMemory = 0
-failures Write = 1

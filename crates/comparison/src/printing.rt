@@ -4,7 +4,8 @@ ghost use Rattle.std.specs.List.{count_by, flat_map};
 ghost use Rattle.output.specs.Outs.{Wrote, Broke};
 ghost use Rattle.update.specs.Bags.{entry_of};
 ghost use Rattle.update.specs.Text.{entry_text};
-ghost use Rattle.comparison.specs.Differences.{AreRowsOfEither, is_removal, is_addition, removal_text, addition_text, change_text, totals_text, changes_text, difference_text, failures};
+ghost use Rattle.comparison.specs.Differences.{AreRowsOfEither, is_removal, is_addition, removal_text, addition_text, change_text, totals_text, changes_text, difference_text};
+ghost use Rattle.output.specs.Faults.{failures};
 ghost use Rattle.comparison.specs.Merging.{merged};
 
 use crate::change::Change;

@@ -1,6 +1,6 @@
 use Rattle.std.proofs.lemmas.Result.{err_from_is_err_and}
 use Rattle.comparison.specs.Differences.{removal_text, addition_text}
-use Rattle.comparison.proofs.OutLemmas.{wrote_in_turn, broke_in_turn, broke_before}
+use Rattle.output.proofs.OutLemmas.{wrote_in_turn, broke_in_turn, broke_before}
 use Rattle.comparison.proofs.printing.print_change.Goals as goal
 
 pub returns-in_err-print_removal-clause-broke : goal.returns-in_err-print_removal-clause-broke

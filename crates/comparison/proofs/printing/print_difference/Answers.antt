@@ -2,7 +2,7 @@ use Rattle.std.proofs.lemmas.Result.{err_from_is_err_and}
 use Rattle.std.specs.List.{count_by, flat_map}
 use Rattle.comparison.specs.Differences.{change_text, totals_text, is_removal, is_addition}
 use Rattle.comparison.specs.Merging.{merged}
-use Rattle.comparison.proofs.OutLemmas.{wrote_in_turn, broke_in_turn, broke_before}
+use Rattle.output.proofs.OutLemmas.{wrote_in_turn, broke_in_turn, broke_before}
 use Rattle.comparison.proofs.printing.print_difference.Goals as goal
 
 pub returns-in_err-totals-clause-broke : goal.returns-in_err-totals-clause-broke

@@ -1,9 +1,10 @@
 use Rattle.std.proofs.Common.{ap, subst, List, ℕ, []}
 use Rattle.std.proofs.lemmas.Result.{err_from_is_err_and}
 use Rattle.output.specs.Outs.{Wrote, Broke}
-use Rattle.comparison.specs.Differences.{changes_text, failures}
+use Rattle.comparison.specs.Differences.{changes_text}
+use Rattle.output.specs.Faults.{failures}
 use Rattle.comparison.specs.Merging.{merged}
-use Rattle.comparison.proofs.OutLemmas.{wrote_all, broke_as, broke_last}
+use Rattle.output.proofs.OutLemmas.{wrote_all, broke_as, broke_last}
 use Rattle.comparison.proofs.RowLemmas.{rows_of, rows_of_either, merged_changes}
 use Rattle.comparison.proofs.printing.write_difference.Goals as goal
 
