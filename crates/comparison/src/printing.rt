@@ -22,6 +22,27 @@ struct Totals {
     additions: usize,
 }
 
+impl Totals {
+    // Counts the lines of a row.
+    fn with(self, change: &Change) -> Totals
+        requires removals { self.removals + (if is_removal change.now then 1 else 0) < 2 ^ 64 }
+        requires additions { self.additions + (if is_addition change.now then 1 else 0) < 2 ^ 64 }
+        ensures removals { result.removals
+            ≡ self.removals + (if is_removal change.now then 1 else 0) }
+        ensures additions { result.additions
+            ≡ self.additions + (if is_addition change.now then 1 else 0) }
+    {
+        let mut totals = self;
+        if change.is_removal() {
+            totals.removals += 1;
+        }
+        if change.is_addition() {
+            totals.additions += 1;
+        }
+        totals
+    }
+}
+
 // Prints a sign, a weight and a row.
 fn print_line<W: Out>(
     buffer: &mut OutputBuffer,
@@ -94,27 +115,6 @@ fn print_change<W: Out>(
     print_removal(buffer, out, change)?;
     print_addition(buffer, out, change)?;
     Ok(())
-}
-
-impl Totals {
-    // Counts the lines of a row.
-    fn with(self, change: &Change) -> Totals
-        requires removals { self.removals + (if is_removal change.now then 1 else 0) < 2 ^ 64 }
-        requires additions { self.additions + (if is_addition change.now then 1 else 0) < 2 ^ 64 }
-        ensures removals { result.removals
-            ≡ self.removals + (if is_removal change.now then 1 else 0) }
-        ensures additions { result.additions
-            ≡ self.additions + (if is_addition change.now then 1 else 0) }
-    {
-        let mut totals = self;
-        if change.is_removal() {
-            totals.removals += 1;
-        }
-        if change.is_addition() {
-            totals.additions += 1;
-        }
-        totals
-    }
 }
 
 // Prints the lines of all rows, and counts them.

@@ -1,5 +1,5 @@
-//! A difference in which an allocation is refused. It ends with a fault, a beginning of the text was
-//! taken, and the same difference is written once there is memory.
+//! A difference in which an allocation is refused. It ends with a fault, a beginning of the text
+//! was taken, and the same difference is written once there is memory.
 use comparison::write_difference;
 use output::{MemoryOut, PrintFault};
 use std::alloc::Global;
