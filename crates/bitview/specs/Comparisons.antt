@@ -18,6 +18,12 @@ module _ (took : List ℕ → ℕ → Type 0) where
       ((status ≡ 0) × (rows : List (List ℤ)) × AreRowsOfEither before after rows × took (difference_text before after rows) 0)
       ⊎ ((status ≡ 3) × (rows : List (List ℤ)) × AreRowsOfEither before after rows × (part : List ℕ) × (failures : ℕ) × IsBeginning part (difference_text before after rows) × took part failures)
 
+  -- what two reads have found is compared; 6: one of them was refused, and nothing is written
+  abbrev pub AreCompared : Result (List Entry) Refusal → Result (List Entry) Refusal → ℕ → Type 0
+  AreCompared (Ok before) (Ok after) status = IsRead before after status
+  AreCompared (Ok before) (Err refusal) status = (status ≡ 6) × took [] 0
+  AreCompared (Err refusal) after status = (status ≡ 6) × took [] 0
+
   module _ (name : List ℕ) (first second : Pair ℕ ℕ) where
     -- once the script has run, the view of this name has these rows at the two times
     abbrev pub AreFound : ScriptModel → List Entry → List Entry → Type 0

@@ -1,6 +1,6 @@
 //! What `diff` does with a file's bytes: two reads of a view, and what differs between them.
 ghost use Rattle.std.specs.Prelude.{◌≡◌, ◌≤◌, Some, option_map};
-ghost use Rattle.bitview.specs.Comparisons.{Compares, IsAnswered, IsRead};
+ghost use Rattle.bitview.specs.Comparisons.{AreCompared, Compares, IsAnswered, IsRead};
 ghost use Rattle.grammar.specs.ScriptModels.{view_named};
 
 use crate::acting::{end, keep_freed_memory, parsed, refuse, unread};
@@ -11,7 +11,7 @@ use grammar::Script;
 use lattice::Bitime;
 use output::{Out, PrintFault};
 use plan::NodeId;
-use script::{RunFault, TwoReads, read_twice};
+use script::{Rows, RunFault, TwoReads, read_twice};
 use session::OpenGate;
 use std::alloc::Global;
 use std::fmt::Write;
@@ -94,23 +94,39 @@ fn read_and_compare<R: Threads + Wait + Sync, W: Out, E: Out>(
     ensures { IsAnswered (λ taken failures. W.took out.old taken failures out.new)
         comparison.entry.view.now comparison.entry.first comparison.entry.second script.now result }
 {
-    let Comparison {
-        view: name,
-        first,
-        second,
-        workers,
-        ..
-    } = comparison;
     let reads = TwoReads {
         view,
-        first,
-        second,
+        first: comparison.first,
+        second: comparison.second,
     };
-    match read_twice(runtime, alloc, script, workers, reads, &OpenGate) {
-        Ok((Ok(before), Ok(after))) => write_compared(alloc, &before, &after, out, error),
-        Ok((Err(refusal), _)) => unreadable(name, first, refusal, error),
-        Ok((_, Err(refusal))) => unreadable(name, second, refusal, error),
+    match read_twice(runtime, alloc, script, comparison.workers, reads, &OpenGate) {
+        Ok(rows) => {
+            let (before, after) = rows;
+            compare_rows(alloc, comparison, before, after, out, error)
+        }
         Err(refusal) => end(RunFault::from(refusal), error),
+    }
+}
+
+// Writes what differs between the rows of two reads, if neither was refused.
+fn compare_rows<W: Out, E: Out>(
+    alloc: Global,
+    comparison: Comparison<'_>,
+    before: Rows,
+    after: Rows,
+    out: &mut W,
+    error: &mut E,
+) -> u8
+    ensures { AreCompared (λ taken failures. W.took out.old taken failures out.new)
+        before after result }
+{
+    let before = match before {
+        Ok(before) => before,
+        Err(refusal) => return unreadable(comparison.view, comparison.first, refusal, error),
+    };
+    match after {
+        Ok(after) => write_compared(alloc, &before, &after, out, error),
+        Err(refusal) => unreadable(comparison.view, comparison.second, refusal, error),
     }
 }
 
