@@ -1,0 +1,49 @@
+-- Writing texts one after another, of which only the first is known.
+use Rattle.std.proofs.Common.{◌≡◌, ℕ, ◌+◌, List, [], ◌++◌, Result, Ok, Err, refl, sym, ◌∙◌, ap, subst, append_assoc, arith}
+use Rattle.std.proofs.lemmas.List.{append-nil}
+use Rattle.output.specs.Outs.{IsBeginning, Wrote, Broke}
+use Rattle.explain.specs.Explanations.{WroteSome, TookSome}
+
+joined : (waiting xs part left ys more rest : List ℕ) → waiting ++ xs ≡ part ++ left → left ++ ys ≡ more ++ rest → waiting ++ (xs ++ ys) ≡ (part ++ more) ++ rest
+joined waiting xs part left ys more rest e f =
+    sym (append_assoc waiting xs ys) ∙ ap (λ zs. zs ++ ys) e ∙ append_assoc part left ys ∙ ap (λ zs. part ++ zs) f ∙ sym (append_assoc part more rest)
+
+module _ {W : Type 0} (took : W → List ℕ → ℕ → W → Type 0) where
+  -- the law `at_once` of outputs
+  abbrev pub AtOnce : Type 0
+  AtOnce = (s : W) → took s [] 0 s
+
+  -- the law `in_turn` of outputs
+  abbrev pub InTurn : Type 0
+  InTurn = (s t u : W) (xs ys : List ℕ) (m n : ℕ) → took s xs m t → took t ys n u → took s (xs ++ ys) (m + n) u
+
+  -- writes one text and then another
+  pub wrote_in_turn : InTurn → (s t u : W) (waiting xs left ys rest : List ℕ) → Wrote took s waiting xs t left → Wrote took t left ys u rest → Wrote took s waiting (xs ++ ys) u rest
+  wrote_in_turn in_turn s t u waiting xs left ys rest a b = record {
+    part = a.part ++ b.part;
+    taken = in_turn s t u a.part b.part 0 0 a.taken b.taken;
+    in_order = joined waiting xs a.part left ys b.part rest a.in_order b.in_order;
+  }
+
+  -- before anything is put, some text, the empty one, is written
+  pub nothing_yet : AtOnce → (s : W) (waiting : List ℕ) → WroteSome took s waiting s waiting
+  nothing_yet at_once s waiting = ([], record { part = []; taken = at_once s; in_order = append-nil waiting })
+
+  -- some text and then some more is some text
+  pub some_more : InTurn → (s t u : W) (waiting left rest : List ℕ) → WroteSome took s waiting t left → WroteSome took t left u rest → WroteSome took s waiting u rest
+  some_more in_turn s t u waiting left rest a b = (a.0 ++ b.0, wrote_in_turn in_turn s t u waiting a.0 left b.0 rest a.1 b.1)
+
+  -- after some text, an output that then took some bytes took some in all
+  pub took_behind : InTurn → (s t u : W) (waiting left : List ℕ) (n : ℕ) → WroteSome took s waiting t left → TookSome took t n u → TookSome took s n u
+  took_behind in_turn s t u waiting left n a b = (a.1.part ++ b.0, subst (λ (k : ℕ). took s (a.1.part ++ b.0) k u) (omega arith) (in_turn s t u a.1.part b.0 0 n a.1.taken b.1))
+
+  -- the whole text begins with what waited first, if nothing waited before that
+  pub whole_text : InTurn → (s t u : W) (beginning empty waiting left : List ℕ) → empty ≡ [] → waiting ≡ empty ++ beginning → WroteSome took s waiting t left → (text : List ℕ) × took t (left ++ text) 0 u → (text : List ℕ) × IsBeginning beginning text × took s text 0 u
+  whole_text in_turn s t u beginning empty waiting left e f a b = (
+    a.1.part ++ (left ++ b.0),
+    (
+      a.0 ++ b.0,
+      sym (append_assoc beginning a.0 b.0) ∙ ap (λ xs. (xs ++ a.0) ++ b.0) (ap (λ none. none ++ beginning) (sym e) ∙ sym f) ∙ ap (λ xs. xs ++ b.0) a.1.in_order ∙ append_assoc a.1.part left b.0,
+    ),
+    in_turn s t u a.1.part (left ++ b.0) 0 0 a.1.taken b.1,
+  )
