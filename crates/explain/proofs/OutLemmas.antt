@@ -37,13 +37,12 @@ module _ {W : Type 0} (took : W → List ℕ → ℕ → W → Type 0) where
   pub took_behind : InTurn → (s t u : W) (waiting left : List ℕ) (n : ℕ) → WroteSome took s waiting t left → TookSome took t n u → TookSome took s n u
   took_behind in_turn s t u waiting left n a b = (a.1.part ++ b.0, subst (λ (k : ℕ). took s (a.1.part ++ b.0) k u) (omega arith) (in_turn s t u a.1.part b.0 0 n a.1.taken b.1))
 
-  -- the whole text begins with what waited first, if nothing waited before that
-  pub whole_text : InTurn → (s t u : W) (beginning empty waiting left : List ℕ) → empty ≡ [] → waiting ≡ empty ++ beginning → WroteSome took s waiting t left → (text : List ℕ) × took t (left ++ text) 0 u → (text : List ℕ) × IsBeginning beginning text × took s text 0 u
-  whole_text in_turn s t u beginning empty waiting left e f a b = (
-    a.1.part ++ (left ++ b.0),
-    (
-      a.0 ++ b.0,
-      sym (append_assoc beginning a.0 b.0) ∙ ap (λ xs. (xs ++ a.0) ++ b.0) (ap (λ none. none ++ beginning) (sym e) ∙ sym f) ∙ ap (λ xs. xs ++ b.0) a.1.in_order ∙ append_assoc a.1.part left b.0,
-    ),
-    in_turn s t u a.1.part (left ++ b.0) 0 0 a.1.taken b.1,
-  )
+  -- a text and then some more
+  pub some_behind : InTurn → (s t u : W) (waiting xs left rest : List ℕ) → Wrote took s waiting xs t left → WroteSome took t left u rest → (ys : List ℕ) × Wrote took s waiting (xs ++ ys) u rest
+  some_behind in_turn s t u waiting xs left rest a b = (b.0, wrote_in_turn in_turn s t u waiting xs left b.0 rest a b.1)
+
+  -- after the last flush, the text and what was added to it have been taken
+  pub wrote_all : InTurn → (s t u : W) (empty text left more : List ℕ) → empty ≡ [] → Wrote took s empty text t left → took t (left ++ more) 0 u → took s (text ++ more) 0 u
+  wrote_all in_turn s t u empty text left more e a b = subst (λ (all : List ℕ). took s all 0 u)
+      (sym (append_assoc a.part left more) ∙ ap (λ xs. xs ++ more) (sym a.in_order ∙ ap (λ none. none ++ text) e))
+      (in_turn s t u a.part (left ++ more) 0 0 a.taken b)

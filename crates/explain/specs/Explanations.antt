@@ -1,5 +1,5 @@
 -- What an explanation says of a file.
-use Rattle.std.specs.Prelude.{◌≡◌, ℕ, Option, None, Some, Result, Ok, Err, List, ◌++◌, codes, decimal}
+use Rattle.std.specs.Prelude.{◌≡◌, ℕ, Option, None, Some, Result, Ok, Err, List, [], ◌∷◌, ◌++◌, codes, decimal, nat_eq, if◌then◌else◌}
 use Rattle.update.specs.Refusals.{code_of}
 use Rattle.update.specs.declared.refusal.Refusal.{Refusal}
 use Rattle.grammar.specs.ScriptModels.{ScriptModel}
@@ -11,6 +11,15 @@ use Rattle.output.specs.Outs.{IsBeginning, Wrote}
 -- line L code C:
 abbrev pub fault_head : Fault → List ℕ
 fault_head f = codes "line " ++ (decimal f.line ++ (codes " code " ++ (decimal f.code ++ codes ": ")))
+
+-- what follows the noun behind a number
+abbrev pub plural : ℕ → List ℕ
+plural count = if nat_eq count 1 then [] else codes "s"
+
+-- N faults, M warnings
+abbrev pub counts_text : ℕ → ℕ → List ℕ
+counts_text faults warnings = decimal faults
+    ++ (codes " fault" ++ (plural faults ++ (codes ", " ++ (decimal warnings ++ (codes " warning" ++ (plural warnings ++ 10 ∷ []))))))
 
 -- no fault is told of a file that is in order, and else its first fault
 abbrev pub IsFirstOf : Option Fault → Result ScriptModel (ℕ × Refusal) → Type 0

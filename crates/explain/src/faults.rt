@@ -5,7 +5,7 @@ use crate::case::{Case, LostNames};
 use crate::excerpt::{push_excerpt, span_at};
 use crate::hints::push_hint;
 use crate::marks::word_at_fault;
-use crate::meanings::{head, meaning, push_counts};
+use crate::meanings::{head, meaning};
 use crate::places::word;
 use crate::teller::Teller;
 use grammar::{Fault, Reader, is_name};
@@ -152,9 +152,9 @@ impl<'a> Teller<'a> for FaultTeller<'a> {
     }
 
     fn tell_end(&mut self, alloc: Global, text: &mut String) -> Result<(), AllocError> {
-        if !self.reader.has_started() {
-            self.push_no_start(alloc, text)?;
+        if self.reader.has_started() {
+            return Ok(());
         }
-        push_counts(text, self.faults(), 0)
+        self.push_no_start(alloc, text)
     }
 }

@@ -1,6 +1,6 @@
 //! What the codes of faults mean, in words, and how what is told of a fault begins and ends.
 ghost use Rattle.std.specs.Prelude.{◌≡◌, IfOk, string_bytes};
-ghost use Rattle.explain.specs.Explanations.{fault_head};
+ghost use Rattle.explain.specs.Explanations.{counts_text, fault_head, plural};
 
 use grammar::Fault;
 use std::alloc::{AllocError, Global};
@@ -14,18 +14,19 @@ pub(crate) fn head(alloc: Global, fault: Fault) -> Result<String, AllocError>
     format!(in alloc; "line {line} code {code}: ")
 }
 
-/// Adds the last line, which counts what was found.
-pub(crate) fn push_counts(text: &mut String, faults: u64, warnings: u64) -> Result<(), AllocError> {
+/// The last line, which counts what was found.
+pub(crate) fn last_line(alloc: Global, faults: u64, warnings: u64) -> Result<String, AllocError>
+    ensures { IfOk result (λ text. string_bytes text ≡ counts_text faults warnings) }
+{
     let of_faults = plural(faults);
     let of_warnings = plural(warnings);
-    writeln!(
-        text,
-        "{faults} fault{of_faults}, {warnings} warning{of_warnings}"
-    )
+    format!(in alloc; "{faults} fault{of_faults}, {warnings} warning{of_warnings}\n")
 }
 
 // What follows the noun behind a number.
-fn plural(count: u64) -> &'static str {
+fn plural(count: u64) -> &'static str
+    ensures { result.now ≡ plural count }
+{
     if count == 1 { "" } else { "s" }
 }
 

@@ -4,7 +4,7 @@
 //! what is written is a beginning that the caller gives, and then text of which the contracts say only
 //! that nothing but it is taken.
 ghost use Rattle.std.specs.Prelude.{◌≡◌, ℕ, List, ◌++◌, IfErr, OnOk};
-ghost use Rattle.output.specs.Outs.{IsBeginning, Wrote, Broke};
+ghost use Rattle.output.specs.Outs.{Wrote, Broke};
 ghost use Rattle.explain.specs.Explanations.{WroteSome, TookSome, failures};
 
 use grammar::first_line;
@@ -77,39 +77,37 @@ fn print_lines<'a, T: Teller<'a>, W: Out>(
     Ok(())
 }
 
-// Prints what is told after the last line, and writes all that waits.
-fn finish<'a, T: Teller<'a>, W: Out>(
+// Prints what is told after the last line.
+fn print_end<'a, T: Teller<'a>, W: Out>(
     alloc: Global,
     teller: &mut T,
     buffer: &mut OutputBuffer,
     out: &mut W,
 ) -> Result<(), PrintFault>
-    ensures wrote { OnOk result
-        ((text : List ℕ) × W.took out.old (buffer.old ++ text) 0 out.new) }
+    ensures wrote { OnOk result (WroteSome W.took out.old buffer.old out.new buffer.new) }
     ensures broke { IfErr result (λ fault. TookSome W.took out.old (failures fault) out.new) }
 {
     let mut text = String::new(alloc);
     teller.tell_end(alloc, &mut text)?;
-    buffer.push(text.as_str())?;
-    buffer.flush(out)?;
+    print(buffer, out, text.as_str())?;
     Ok(())
 }
 
-/// Writes the beginning, and then all that is told.
-pub(crate) fn write_told<'a, T: Teller<'a>, W: Out>(
+/// Prints the beginning, and then all that is told. The last text may still wait in the buffer.
+pub(crate) fn print_told<'a, T: Teller<'a>, W: Out>(
     alloc: Global,
     teller: &mut T,
     beginning: &str,
     bytes: &'a [u8],
+    buffer: &mut OutputBuffer,
     out: &mut W,
 ) -> Result<(), PrintFault>
-    ensures wrote { OnOk result ((text : List ℕ) × IsBeginning beginning.now text
-        × W.took out.old text 0 out.new) }
+    ensures wrote { OnOk result ((rest : List ℕ)
+        × Wrote W.took out.old buffer.old (beginning.now ++ rest) out.new buffer.new) }
     ensures broke { IfErr result (λ fault. TookSome W.took out.old (failures fault) out.new) }
 {
-    let mut buffer = OutputBuffer::new(alloc);
-    buffer.push(beginning)?;
-    print_lines(alloc, teller, bytes, &mut buffer, out)?;
-    finish(alloc, teller, &mut buffer, out)?;
+    print(buffer, out, beginning)?;
+    print_lines(alloc, teller, bytes, buffer, out)?;
+    print_end(alloc, teller, buffer, out)?;
     Ok(())
 }

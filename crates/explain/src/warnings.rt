@@ -1,10 +1,9 @@
 //! Warnings: what a run will refuse, or what is of no use, in a file without a fault.
 use crate::excerpt::{push_excerpt, span_at};
-use crate::meanings::push_counts;
 use crate::teller::Teller;
 use crate::uses::{Use, no_uses, note, use_at, uses_of};
 use grammar::{Command, InputCommand, Reader, Script, ViewCommand};
-use indexmap::IndexMap;
+use indexmap::{IndexMap, IndexSet};
 use plan::{NodeId, Plan};
 use row::Row;
 use std::alloc::{AllocError, Global};
@@ -35,6 +34,8 @@ pub(crate) struct WarningTeller<'s> {
     uses: Vec<Use>,
     // What the commands so far did with each node.
     so_far: Vec<Use>,
+    // The views whose inputs have all moved, so that they need not be looked at again.
+    settled: IndexSet<usize>,
     // The index of the next command.
     next: usize,
     // For each row of an input the sum of its differences so far, at all times.
@@ -52,6 +53,7 @@ impl<'s> WarningTeller<'s> {
             reader: Reader::new(alloc),
             uses,
             so_far,
+            settled: IndexSet::new(alloc),
             next: 0,
             sums: IndexMap::new(alloc),
             warnings: 0,
@@ -209,7 +211,11 @@ impl<'s> WarningTeller<'s> {
         view: NodeId,
     ) -> Result<(), AllocError> {
         let script = self.script;
+        if self.settled.contains(&view.number()) {
+            return Ok(());
+        }
         let Some(input) = self.unmoved(script.plan(), view) else {
+            self.settled.insert(view.number())?;
             return Ok(());
         };
         if input.number() >= script.plan().len() {
@@ -298,7 +304,8 @@ impl<'a, 's> Teller<'a> for WarningTeller<'s> {
         }
     }
 
-    fn tell_end(&mut self, _alloc: Global, text: &mut String) -> Result<(), AllocError> {
-        push_counts(text, 0, self.warnings)
+    // Nothing is told of the whole file.
+    fn tell_end(&mut self, _alloc: Global, _text: &mut String) -> Result<(), AllocError> {
+        Ok(())
     }
 }
