@@ -1,2 +1,4 @@
 pub mod Actions
 pub mod Acts
+pub mod Comparisons
+pub mod Explanations

@@ -11,12 +11,12 @@ ghost use Rattle.bitview.specs.Actions.{IsInRange, IsPartBeforeOverflow, asked_t
 ghost use Rattle.bitview.specs.Acts.{Acts, IsCarriedOut, status_of, fault_status};
 
 use crate::command_line::Action;
+use crate::writers::Told;
 use grammar::{Fault, Script, parse};
 use output::{Out, put_all};
-use script::{RunFault, plain_script, run_script};
+use script::{RunFault, Watch, plain_script_watched, run_script_watched};
 use session::OpenGate;
 use std::alloc::{AllocError, Global};
-use std::fmt;
 use std::fmt::Write;
 use std::sync::Wait;
 use std::thread::Threads;
@@ -35,14 +35,18 @@ use std::thread::Threads;
 /// Status 4 comes only if the changes give some node a bound of 2 to the 63 or more. Then exactly
 /// the text of the lines before the one that asked for the number was written.
 ///
+/// The watcher is told of each line that a run has carried out. Whatever it does, the output takes
+/// the same.
+///
 /// Cost: that of parsing the script and of running it. The bytes are given back before it runs.
-pub fn act<R: Threads + Wait + Sync, W: Out, E: Out>(
+pub fn act<R: Threads + Wait + Sync, W: Out, E: Out, V: Watch>(
     runtime: &R,
     alloc: Global,
     action: Action<'_>,
     bytes: Option<Vec<u8>>,
     out: &mut W,
     error: &mut E,
+    watch: &mut V,
 ) -> u8
     requires { IsInRange action }
     ensures { Acts (λ taken failures. W.took out.old taken failures out.new)
@@ -50,13 +54,17 @@ pub fn act<R: Threads + Wait + Sync, W: Out, E: Out>(
         (option_map (λ b. b.items) bytes) result }
 {
     match bytes {
-        Some(bytes) => act_on(runtime, alloc, action, bytes, out, error),
-        None => {
-            let file = action.file();
-            let _told = writeln!(Told { error }, "cannot read {file}");
-            3
-        }
+        Some(bytes) => act_on(runtime, alloc, action, bytes, out, error, watch),
+        None => unread(action.file(), error),
     }
+}
+
+// Reports that a file was not read.
+pub(crate) fn unread<E: Out>(file: &str, error: &mut E) -> u8
+    ensures { result ≡ 3 }
+{
+    let _told = writeln!(Told { error }, "cannot read {file}");
+    3
 }
 
 // How large the block is from which the system's allocator learns, in bytes.
@@ -70,26 +78,27 @@ const LARGE_BLOCK: usize = 8 << 20;
 // of this size came back, it keeps up to twice as much for the next one. That is to be so when the
 // script runs, and not before: the bytes of the file, and the lists that grew while it was read, go
 // back to the system. If the block is refused, then nothing is lost but this.
-fn keep_freed_memory(alloc: Global) {
+pub(crate) fn keep_freed_memory(alloc: Global) {
     let block: Result<Vec<u8>, AllocError> = Vec::with_capacity(alloc, LARGE_BLOCK);
     drop(block);
 }
 
 // Parses the bytes of the file, which nobody needs any more then.
-fn parsed(alloc: Global, bytes: Vec<u8>) -> Result<Script, Fault>
+pub(crate) fn parsed(alloc: Global, bytes: Vec<u8>) -> Result<Script, Fault>
     ensures { Answers (λ script. script) result (script_of bytes.items) }
 {
     parse(alloc, bytes.as_slice())
 }
 
 // Parses the bytes of the file and carries out the action.
-fn act_on<R: Threads + Wait + Sync, W: Out, E: Out>(
+fn act_on<R: Threads + Wait + Sync, W: Out, E: Out, V: Watch>(
     runtime: &R,
     alloc: Global,
     action: Action<'_>,
     bytes: Vec<u8>,
     out: &mut W,
     error: &mut E,
+    watch: &mut V,
 ) -> u8
     requires { IsInRange action }
     ensures { Acts (λ taken failures. W.took out.old taken failures out.new)
@@ -99,39 +108,41 @@ fn act_on<R: Threads + Wait + Sync, W: Out, E: Out>(
     match parsed(alloc, bytes) {
         Ok(script) => {
             keep_freed_memory(alloc);
-            carry_out(runtime, alloc, action, &script, out, error)
+            carry_out(runtime, alloc, action, &script, out, error, watch)
         }
         Err(fault) => refuse(fault, error),
     }
 }
 
 // Carries out the action on a script.
-fn carry_out<R: Threads + Wait + Sync, W: Out, E: Out>(
+fn carry_out<R: Threads + Wait + Sync, W: Out, E: Out, V: Watch>(
     runtime: &R,
     alloc: Global,
     action: Action<'_>,
     script: &Script,
     out: &mut W,
     error: &mut E,
+    watch: &mut V,
 ) -> u8
     requires { IsInRange action }
     ensures { IsCarriedOut (λ taken failures. W.took out.old taken failures out.new)
         (asked_text action.entry) (IsPartBeforeOverflow action.entry)
         script.now result }
 {
-    match write_asked(runtime, alloc, action, script, out) {
+    match write_asked(runtime, alloc, action, script, out, watch) {
         Ok(()) => 0,
         Err(fault) => end(fault, error),
     }
 }
 
 // Writes the text that the action asks for.
-fn write_asked<R: Threads + Wait + Sync, W: Out>(
+fn write_asked<R: Threads + Wait + Sync, W: Out, V: Watch>(
     runtime: &R,
     alloc: Global,
     action: Action<'_>,
     script: &Script,
     out: &mut W,
+    watch: &mut V,
 ) -> Result<(), RunFault>
     requires { IsInRange action }
     ensures written { OnOk result (W.took out.old (asked_text action.entry script.now) 0 out.new) }
@@ -143,8 +154,8 @@ fn write_asked<R: Threads + Wait + Sync, W: Out>(
         × IsPartBeforeOverflow action.entry script.now part × W.took out.old part 0 out.new) }
 {
     match action {
-        Action::Run { workers, .. } => run_script(runtime, alloc, script, workers, out, &OpenGate),
-        Action::Plain { .. } => plain_script(alloc, script, out),
+        Action::Run { workers, .. } => run_script_watched(runtime, alloc, script, workers, out, &OpenGate, watch),
+        Action::Plain { .. } => plain_script_watched(alloc, script, out, watch),
         Action::Check { .. } => write_size(alloc, script, out),
     }
 }
@@ -165,7 +176,7 @@ fn write_size<W: Out>(alloc: Global, script: &Script, out: &mut W) -> Result<(),
 
 // Reports why a run ended early. Beside codes 10 and 1 that is 24 alone, since the number of workers
 // is in range.
-fn end<E: Out>(fault: RunFault, error: &mut E) -> u8
+pub(crate) fn end<E: Out>(fault: RunFault, error: &mut E) -> u8
     ensures { result ≡ status_of fault }
 {
     let (status, line) = match fault {
@@ -179,7 +190,7 @@ fn end<E: Out>(fault: RunFault, error: &mut E) -> u8
 }
 
 // Reports the faulty line of the file, or that memory was refused.
-fn refuse<E: Out>(fault: Fault, error: &mut E) -> u8
+pub(crate) fn refuse<E: Out>(fault: Fault, error: &mut E) -> u8
     ensures { result ≡ fault_status fault }
 {
     if fault.code == 1 {
@@ -188,20 +199,5 @@ fn refuse<E: Out>(fault: Fault, error: &mut E) -> u8
     } else {
         let _told = writeln!(Told { error }, "{fault}");
         2
-    }
-}
-
-// Takes the parts of a line as they are formatted, so that to tell what went wrong takes no memory.
-#[derive(Drop)]
-struct Told<'e, E> {
-    error: &'e mut E,
-}
-
-impl<E: Out> fmt::Write for Told<'_, E> {
-    fn write_str(&mut self, part: &str) -> fmt::Result {
-        match put_all(self.error, part.as_bytes()) {
-            Ok(()) => Ok(()),
-            Err(_failed) => Err(fmt::Error),
-        }
     }
 }

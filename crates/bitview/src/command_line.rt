@@ -1,59 +1,14 @@
-//! The command line: which action it asks for.
-ghost use Rattle.std.specs.Prelude.{IfOk};
-ghost use Rattle.bitview.specs.Actions.{IsInRange};
+//! The command line: which request it makes.
+ghost use Rattle.std.specs.Prelude.{◌≤◌, IfOk};
+ghost use Rattle.bitview.specs.Actions.{IsInRange, IsSupported};
 
+use crate::usage::{MOST_WORKERS, usage};
 use clap::error::ErrorKind;
-use clap::{Arg, ArgAction, ArgMatches, Command, Error};
-use std::alloc::{AllocError, Global};
+use clap::{ArgMatches, Error};
+use lattice::{Bitime, Pair};
+use std::alloc::Global;
 
-// The text after the options in the help. `docs/SCRIPT.md` says the same in more detail.
-const AFTER_HELP: &str = "Example:
-  bitview run examples/late_correction.bv --workers 4
-
-FILE may be /dev/stdin. Nothing is written before the file ends. A line ends with a
-newline alone: a carriage return is part of the word before it.
-
-Statuses:
-  0  done, refused lines included
-  1  the command line was not understood, or help or the version was asked for
-  2  the file is at fault: `fault line L code C` on standard error
-  3  no memory or no thread, the file was not read, or the output failed
-  4  overflow: a number is no 64-bit number
-
-Refusals: `refused LINE CODE` on standard output. The line changes nothing, and the
-run goes on.
-   2  the row's width is not the input's
-   3  the difference is 0
-   4  the difference is above 2147483647 or below -2147483647
-   5  the input's frontier has passed the time
-   6  the frontier would go back
-   7  the input has taken 1048576 changes
-   8  the view's frontier has not passed the time
-
-Faults: `fault line L code C` on standard error. Nothing is run.
-  13  the plan has 256 nodes
-  14  no such name, or a name of another sort
-  15  the name is taken
-  16  the source has no such column
-  17  the sources have different widths
-  18  a source is not arranged
-  19  the sources are arranged by different keys
-  20  a width that is not 1 to 8
-  21  a key of no columns, or of more than the source has
-  31  an unknown command, kind or comparison
-  32  too few or too many words
-  33  not a number or an item
-  34  a line on the wrong side of `start`, a second `start`, or none
-  35  a line of more than 4096 bytes
-  36  a line that is not UTF-8
-  37  not a name: 1 to 32 letters, digits and _, a letter first
-
-docs/SCRIPT.md describes the lines of a file.";
-
-// The greatest number of workers.
-const MOST_WORKERS: u64 = 16;
-
-/// What the command line asks for.
+/// What is done with a command file.
 #[derive(Clone, Copy)]
 pub enum Action<'a> {
     /// Runs the commands of a file with workers.
@@ -85,91 +40,183 @@ impl<'a> Action<'a> {
     }
 }
 
+/// Two reads of a view that are to be compared.
+#[derive(Clone, Copy)]
+pub struct Comparison<'a> {
+    /// The name of the command file.
+    pub file: &'a str,
+    /// The name of the view.
+    pub view: &'a str,
+    /// The time of the first read.
+    pub first: Bitime,
+    /// The time of the second read.
+    pub second: Bitime,
+    /// The number of workers, 1 to 16.
+    pub workers: u64,
+}
+
+/// What the command line asks for.
+#[derive(Clone, Copy)]
+pub enum Request<'a> {
+    /// Acts on a command file, and tells how far it is if that is wanted.
+    Act {
+        /// What is done.
+        action: Action<'a>,
+        /// Whether progress is told on standard error.
+        has_progress: bool,
+    },
+    /// Tells in words what is wrong with a command file.
+    Explain {
+        /// The file's name.
+        file: &'a str,
+    },
+    /// Tells what differs between two reads of a view.
+    Compare(Comparison<'a>),
+    /// Makes a command file and a dictionary of a CSV file.
+    Import {
+        /// The name of the schema's file.
+        schema: &'a str,
+        /// The name of the CSV file.
+        table: &'a str,
+    },
+    /// Writes the text of a run as CSV, with the names of a dictionary.
+    Show {
+        /// The name of the dictionary's file.
+        dictionary: &'a str,
+        /// The name of the file with the run's text.
+        text: &'a str,
+    },
+}
+
 /// Reads the program's arguments. The first is the program's name.
 ///
 /// If the arguments are not understood, or if help or the version is asked for, the error holds the
 /// text to print and its kind.
 ///
 /// Cost: linear in the arguments.
-pub fn words<'a>(alloc: Global, words: &'a [&'a str]) -> Result<Action<'a>, Error>
-    ensures { IfOk result IsInRange }
+pub fn words<'a>(alloc: Global, words: &'a [&'a str]) -> Result<Request<'a>, Error>
+    ensures { IfOk result IsSupported }
 {
-    let matches = command(alloc)?.try_get_matches_from(words)?;
+    let matches = usage(alloc)?.try_get_matches_from(words)?;
     match matches.subcommand() {
         Some((name, inner)) => asked(alloc, name, inner),
-        None => Err(command(alloc)?.error(ErrorKind::MissingSubcommand, "no command is given")?),
+        None => Err(usage(alloc)?.error(ErrorKind::MissingSubcommand, "no command is given")?),
     }
 }
 
-// The action that the arguments after the subcommand `name` ask for.
-fn asked<'a>(alloc: Global, name: &str, inner: &ArgMatches<'a>) -> Result<Action<'a>, Error>
-    ensures { IfOk result IsInRange }
+// The request that the arguments after the subcommand `name` make.
+fn asked<'a>(alloc: Global, name: &str, inner: &ArgMatches<'a>) -> Result<Request<'a>, Error>
+    ensures { IfOk result IsSupported }
 {
-    match inner.get_str("FILE") {
-        Some(file) if name == "plain" => Ok(Action::Plain { file }),
-        Some(file) if name == "check" => Ok(Action::Check { file }),
-        Some(file) => asked_run(alloc, file, inner),
-        None => Err(command(alloc)?.error(ErrorKind::MissingRequiredArgument, "no file is given")?),
+    if name == "import" {
+        return asked_import(alloc, inner);
+    }
+    if name == "show" {
+        return asked_show(alloc, inner);
+    }
+    if name == "explain" {
+        return asked_explain(alloc, inner);
+    }
+    if name == "diff" {
+        return asked_diff(alloc, inner);
+    }
+    asked_action(alloc, name, inner)
+}
+
+// The value of an argument that must be there.
+fn given<'a>(alloc: Global, inner: &ArgMatches<'a>, id: &str) -> Result<&'a str, Error> {
+    match inner.get_str(id) {
+        Some(value) => Ok(value),
+        None => Err(usage(alloc)?.error(ErrorKind::MissingRequiredArgument, "a word is missing")?),
     }
 }
 
-// A run, if the number of workers is supported.
-fn asked_run<'a>(alloc: Global, file: &'a str, inner: &ArgMatches<'a>) -> Result<Action<'a>, Error>
-    ensures { IfOk result IsInRange }
+// The value of an argument that must be a whole number.
+fn number<'a>(alloc: Global, inner: &ArgMatches<'a>, id: &str) -> Result<u64, Error> {
+    match inner.get_one::<u64>(id) {
+        Some(value) => Ok(value),
+        None => Err(usage(alloc)?.error(ErrorKind::InvalidValue, "a whole number is due")?),
+    }
+}
+
+// The number of workers, if it is supported.
+fn workers<'a>(alloc: Global, inner: &ArgMatches<'a>) -> Result<u64, Error>
+    ensures { IfOk result (λ workers. (1 ≤ workers) × (workers ≤ 16)) }
 {
     match inner.get_one::<u64>("workers") {
-        Some(workers) if 1 <= workers && workers <= MOST_WORKERS => Ok(Action::Run {
-            file,
-            workers,
-        }),
-        _ => Err(command(alloc)?.error(ErrorKind::InvalidValue, "the workers are 1 to 16")?),
+        Some(workers) if 1 <= workers && workers <= MOST_WORKERS => Ok(workers),
+        _ => Err(usage(alloc)?.error(ErrorKind::InvalidValue, "the workers are 1 to 16")?),
     }
 }
 
-// The grammar of the arguments.
-fn command<'a>(alloc: Global) -> Result<Command<'a>, AllocError> {
-    Command::new(alloc, "bitview")
-        .about("Views of changing tables, right at every pair of valid time and system time")
-        .version("0.1.0")
-        .after_help(AFTER_HELP)
-        .arg_required_else_help(true)
-        .subcommand(run(alloc)?)?
-        .subcommand(plain(alloc)?)?
-        .subcommand(check(alloc)?)
+// A run, a plain run or a check.
+fn asked_action<'a>(alloc: Global, name: &str, inner: &ArgMatches<'a>) -> Result<Request<'a>, Error>
+    ensures { IfOk result IsSupported }
+{
+    let file = given(alloc, inner, "FILE")?;
+    let has_progress = inner.get_flag("progress");
+    let action = if name == "plain" {
+        Action::Plain { file }
+    } else if name == "check" {
+        Action::Check { file }
+    } else {
+        let workers = workers(alloc, inner)?;
+        Action::Run { file, workers }
+    };
+    Ok(Request::Act {
+        action,
+        has_progress,
+    })
 }
 
-// The file name, an argument of each subcommand.
-fn file<'a>(alloc: Global) -> Arg<'a> {
-    Arg::new(alloc, "FILE")
-        .required(true)
-        .action(ArgAction::Set)
-        .help("The command file; /dev/stdin is one too")
+fn asked_explain<'a>(alloc: Global, inner: &ArgMatches<'a>) -> Result<Request<'a>, Error>
+    ensures { IfOk result IsSupported }
+{
+    let file = given(alloc, inner, "FILE")?;
+    Ok(Request::Explain { file })
 }
 
-// The arguments of `run`.
-fn run<'a>(alloc: Global) -> Result<Command<'a>, AllocError> {
-    let workers = Arg::new(alloc, "workers")
-        .long("workers")
-        .value_name("N")
-        .default_value("1")
-        .value_parser(clap::value_parser!(u64).range(1..17))
-        .help("How many workers, 1 to 16");
-    Command::new(alloc, "run")
-        .about("Runs a command file by workers, and writes what it asks for")
-        .arg(file(alloc))?
-        .arg(workers)
+fn asked_diff<'a>(alloc: Global, inner: &ArgMatches<'a>) -> Result<Request<'a>, Error>
+    ensures { IfOk result IsSupported }
+{
+    let file = given(alloc, inner, "FILE")?;
+    let view = given(alloc, inner, "VIEW")?;
+    let first = pair(alloc, inner, "V", "S")?;
+    let second = pair(alloc, inner, "V2", "S2")?;
+    let workers = workers(alloc, inner)?;
+    Ok(Request::Compare(Comparison {
+        file,
+        view,
+        first,
+        second,
+        workers,
+    }))
 }
 
-// The arguments of `plain`.
-fn plain<'a>(alloc: Global) -> Result<Command<'a>, AllocError> {
-    Command::new(alloc, "plain")
-        .about("Writes the same, worked out from scratch at each question")
-        .arg(file(alloc))
+// A pair of a valid time and a system time, from two arguments.
+fn pair<'a>(
+    alloc: Global,
+    inner: &ArgMatches<'a>,
+    valid: &str,
+    system: &str,
+) -> Result<Bitime, Error> {
+    let first = number(alloc, inner, valid)?;
+    let second = number(alloc, inner, system)?;
+    Ok(Pair { first, second })
 }
 
-// The arguments of `check`.
-fn check<'a>(alloc: Global) -> Result<Command<'a>, AllocError> {
-    Command::new(alloc, "check")
-        .about("Reads a command file, and writes how many nodes and commands it has")
-        .arg(file(alloc))
+fn asked_import<'a>(alloc: Global, inner: &ArgMatches<'a>) -> Result<Request<'a>, Error>
+    ensures { IfOk result IsSupported }
+{
+    let schema = given(alloc, inner, "SCHEMA")?;
+    let table = given(alloc, inner, "TABLE")?;
+    Ok(Request::Import { schema, table })
+}
+
+fn asked_show<'a>(alloc: Global, inner: &ArgMatches<'a>) -> Result<Request<'a>, Error>
+    ensures { IfOk result IsSupported }
+{
+    let dictionary = given(alloc, inner, "DICTIONARY")?;
+    let text = given(alloc, inner, "TEXT")?;
+    Ok(Request::Show { dictionary, text })
 }

@@ -1,5 +1,7 @@
-//! The process's own outputs. No contract says where their bytes go.
-use output::{Out, OutFault};
+//! The process's own outputs, of which no contract says where their bytes go, and lines that take no
+//! memory.
+use output::{Out, OutFault, put_all};
+use std::fmt;
 use std::io::Write;
 use std::str;
 
@@ -48,6 +50,21 @@ impl<R: Eprint> Out for StandardError<'_, R> {
         match self.runtime.eprint(text) {
             Ok(()) => Ok(bytes.len()),
             Err(_) => Err(OutFault),
+        }
+    }
+}
+
+// Takes the parts of a line as they are formatted, so that to tell what went wrong takes no memory.
+#[derive(Drop)]
+pub(crate) struct Told<'e, E> {
+    pub(crate) error: &'e mut E,
+}
+
+impl<E: Out> fmt::Write for Told<'_, E> {
+    fn write_str(&mut self, part: &str) -> fmt::Result {
+        match put_all(self.error, part.as_bytes()) {
+            Ok(()) => Ok(()),
+            Err(_failed) => Err(fmt::Error),
         }
     }
 }

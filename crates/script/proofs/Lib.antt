@@ -1,5 +1,5 @@
 pub mod BagLemmas
-pub mod OutLemmas
+pub mod BreakLemmas
 pub mod PrinterLemmas
 pub mod TextLemmas
 pub mod TurnLemmas

@@ -17,7 +17,7 @@ begins Took t (Ok x) e = tt
 begins Took t (Err fault) e = λ ten. let (part, before, taken) = e ten in (part, before_begins t (opening_session t.plan) t.commands part before, before, taken)
 
 pub returns-in-Run-clause-overflow : goal.returns-in-Run-clause-overflow
-returns-in-Run-clause-overflow g c = rw c.in-Run.is (begins (λ part. g.W.Out.took c.args.out.now part 0 c.run_script.new.out) c.args.script.now c.run_script.result c.run_script.ensures.overflow)
+returns-in-Run-clause-overflow g c = rw c.in-Run.is (begins (λ part. g.W.Out.took c.args.out.now part 0 c.run_script_watched.new.out) c.args.script.now c.run_script_watched.result c.run_script_watched.ensures.overflow)
 
 pub returns-in-Plain-clause-overflow : goal.returns-in-Plain-clause-overflow
-returns-in-Plain-clause-overflow g c = rw c.in-Plain.is (begins (λ part. g.W.Out.took c.args.out.now part 0 c.plain_script.new.out) c.args.script.now c.plain_script.result c.plain_script.ensures.overflow)
+returns-in-Plain-clause-overflow g c = rw c.in-Plain.is (begins (λ part. g.W.Out.took c.args.out.now part 0 c.plain_script_watched.new.out) c.args.script.now c.plain_script_watched.result c.plain_script_watched.ensures.overflow)

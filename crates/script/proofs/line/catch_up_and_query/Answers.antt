@@ -1,6 +1,6 @@
 use Rattle.grammar.specs.declared.command.Command.TheVariants.{View}
 use Rattle.script.specs.Text.{piece}
-use Rattle.script.proofs.OutLemmas.{breaks_before}
+use Rattle.script.proofs.BreakLemmas.{breaks_before}
 use Rattle.script.proofs.line.catch_up_and_query.Goals as goal
 
 pub returns-in-Err-clause-broke : goal.returns-in-Err-clause-broke

@@ -4,7 +4,7 @@ use Rattle.std.proofs.lemmas.Result.{err_from_is_err_and}
 use Rattle.grammar.specs.declared.command.Command.{Command}
 use Rattle.output.specs.Outs.{Wrote}
 use Rattle.script.specs.Text.{after_command, piece}
-use Rattle.script.proofs.OutLemmas.{broke_before, wrote_more, broke_more}
+use Rattle.output.proofs.OutLemmas.{broke_before, wrote_more, broke_more}
 use Rattle.script.proofs.line.run_line.Goals as goal
 
 pub returns-in_err-run_update-in-Input-clause-broke : goal.returns-in_err-run_update-in-Input-clause-broke

@@ -4,7 +4,7 @@ use Rattle.grammar.specs.declared.command.Command.TheVariants.{View}
 use Rattle.grammar.specs.declared.command.ViewCommand.TheVariants.{Read, Changes, Frontier}
 use Rattle.script.specs.Text.{piece}
 use Rattle.script.proofs.EndLemmas.{ends_weaker, own_end}
-use Rattle.script.proofs.OutLemmas.{breaks_before}
+use Rattle.script.proofs.BreakLemmas.{breaks_before}
 use Rattle.script.proofs.line.run_query.Goals as goal
 
 pub returns-in-Err-clause-known : goal.returns-in-Err-clause-known

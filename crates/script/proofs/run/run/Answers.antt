@@ -2,7 +2,7 @@ use Rattle.std.proofs.Common.{ℕ, List, [], ◌++◌, subst}
 use Rattle.std.proofs.lemmas.Result.{err_from_is_err_and}
 use Rattle.output.specs.Outs.{Wrote}
 use Rattle.script.specs.Text.{lines_text}
-use Rattle.script.proofs.OutLemmas.{wrote_all, broke_last}
+use Rattle.output.proofs.OutLemmas.{wrote_all, broke_last}
 use Rattle.script.proofs.run.run.Goals as goal
 
 pub returns-clause-wrote : goal.returns-clause-wrote

@@ -1,5 +1,5 @@
 use Rattle.script.specs.Text.{piece}
-use Rattle.script.proofs.OutLemmas.{breaks_before}
+use Rattle.script.proofs.BreakLemmas.{breaks_before}
 use Rattle.script.proofs.run.run_crew_line.Goals as goal
 
 pub returns-in-Err-clause-broke : goal.returns-in-Err-clause-broke

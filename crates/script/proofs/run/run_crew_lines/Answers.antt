@@ -7,7 +7,7 @@ use Rattle.script.specs.Bounds.{EndsByBound, ends_by_bound}
 use Rattle.script.specs.Standing.{StandsAs}
 use Rattle.script.specs.Text.{BitemporalSession, HoldsAlong, after_command, after_lines, piece, lines_text}
 use Rattle.script.proofs.EndLemmas.{crew_weaker, cause_of_crew_end}
-use Rattle.script.proofs.OutLemmas.{wrote_more, broke_more, wrote_all}
+use Rattle.output.proofs.OutLemmas.{wrote_more, broke_more, wrote_all}
 use Rattle.script.proofs.TextLemmas.{all_lines, after_more, text_more, text_all}
 use Rattle.script.proofs.run.run_crew_lines.Goals as goal
 

@@ -3,7 +3,7 @@ use Rattle.std.proofs.lemmas.Result.{err_from_is_err_and}
 use Rattle.grammar.specs.declared.command.CommandLine.{CommandLine}
 use Rattle.script.specs.Text.{BitemporalSession, HoldsAlong, after_command, after_lines, piece, lines_text}
 use Rattle.script.proofs.EndLemmas.{end_weaker, cause_of_end}
-use Rattle.script.proofs.OutLemmas.{wrote_more, broke_more, wrote_all}
+use Rattle.output.proofs.OutLemmas.{wrote_more, broke_more, wrote_all}
 use Rattle.script.proofs.TextLemmas.{all_lines, after_more, text_more, text_all}
 use Rattle.script.proofs.run.run_lines.Goals as goal
 

@@ -1,10 +1,8 @@
 -- Writing texts one after another.
-use Rattle.std.proofs.Common.{◌≡◌, ℕ, ◌+◌, List, [], ◌++◌, Result, Ok, Err, refl, sym, ◌∙◌, ap, subst, append_assoc, arith}
-use Rattle.std.specs.Prelude.{IfErr}
-use Rattle.script.specs.Engines.{failures}
+use Rattle.std.proofs.Common.{◌≡◌, ℕ, ◌+◌, List, [], ◌++◌, refl, sym, ◌∙◌, ap, subst, append_assoc, arith}
 use Rattle.output.specs.Outs.{IsBeginning, Wrote, Broke}
-use Rattle.script.specs.declared.fault.RunFault.{RunFault}
 
+-- two writes after one another leave what one of both texts leaves
 joined : (waiting xs part left ys more rest : List ℕ) → waiting ++ xs ≡ part ++ left → left ++ ys ≡ more ++ rest → waiting ++ (xs ++ ys) ≡ (part ++ more) ++ rest
 joined waiting xs part left ys more rest e f =
     sym (append_assoc waiting xs ys) ∙ ap (λ zs. zs ++ ys) e ∙ append_assoc part left ys ∙ ap (λ zs. part ++ zs) f ∙ sym (append_assoc part more rest)
@@ -49,12 +47,6 @@ module _ {W : Type 0} (took : W → List ℕ → ℕ → W → Type 0) where
     taken = b.taken;
     beginning = (b.beginning.0 ++ ys, sym (append_assoc b.part b.beginning.0 ys) ∙ ap (λ zs. zs ++ ys) b.beginning.1 ∙ append_assoc waiting xs ys);
   }
-
-  -- answers the clause `broke` of a line with the clause for a line without text
-  pub breaks_before : {X : Type 0} (s u : W) (waiting bytes : List ℕ) (r : Result X RunFault)
-      → IfErr r (λ fault. Broke took s waiting [] (failures fault) u) → IfErr r (λ fault. Broke took s waiting bytes (failures fault) u)
-  breaks_before s u waiting bytes (Ok x) b = tt
-  breaks_before s u waiting bytes (Err fault) b = broke_before s u waiting [] bytes (failures fault) b
 
   -- replaces the written bytes by equal ones
   pub wrote_as : (s t : W) (waiting left xs ys : List ℕ) → xs ≡ ys → Wrote took s waiting xs t left → Wrote took s waiting ys t left
