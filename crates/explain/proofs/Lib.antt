@@ -1,1 +1,1 @@
-pub mod OutLemmas
+pub mod SomeTextLemmas

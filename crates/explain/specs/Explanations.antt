@@ -4,8 +4,6 @@ use Rattle.update.specs.Refusals.{code_of}
 use Rattle.update.specs.declared.refusal.Refusal.{Refusal}
 use Rattle.grammar.specs.ScriptModels.{ScriptModel}
 use Rattle.grammar.specs.declared.fault.Fault.{Fault}
-use Rattle.output.specs.declared.fault.PrintFault.{PrintFault}
-use Rattle.output.specs.declared.fault.PrintFault.TheVariants as fault
 use Rattle.output.specs.Outs.{IsBeginning, Wrote}
 
 -- line L code C:
@@ -30,11 +28,6 @@ IsFirstOf (Some f) outcome = (refusal : Refusal) × (f.code ≡ code_of refusal)
 abbrev pub Opens : Option Fault → List ℕ → Type 0
 Opens None text = Unit {0}
 Opens (Some f) text = IsBeginning (fault_head f) text
-
--- how many calls of the output failed before this fault was returned
-abbrev pub failures : PrintFault → ℕ
-failures fault.OutOfMemory = 0
-failures fault.Write = 1
 
 module _ {W : Type 0} (took : W → List ℕ → ℕ → W → Type 0) where
   -- some text was written after the bytes that waited

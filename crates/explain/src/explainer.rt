@@ -3,7 +3,8 @@
 ghost use Rattle.std.specs.Prelude.{◌≡◌, ◌↔◌, ◌++◌, ℕ, List, None, Some, IfOk, IfErr, OnOk};
 ghost use Rattle.grammar.specs.Scripts.{script_of};
 ghost use Rattle.output.specs.Outs.{Wrote};
-ghost use Rattle.explain.specs.Explanations.{IsFirstOf, Opens, TookSome, WroteSome, counts_text, failures};
+ghost use Rattle.explain.specs.Explanations.{IsFirstOf, Opens, TookSome, WroteSome, counts_text};
+ghost use Rattle.output.specs.Faults.{failures};
 
 use crate::faults::FaultTeller;
 use crate::found::Found;

@@ -5,7 +5,8 @@
 //! that nothing but it is taken.
 ghost use Rattle.std.specs.Prelude.{◌≡◌, ℕ, List, ◌++◌, IfErr, OnOk};
 ghost use Rattle.output.specs.Outs.{Wrote, Broke};
-ghost use Rattle.explain.specs.Explanations.{WroteSome, TookSome, failures};
+ghost use Rattle.explain.specs.Explanations.{WroteSome, TookSome};
+ghost use Rattle.output.specs.Faults.{failures};
 
 use grammar::first_line;
 use output::{Out, OutputBuffer, PrintFault};

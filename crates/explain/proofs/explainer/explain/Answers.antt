@@ -1,6 +1,6 @@
 use Rattle.std.proofs.lemmas.Result.{err_from_is_err_and}
 use Rattle.explain.specs.Explanations.{counts_text}
-use Rattle.explain.proofs.OutLemmas.{took_behind, wrote_all}
+use Rattle.explain.proofs.SomeTextLemmas.{took_behind, wrote_all}
 use Rattle.explain.proofs.explainer.explain.Goals as goal
 
 pub returns-in_err-finish-clause-broke : goal.returns-in_err-finish-clause-broke

@@ -1,6 +1,6 @@
 use Rattle.std.proofs.Common.{arith}
 use Rattle.std.proofs.lemmas.Result.{err_from_is_err_and}
-use Rattle.explain.proofs.OutLemmas.{nothing_yet, some_more, took_behind}
+use Rattle.explain.proofs.SomeTextLemmas.{nothing_yet, some_more, took_behind}
 use Rattle.explain.proofs.teller.print_lines.Goals as goal
 
 pub loop-rest-init : goal.loop-rest-init

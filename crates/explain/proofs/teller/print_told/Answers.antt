@@ -1,5 +1,5 @@
 use Rattle.std.proofs.lemmas.Result.{err_from_is_err_and}
-use Rattle.explain.proofs.OutLemmas.{some_behind, some_more, took_behind}
+use Rattle.explain.proofs.SomeTextLemmas.{some_behind, some_more, took_behind}
 use Rattle.explain.proofs.teller.print_told.Goals as goal
 
 pub returns-in_err-print_lines-clause-broke : goal.returns-in_err-print_lines-clause-broke
