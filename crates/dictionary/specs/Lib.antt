@@ -1,0 +1,5 @@
+pub mod Dates
+pub mod Decimals
+pub mod Digits
+pub mod Naming
+pub mod Values

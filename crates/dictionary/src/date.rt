@@ -1,9 +1,10 @@
 //! Days of the calendar, as texts and as day numbers.
+use crate::decimal::push_digits;
 use crate::digits::number;
 use jiff_core::civil::Date;
 use std::alloc::AllocError;
 
-// The bytes of the year, the month and the day, if the text has the form YYYY-MM-DD.
+// The year, the month and the day, if the text has the form YYYY-MM-DD.
 fn parts(text: &[u8]) -> Option<(u64, u64, u64)> {
     match text {
         [y0, y1, y2, y3, b'-', m0, m1, b'-', d0, d1] => Some((
@@ -34,10 +35,11 @@ pub fn day_number(text: &str) -> Option<i64> {
 pub fn write_day(text: &mut String, number: i64) -> Result<(), AllocError> {
     match Date::from_unix_epoch_day(number) {
         Ok(date) if date.year >= 0 => {
-            let year = date.year;
-            let month = date.month;
-            let day = date.day;
-            write!(text, "{year:04}-{month:02}-{day:02}")
+            push_digits(text, date.year as u64, 4)?;
+            text.push_str("-")?;
+            push_digits(text, date.month as u64, 2)?;
+            text.push_str("-")?;
+            push_digits(text, date.day as u64, 2)
         }
         _ => write!(text, "{number}"),
     }

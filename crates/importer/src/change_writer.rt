@@ -1,9 +1,13 @@
 //! The lines of changes, on their way to the output.
+ghost use Rattle.std.specs.Prelude.{◌≡◌, OnOk, string_bytes};
+ghost use Rattle.output.specs.Outs.{Wrote};
+ghost use Rattle.importer.specs.Changes.{change_text};
+
 use crate::fault::ImportFault;
 use crate::records::Change;
 use dictionary::split;
 use output::{Out, OutputBuffer};
-use std::alloc::Global;
+use std::alloc::{AllocError, Global};
 
 /// How many changes a table takes.
 const MOST_CHANGES: u64 = 1_048_576;
@@ -17,6 +21,32 @@ pub(crate) struct ChangeWriter {
     pub(crate) zeros: u64,
 }
 
+// Makes the text the line of a change of this difference.
+fn write_change(
+    text: &mut String,
+    table: &str,
+    change: &Change,
+    diff: i64,
+) -> Result<(), AllocError>
+    ensures { OnOk result (string_bytes text.new
+        ≡ change_text table.now change.now.valid change.now.revision diff (string_bytes change.now.row)) }
+{
+    let valid = change.valid;
+    let revision = change.revision;
+    let row = change.row.as_str();
+    text.clear();
+    writeln!(text, "change {table} {valid} {revision} {diff}{row}")
+}
+
+// Adds the line to the text that waits, and writes that if it is large enough.
+fn pass_line<W: Out>(buffer: &mut OutputBuffer, out: &mut W, line: &str) -> Result<(), ImportFault>
+    ensures { OnOk result (Wrote W.took out.old buffer.old line.now out.new buffer.new) }
+{
+    buffer.push(line)?;
+    buffer.pass_on(out)?;
+    Ok(())
+}
+
 impl ChangeWriter {
     /// A writer that has written nothing. Takes no memory.
     pub(crate) fn new(alloc: Global) -> ChangeWriter {
@@ -28,22 +58,20 @@ impl ChangeWriter {
         }
     }
 
-    /// Writes the line of a change of this difference.
+    // Writes the line of a change of this difference.
     fn put_change<W: Out>(
         &mut self,
         out: &mut W,
         table: &str,
         change: &Change,
         diff: i64,
-    ) -> Result<(), ImportFault> {
-        let valid = change.valid;
-        let revision = change.revision;
-        let row = change.row.as_str();
-        self.line.clear();
-        writeln!(self.line, "change {table} {valid} {revision} {diff}{row}")?;
-        self.buffer.push(self.line.as_str())?;
-        self.buffer.pass_on(out)?;
-        Ok(())
+    ) -> Result<(), ImportFault>
+        ensures { OnOk result (Wrote W.took out.old self.old.buffer
+            (change_text table.now change.now.valid change.now.revision diff (string_bytes change.now.row))
+            out.new self.new.buffer) }
+    {
+        write_change(&mut self.line, table, change, diff)?;
+        pass_line(&mut self.buffer, out, self.line.as_str())
     }
 
     // Writes the change so many times.
@@ -89,9 +117,7 @@ impl ChangeWriter {
     /// Writes the line and a newline.
     pub(crate) fn put_line<W: Out>(&mut self, out: &mut W, line: &str) -> Result<(), ImportFault> {
         self.buffer.push(line)?;
-        self.buffer.push("\n")?;
-        self.buffer.pass_on(out)?;
-        Ok(())
+        pass_line(&mut self.buffer, out, "\n")
     }
 
     /// Writes each line.

@@ -1,4 +1,6 @@
 //! The lines of a schema, one by one.
+ghost use Rattle.std.specs.Prelude.{◌≤◌, ◌+◌, length, IfOk, IfErr};
+
 use crate::ask::ask_line;
 use crate::excerpt::Excerpt;
 use crate::schema::{Role, Schema, SchemaColumn};
@@ -150,7 +152,10 @@ fn take_line(alloc: Global, schema: &mut Schema, bytes: &[u8]) -> Result<(), Sch
 }
 
 // Takes each line, and returns the number of the line after the last.
-fn take_lines(alloc: Global, schema: &mut Schema, bytes: &[u8]) -> Result<u64, SchemaFault> {
+fn take_lines(alloc: Global, schema: &mut Schema, bytes: &[u8]) -> Result<u64, SchemaFault>
+    ensures after { IfOk result (λ line. (1 ≤ line) × (line ≤ length bytes.now + 1)) }
+    ensures fault { IfErr result (λ e. (1 ≤ e.line) × (e.line ≤ length bytes.now)) }
+{
     let mut line = 1u64;
     let mut rest = bytes;
     while !rest.is_empty() {
@@ -178,7 +183,10 @@ fn check_whole(schema: &Schema) -> Result<(), SchemaProblem> {
 /// The schema that the file spells, or its first fault. `docs/IMPORT.md` has the language.
 ///
 /// Cost: linear in the bytes, if the columns are few.
-pub fn read_schema(alloc: Global, bytes: &[u8]) -> Result<Schema, SchemaFault> {
+pub fn read_schema(alloc: Global, bytes: &[u8]) -> Result<Schema, SchemaFault>
+    ensures first { IfErr result (λ e. 1 ≤ e.line) }
+    ensures last { IfErr result (λ e. e.line ≤ length bytes.now + 1) }
+{
     let mut schema = Schema::new(alloc);
     let line = take_lines(alloc, &mut schema, bytes)?;
     match check_whole(&schema) {

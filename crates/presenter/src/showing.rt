@@ -1,4 +1,6 @@
 //! A run's text, answer by answer.
+ghost use Rattle.std.specs.Prelude.{◌≤◌, ◌+◌, length, IfErr};
+
 use crate::fault::{ShowFault, ShowProblem};
 use crate::lines::{first_line, signed, whole, words};
 use crate::sheet::Sheet;
@@ -252,7 +254,9 @@ fn put_lines<W: Out>(
     dictionary: &Dictionary,
     text: &[u8],
     out: &mut W,
-) -> Result<(), ShowFault> {
+) -> Result<(), ShowFault>
+    ensures { IfErr result (λ e. (1 ≤ e.line) × (e.line ≤ length text.now + 1)) }
+{
     let mut line = 1u64;
     let mut begun = None;
     let mut rest = text;
@@ -282,7 +286,10 @@ pub fn show<W: Out>(
     dictionary: &Dictionary,
     text: &[u8],
     out: &mut W,
-) -> Result<(), ShowFault> {
+) -> Result<(), ShowFault>
+    ensures first { IfErr result (λ e. 1 ≤ e.line) }
+    ensures last { IfErr result (λ e. e.line ≤ length text.now + 1) }
+{
     let mut sheet = Sheet::new(alloc);
     put_lines(alloc, &mut sheet, dictionary, text, out)?;
     match sheet.flush(out) {
