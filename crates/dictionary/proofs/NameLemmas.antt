@@ -1,5 +1,5 @@
 -- The number of a name, and the names after a new one.
-use Rattle.std.proofs.Common.{◌≡◌, ℕ, ◌+◌, ◌<◌, ◌≤◌, Bool, true, false, not, ◌||◌, ◌++◌, cond, ltb, ltb-false, sym, string_bytes, Global, String, List, [], ◌∷◌, length, map, Option, Some, None, refl, ap, ◌∙◌, arith, get_or}
+use Rattle.std.proofs.Common.{◌≡◌, ℕ, ◌+◌, ◌≤◌, Bool, true, false, not, ◌||◌, ◌++◌, cond, ltb, ltb-false, sym, string_bytes, Global, String, List, [], ◌∷◌, length, map, Some, None, refl, ap, ◌∙◌, arith, get_or}
 use Rattle.std.specs.Option.{is_some}
 use Rattle.std.specs.List.{position, position_or_len, list_any, slice_get}
 use Rattle.std.specs.Str.{bytes_eq}

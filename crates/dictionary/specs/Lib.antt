@@ -1,4 +1,3 @@
-pub mod Dates
 pub mod Decimals
 pub mod Digits
 pub mod Naming

@@ -1,5 +1,5 @@
 -- Texts as numbers of a kind, and back.
-use Rattle.std.specs.Prelude.{◌≡◌, ℕ, ◌^◌, ℤ, pos, List, ◌++◌, Option, Some, None, ⊤, slice_get, unsigned_abs, if◌then◌else◌}
+use Rattle.std.specs.Prelude.{◌≡◌, ℕ, ◌^◌, ℤ, pos, List, ◌++◌, Option, None, ⊤, slice_get, unsigned_abs, if◌then◌else◌}
 use Rattle.std.specs.Fmt.{signed_decimal}
 use Rattle.std.specs.Int.{is_negative}
 use Rattle.std.specs.Option.{option_map, option_and_then, unwrap_or}

@@ -8,7 +8,7 @@
 //! as CSV and [`read_dictionary`] reads it back.
 //!
 //! `specs/` defines each form over lists of bytes: `Digits` (whole numbers), `Decimals` (amounts),
-//! `Dates` (days), `Naming` (names) and `Pieces` (amounts in pieces). The CSV form of a dictionary
+//! `Naming` (names) and `Pieces` (amounts in pieces). The CSV form of a dictionary
 //! has no such definition: it is only tested that what is written reads back.
 #![tactic(auto)]
 

@@ -9,6 +9,8 @@ mod fault_tests;
 #[cfg(test)]
 mod import_tests;
 #[cfg(test)]
+mod memory_tests;
+#[cfg(test)]
 mod schema_tests;
 #[cfg(test)]
 mod show_tests;

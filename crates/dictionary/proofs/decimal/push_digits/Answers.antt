@@ -1,4 +1,4 @@
-use Rattle.std.proofs.Common.{◌≡◌, ◌≤◌, ◌<◌, ◌-◌, ◌∷◌, [], ◌++◌, ◌/◌, ◌%◌, ◌+◌, ◌^◌, ap, ◌∙◌, sym, arith}
+use Rattle.std.proofs.Common.{◌≡◌, ◌<◌, ◌-◌, ◌∷◌, [], ◌++◌, ◌/◌, ◌%◌, ◌+◌, ◌^◌, ap, ◌∙◌, arith}
 use Rattle.std.specs.Prelude.{string_bytes}
 use Rattle.dictionary.proofs.DigitLemmas.{digit_pushed, all_pushed}
 use Rattle.dictionary.proofs.decimal.push_digits.Goals as goal

@@ -1,4 +1,4 @@
-use Rattle.std.proofs.Common.{◌≡◌, ◌<◌, ◌^◌, arith}
+use Rattle.std.proofs.Common.{arith}
 use Rattle.dictionary.proofs.Powers.{ten_power-positive}
 use Rattle.dictionary.proofs.decimal.unit.Goals as goal
 

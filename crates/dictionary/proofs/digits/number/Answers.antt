@@ -1,5 +1,5 @@
 use Rattle.std.proofs.Common.{◌≡◌, ◌∙◌, true, false, sym}
-use Rattle.dictionary.specs.Digits.{is_whole, whole_of}
+use Rattle.dictionary.specs.Digits.{is_whole}
 use Rattle.dictionary.proofs.NumberLemmas.{whole_parsed, not_whole, digits_are_text}
 use Rattle.dictionary.proofs.digits.number.Goals as goal
 

@@ -1,6 +1,5 @@
-use Rattle.std.proofs.Common.{◌≡◌, ◌∙◌, ◌++◌, ◌∷◌, [], Some, ap, sym}
+use Rattle.std.proofs.Common.{◌∙◌, ◌++◌, ◌∷◌, [], ap, sym}
 use Rattle.std.specs.List.{slice_get}
-use Rattle.dictionary.specs.Naming.{number_in}
 use Rattle.dictionary.proofs.NameLemmas.{numbered, last_number}
 use Rattle.dictionary.proofs.names.Names.number_of.Goals as goal
 
