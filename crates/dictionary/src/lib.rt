@@ -8,8 +8,9 @@
 //! as CSV and [`read_dictionary`] reads it back.
 //!
 //! `specs/` defines each form over lists of bytes: `Digits` (whole numbers), `Decimals` (amounts),
-//! `Naming` (names) and `Pieces` (amounts in pieces). The CSV form of a dictionary
-//! has no such definition: it is only tested that what is written reads back.
+//! `Naming` (names) and `Values` (numbers of each kind). Of days, and of the CSV form of a dictionary,
+//! nothing is defined there: that a day is written as it was read, and a dictionary too, is only
+//! tested.
 #![tactic(auto)]
 
 mod column;
