@@ -1,6 +1,6 @@
 //! The words of a schema's line. Words are separated by spaces. A word that begins with a quote ends
 //! before the next one, and may hold spaces.
-ghost use Rattle.std.specs.Prelude.{◌<◌, IfOk, length};
+ghost use Rattle.std.specs.Prelude.{◌<◌, ◌≤◌, IfOk, length};
 
 use crate::schema_fault::SchemaProblem;
 use std::alloc::{AllocError, Global};
@@ -20,7 +20,9 @@ fn first_word(text: &str) -> Result<(&str, &str), SchemaProblem>
 }
 
 /// The text without the spaces at its beginning.
-pub(crate) fn without_spaces(text: &str) -> &str {
+pub(crate) fn without_spaces(text: &str) -> &str
+    ensures { length result.now ≤ length text.now }
+{
     text.trim_start_matches(' ')
 }
 
