@@ -1,0 +1,4 @@
+pub mod DigitLemmas
+pub mod NameLemmas
+pub mod NumberLemmas
+pub mod Powers
