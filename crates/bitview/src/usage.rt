@@ -74,7 +74,7 @@ const IMPORT_HELP: &str = "Example:
   bitview import examples/bank.schema examples/bank.csv
 
 Of FILE.csv two files are made beside it: FILE.bv, a command file, and FILE.names, the
-dictionary that `bitview show` reads. docs/RECIPES.md describes the lines of a schema.";
+dictionary that `bitview show` reads. docs/IMPORT.md describes the lines of a schema.";
 
 // What `show --help` says at its end.
 const SHOW_HELP: &str = "Example:

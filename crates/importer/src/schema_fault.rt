@@ -63,7 +63,7 @@ pub enum SchemaProblem {
 
 /// The line of a schema that is at fault.
 #[derive(Debug, Drop, Error)]
-#[error("schema, line {line}: {problem}")]
+#[error("line {line}: {problem}")]
 pub struct SchemaFault {
     /// The line, from 1; one after the last if the fault is that something is missing.
     pub line: u64,
