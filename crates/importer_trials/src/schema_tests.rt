@@ -26,12 +26,7 @@ fn lines(rt: HostRuntime) -> Result<(), Fail> {
         b"# note\ntables t\n",
         "line 2: \"tables\" begins no line: table, column, plan, ask and shows do",
     )?;
-    expect(
-        &rt,
-        alloc,
-        b"table \"t\n",
-        "line 1: a quote is not closed",
-    )?;
+    expect(&rt, alloc, b"table \"t\n", "line 1: a quote is not closed")?;
     expect(
         &rt,
         alloc,

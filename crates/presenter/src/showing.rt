@@ -95,11 +95,10 @@ fn push_columns(
     columns: &[Column],
     words: &[&str],
 ) -> Result<(), ShowProblem> {
-    let mut at = 0;
+    let mut columns = columns.iter();
     for word in words {
-        let kind = columns.get(at).map_or(Kind::Signed, |column| column.kind);
+        let kind = columns.next().map_or(Kind::Signed, |column| column.kind);
         sheet.push_value(kind, signed(word)?, &dictionary.names)?;
-        at += 1;
     }
     Ok(())
 }
