@@ -74,13 +74,13 @@ fn make_by<E: Out>(
 {
     let mut commands = MemoryOut::new(alloc);
     match import(alloc, schema, table.bytes, &mut commands) {
-        Ok(imported) => made(alloc, commands, &imported, error),
+        Ok(imported) => with_dictionary(alloc, commands, &imported, error),
         Err(fault) => Err(refuse_table(table.name, &fault, error)),
     }
 }
 
-// The two texts of an import.
-fn made<E: Out>(
+// The two texts of an import, of which the command file is written.
+fn with_dictionary<E: Out>(
     alloc: Global,
     commands: MemoryOut,
     imported: &Imported,
