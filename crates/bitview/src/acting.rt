@@ -154,7 +154,9 @@ fn write_asked<R: Threads + Wait + Sync, W: Out, V: Watch>(
         × IsPartBeforeOverflow action.entry script.now part × W.took out.old part 0 out.new) }
 {
     match action {
-        Action::Run { workers, .. } => run_script_watched(runtime, alloc, script, workers, out, &OpenGate, watch),
+        Action::Run { workers, .. } => run_script_watched(
+            runtime, alloc, script, workers, out, &OpenGate, watch,
+        ),
         Action::Plain { .. } => plain_script_watched(alloc, script, out, watch),
         Action::Check { .. } => write_size(alloc, script, out),
     }

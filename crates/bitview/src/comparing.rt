@@ -154,6 +154,9 @@ fn unreadable<E: Out>(view: &str, time: Bitime, refusal: Refusal, error: &mut E)
 {
     let valid = time.first;
     let system = time.second;
-    let _told = writeln!(Told { error }, "cannot read {view} at {valid} {system}: {refusal}");
+    let _told = writeln!(
+        Told { error },
+        "cannot read {view} at {valid} {system}: {refusal}"
+    );
     6
 }

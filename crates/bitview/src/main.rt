@@ -231,7 +231,9 @@ fn save<R: Files + Eprint, W: Out>(
     let records = made.records;
     let changes = made.changes;
     let zeros = made.zeros;
-    let line = format!(in alloc; "{commands} {dictionary} records {records} changes {changes} zeros {zeros}\n")?;
+    let line = format!(in alloc;
+        "{commands} {dictionary} records {records} changes {changes} zeros {zeros}\n"
+    )?;
     match put_all(out, line.as_bytes()) {
         Ok(()) => Ok(0),
         Err(_failed) => {

@@ -190,7 +190,12 @@ fn import<'a>(alloc: Global) -> Result<Command<'a>, AllocError> {
         .about("Makes a command file and a dictionary of a CSV file")
         .after_help(IMPORT_HELP)
         .arg(word(alloc, "SCHEMA", "The file that says what the columns mean"))?
-        .arg(word(alloc, "TABLE", "The CSV file; its first line has the titles").value_name("FILE.csv"))
+        .arg(word(
+            alloc,
+            "TABLE",
+            "The CSV file; its first line has the titles",
+        )
+        .value_name("FILE.csv"))
 }
 
 // The arguments of `show`.

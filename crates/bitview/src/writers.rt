@@ -1,9 +1,8 @@
 //! The process's own outputs, of which no contract says where their bytes go, and lines that take no
 //! memory.
 use output::{Out, OutFault, put_all};
-use std::fmt;
 use std::io::Write;
-use std::str;
+use std::{fmt, str};
 
 /// A writer, as an [`Out`].
 #[derive(Drop)]
