@@ -50,7 +50,7 @@ fn imports(alloc: Global) -> Attempt {
 }
 
 #[test]
-fn an_import_may_be_refused(rt: HostRuntime) -> Result<(), Fail> {
+fn an_import_takes_memory(rt: HostRuntime) -> Result<(), Fail> {
     let alloc = rt.alloc();
     let mut attempt = imports(alloc);
     if let Attempt::Refused = attempt {
@@ -94,7 +94,7 @@ fn shows(alloc: Global) -> Attempt {
 }
 
 #[test]
-fn tables_may_be_refused(rt: HostRuntime) -> Result<(), Fail> {
+fn tables_take_memory(rt: HostRuntime) -> Result<(), Fail> {
     let alloc = rt.alloc();
     let mut attempt = shows(alloc);
     if let Attempt::Refused = attempt {
