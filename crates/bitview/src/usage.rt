@@ -52,6 +52,25 @@ Faults: `fault line L code C` on standard error. Nothing is run.
 
 `bitview explain FILE` tells faults in words. docs/SCRIPT.md describes the lines of a file.";
 
+// What `run --help` says at its end.
+const RUN_HELP: &str = "Example:
+  bitview run examples/late_correction.bv --workers 4 --progress
+
+The answers go to standard output, and a line for each refused command. With --progress
+standard error gets `lines 12, reads 6, 0.4 s` now and then.";
+
+// What `plain --help` says at its end.
+const PLAIN_HELP: &str = "Example:
+  bitview plain examples/late_correction.bv
+
+It is slow where much is asked, and easy to believe: nothing is kept but the changes.";
+
+// What `check --help` says at its end.
+const CHECK_HELP: &str = "Example:
+  bitview check examples/late_correction.bv
+
+It writes `ok NODES COMMANDS`, or tells the first faulty line. `bitview explain` tells more.";
+
 // What `explain --help` says at its end.
 const EXPLAIN_HELP: &str = "Example:
   bitview explain examples/map.bv
@@ -142,6 +161,7 @@ fn time<'a>(alloc: Global, id: &'a str, name: &'a str, help: &'a str) -> Arg<'a>
 fn run<'a>(alloc: Global) -> Result<Command<'a>, AllocError> {
     Command::new(alloc, "run")
         .about("Runs a command file by workers, and writes what it asks for")
+        .after_help(RUN_HELP)
         .arg(file(alloc))?
         .arg(workers(alloc))?
         .arg(progress(alloc))
@@ -151,6 +171,7 @@ fn run<'a>(alloc: Global) -> Result<Command<'a>, AllocError> {
 fn plain<'a>(alloc: Global) -> Result<Command<'a>, AllocError> {
     Command::new(alloc, "plain")
         .about("Writes the same, worked out from scratch at each question")
+        .after_help(PLAIN_HELP)
         .arg(file(alloc))?
         .arg(progress(alloc))
 }
@@ -159,6 +180,7 @@ fn plain<'a>(alloc: Global) -> Result<Command<'a>, AllocError> {
 fn check<'a>(alloc: Global) -> Result<Command<'a>, AllocError> {
     Command::new(alloc, "check")
         .about("Reads a command file, and writes how many nodes and commands it has")
+        .after_help(CHECK_HELP)
         .arg(file(alloc))
 }
 
