@@ -21,9 +21,9 @@ use Rattle.histories.specs.Histories.{held_entries, open_entries}
 use Rattle.histories.specs.Histories.Outstanding.{items_in_flight, items_held}
 use Rattle.outstanding.specs.Inputs.{front_at}
 use Rattle.outstanding.specs.Loads.{Load, Lot, no_lot, load_in, bundle_at, loads_at, with_load_at, without_load_at, lot_in, lot_of, with_lot, first_stations, put_at, put_all, taken_from, held_from, queue_of, has_place, bundles_of, bundles_in, held_in}
-use Rattle.outstanding.proofs.GivingLemmas.{map_flat, map_twice, kept_at, first_lot}
+use Rattle.outstanding.proofs.GiveLemmas.{map_flat, map_twice, kept_at, first_lot}
 use Rattle.outstanding.proofs.LotLemmas.{flat_flat, flat_empty, apart, no_and}
-use Rattle.outstanding.proofs.PlacingLemmas.{lot_at, as_many, as_wide, set_past}
+use Rattle.outstanding.proofs.PlacedLemmas.{lot_at, as_many, as_wide, set_past}
 use Rattle.outstanding.proofs.StationLemmas.{node_within}
 use Rattle.accounts.specs.Accounts.{AccountState, items_waiting, items_kept, items_left, items_on, placed, items_sent}
 use Rattle.accounts.proofs.CountLemmas.{count, count_both, one_changed}

@@ -3,6 +3,7 @@
 use Rattle.std.proofs.Common.{◌≡◌, ℕ, ◌<◌, Bool, true, false, List, [], ◌∷◌, ◌++◌, Some, inl, length, get_or, set, replicate, slice_get, sym, refl, ap, ◌∙◌, subst, arith}
 use Rattle.std.specs.Prelude.{Contains}
 use Rattle.std.proofs.lemmas.List.{length-set, length-replicate}
+use Rattle.lattice.specs.Times.{Times}
 use Rattle.lattice.specs.Order.{PartialOrderLaws}
 use Rattle.antichain.proofs.Lists.{contains_among}
 use Rattle.plan.specs.Rules.{IsPlan}
@@ -18,7 +19,7 @@ use Rattle.histories.specs.declared.event.Emission.{Emission}
 use Rattle.outstanding.specs.Inputs.{front_at}
 use Rattle.outstanding.specs.Loads.{Load, Lot, no_lot, first_stations, load_in, lot_of, with_load_at, without_load_at, put_at, put_all, taken_from, held_from, queue_of, has_place}
 use Rattle.outstanding.proofs.StationLemmas.{node_within, waits_at_node, waits_in_row, worker_within}
-use Rattle.outstanding.proofs.PlacingLemmas.{as_many, many_put_all, wide_put_all, held_put}
+use Rattle.outstanding.proofs.PlacedLemmas.{as_many, many_put_all, wide_put_all, held_put}
 use Rattle.accounts.specs.Accounts.{AccountState, IsCounted, items_waiting, items_kept, items_left, items_sent, items_given, items_held_by, with_stations, after_giving}
 use Rattle.accounts.proofs.CountLemmas.{count, count_both}
 use Rattle.accounts.proofs.AccountLemmas.{first_counts, is_there, put_nowhere, put_waiting, put_kept, take_waiting, take_kept, hold_waiting, hold_kept, left_changed, all_put, in_three}
@@ -279,5 +280,5 @@ module _ {T : Type 0} where
       (λ waits there old mid h added. (stamp_is_counted a number b waits there old mid h added, counted_take a number b waits there old mid h added))
 
 -- the item that was counted last is there
-pub first_is_there : {T : Type 0} (below : T → T → Bool) → PartialOrderLaws below → (x : Counted T) (old new : List (Counted T)) → SameCounts new (x ∷ old) → Contains new x
-first_is_there below o x old new added = same_items below o (x ∷ old) new x (λ test. sym (added test)) (contains_among x (x ∷ old) (inl refl))
+pub first_is_there : {T : Type 0} (times : Times T) → PartialOrderLaws times → (x : Counted T) (old new : List (Counted T)) → SameCounts new (x ∷ old) → Contains new x
+first_is_there times o x old new added = same_items times o (x ∷ old) new x (λ test. sym (added test)) (contains_among x (x ∷ old) (inl refl))

@@ -1,5 +1,5 @@
 -- What is outstanding on a board, and that the tally counts just that.
-use Rattle.std.specs.Prelude.{◌≡◌, ℕ, Bool, List, ◌++◌, length}
+use Rattle.std.specs.Prelude.{◌≡◌, ℕ, List, ◌++◌, length}
 use Rattle.std.specs.List.{filter, flat_map}
 use Rattle.plan.specs.Ancestors.{numbers_below}
 use Rattle.plan.specs.Rules.{IsPlan}
@@ -15,6 +15,7 @@ use Rattle.histories.specs.Histories.{open_entries}
 use Rattle.histories.specs.Histories.Outstanding.{items_in_flight, items_held, items_open}
 use Rattle.outstanding.specs.Loads.{Lot, lot_of, all_bundles, all_held, has_place, put_all, held_from}
 use Rattle.outstanding.specs.Inputs.{front_at}
+use Rattle.lattice.specs.Times.{Times}
 
 -- what a contract sees of accounts: the nodes of the plan, what lies at the stations by node and by
 -- worker, and by node the frontier of an input
@@ -73,14 +74,14 @@ module _ {T : Type 0} where
   abbrev pub items_held_by : List (List (Lot T)) → ℕ → ℕ → List (Counted T)
   items_held_by stations n k = items_at (Held n) (lot_of stations n k).held
 
-module _ {T : Type 0} (below : T → T → Bool) where
+module _ {T : Type 0} (times : Times T) where
   -- the frontiers of a node, found from what is outstanding
   abbrev pub front_of : AccountState T → ℕ → List T
-  front_of a n = Tallies.frontier below a.nodes (items_on a) n
+  front_of a n = Tallies.frontier times a.nodes (items_on a) n
 
   abbrev pub input_front_of : AccountState T → ℕ → List T
-  input_front_of a n = Tallies.input_frontier below a.nodes (items_on a) n
+  input_front_of a n = Tallies.input_frontier times a.nodes (items_on a) n
 
   -- the input frontier of one port, found in the same way
   abbrev pub port_front_of : AccountState T → ℕ → ℕ → List T
-  port_front_of a n port = Tallies.port_frontier below a.nodes (items_on a) n port
+  port_front_of a n port = Tallies.port_frontier times a.nodes (items_on a) n port

@@ -1,8 +1,8 @@
 //! Accounts: what lies at the stations, where the inputs stand, and the tally of both.
-ghost use Rattle.std.specs.Prelude.{◌≡◌, ◌<◌, [], IfErr, IfOk, OnOk, length};
+ghost use Rattle.std.specs.Prelude.{◌≡◌, ◌<◌, [], IfOk, OnOk, length};
+ghost use Rattle.update.specs.Refusals.{OnlyMemory};
 ghost use Rattle.lattice.specs.Frontiers.{is_beyond};
 ghost use Rattle.antichain.specs.Antichains.{SameElements};
-ghost use Rattle.update.specs.declared.refusal.Refusal.TheVariants.{OutOfMemory};
 ghost use Rattle.plan.specs.Changes.{has_passed};
 ghost use Rattle.plan.specs.Rules.{IsPlan};
 ghost use Rattle.progress.specs.Tallies.{SameCounts};
@@ -20,8 +20,8 @@ use std::alloc::Global;
 use std::marker::Model;
 use update::{Refusal, Times};
 
-/// What is outstanding in a dataflow, and the tally that counts it. A contract sees the nodes of the
-/// plan, what lies at the stations, and the frontiers of the inputs, as an `AccountState`.
+/// What is outstanding in a dataflow, and the tally that counts it. A contract sees the nodes of
+/// the plan, what lies at the stations, and the frontiers of the inputs, as an `AccountState`.
 pub struct Accounts<T: Minimum> {
     pub(crate) tally: Tally<T>,
     pub(crate) stations: Stations<T>,
@@ -69,9 +69,9 @@ impl<T: Minimum> Accounts<T> {
         ensures first { IfOk result (λ accounts. accounts ≡ record {
           nodes = plan;
           stations = first_stations (length plan) workers;
-          inputs = first_inputs T.least plan;
+          inputs = first_inputs T.times.least plan;
         }) }
-        ensures refused { IfErr result (λ refusal. refusal ≡ OutOfMemory) }
+        ensures refused { OnlyMemory result }
     {
         let inputs = InputFrontiers::first(alloc, &plan)?;
         let mut tally = Tally::new(alloc, plan)?;
@@ -108,76 +108,76 @@ impl<T: Minimum> Accounts<T> {
         &self.inputs
     }
 
-    /// The frontier of a node: the least of what is outstanding at it or above it. Refused only with
-    /// `OutOfMemory`.
+    /// The frontier of a node: the least of what is outstanding at it or above it. Refused only
+    /// with `OutOfMemory`.
     ///
     /// Cost: that of [`Tally::frontier`].
     pub fn frontier(&mut self, node: NodeId) -> Result<Antichain<T>, Refusal>
         requires { node < length self.old.nodes }
         ensures kept { self.new ≡ self.old }
-        ensures least { IfOk result (λ found. SameElements found (front_of T.below self.old node)) }
+        ensures least { IfOk result (λ found. SameElements found (front_of T.times self.old node)) }
         ensures beyond { IfOk result (λ found. (t : T)
-            → is_beyond T.below found t ≡ is_beyond T.below (front_of T.below self.old node) t) }
-        ensures refused { IfErr result (λ refusal. refusal ≡ OutOfMemory) }
+            → is_beyond T.times found t ≡ is_beyond T.times (front_of T.times self.old node) t) }
+        ensures refused { OnlyMemory result }
     {
         self.tally.frontier(node)
     }
 
-    /// The input frontier of a node: the same, without what is held at the node itself. Refused only
-    /// with `OutOfMemory`.
+    /// The input frontier of a node: the same, without what is held at the node itself. Refused
+    /// only with `OutOfMemory`.
     ///
     /// Cost: that of [`Tally::input_frontier_of`].
     pub fn input_frontier(&mut self, node: NodeId) -> Result<Antichain<T>, Refusal>
         requires { node < length self.old.nodes }
         ensures kept { self.new ≡ self.old }
         ensures least { IfOk result (λ found.
-            SameElements found (input_front_of T.below self.old node)) }
-        ensures beyond { IfOk result (λ found. (t : T) → is_beyond T.below found t
-            ≡ is_beyond T.below (input_front_of T.below self.old node) t) }
-        ensures refused { IfErr result (λ refusal. refusal ≡ OutOfMemory) }
+            SameElements found (input_front_of T.times self.old node)) }
+        ensures beyond { IfOk result (λ found. (t : T) → is_beyond T.times found t
+            ≡ is_beyond T.times (input_front_of T.times self.old node) t) }
+        ensures refused { OnlyMemory result }
     {
         self.tally.input_frontier_of(node)
     }
 
-    /// Times that tell the input frontier of a node: a time is beyond them if and only if it is beyond
-    /// that frontier. Refused only with `OutOfMemory`.
+    /// Times that tell the input frontier of a node: a time is beyond them if and only if it is
+    /// beyond that frontier. Refused only with `OutOfMemory`.
     ///
     /// Cost: that of [`Tally::input_times_of`].
     pub fn input_times(&mut self, node: NodeId) -> Result<Times<T>, Refusal>
         requires { node < length self.old.nodes }
         ensures kept { self.new ≡ self.old }
         ensures beyond { IfOk result (λ found. (t : T)
-            → is_beyond T.below found t
-            ≡ is_beyond T.below (input_front_of T.below self.old node) t) }
-        ensures refused { IfErr result (λ refusal. refusal ≡ OutOfMemory) }
+            → is_beyond T.times found t
+            ≡ is_beyond T.times (input_front_of T.times self.old node) t) }
+        ensures refused { OnlyMemory result }
     {
         self.tally.input_times_of(node)
     }
 
-    /// The input frontier of one port of a node: the least of what is in flight to it, and of what is
-    /// outstanding at its source or above. Refused only with `OutOfMemory`.
+    /// The input frontier of one port of a node: the least of what is in flight to it, and of what
+    /// is outstanding at its source or above. Refused only with `OutOfMemory`.
     ///
     /// Cost: that of [`Tally::input_frontier`].
     pub fn port_frontier(&mut self, node: NodeId, port: usize) -> Result<Antichain<T>, Refusal>
         requires { node < length self.old.nodes }
         ensures kept { self.new ≡ self.old }
         ensures least { IfOk result (λ found.
-            SameElements found (port_front_of T.below self.old node port)) }
-        ensures beyond { IfOk result (λ found. (t : T) → is_beyond T.below found t
-            ≡ is_beyond T.below (port_front_of T.below self.old node port) t) }
-        ensures refused { IfErr result (λ refusal. refusal ≡ OutOfMemory) }
+            SameElements found (port_front_of T.times self.old node port)) }
+        ensures beyond { IfOk result (λ found. (t : T) → is_beyond T.times found t
+            ≡ is_beyond T.times (port_front_of T.times self.old node port) t) }
+        ensures refused { OnlyMemory result }
     {
         self.tally.input_frontier(node, port)
     }
 
-    /// Finds anew what the tally keeps of a node, if something moved it. A caller that asks about many
-    /// times calls this first. Refused only with `OutOfMemory`.
+    /// Finds anew what the tally keeps of a node, if something moved it. A caller that asks about
+    /// many times calls this first. Refused only with `OutOfMemory`.
     ///
     /// Cost: that of [`Tally::refresh`].
     pub fn refresh(&mut self, node: NodeId) -> Result<(), Refusal>
         requires { node < length self.old.nodes }
         ensures kept { self.new ≡ self.old }
-        ensures refused { IfErr result (λ refusal. refusal ≡ OutOfMemory) }
+        ensures refused { OnlyMemory result }
     {
         self.tally.refresh(node)
     }
@@ -188,7 +188,7 @@ impl<T: Minimum> Accounts<T> {
     pub fn has_passed(&mut self, node: NodeId, t: &T) -> bool
         requires { node < length self.old.nodes }
         ensures kept { self.new ≡ self.old }
-        ensures value { result ≡ has_passed T.below (front_of T.below self.old node) t.now }
+        ensures value { result ≡ has_passed T.times (front_of T.times self.old node) t.now }
     {
         self.tally.has_passed(node, t)
     }
@@ -199,7 +199,7 @@ impl<T: Minimum> Accounts<T> {
     pub fn input_has_passed(&mut self, node: NodeId, t: &T) -> bool
         requires { node < length self.old.nodes }
         ensures kept { self.new ≡ self.old }
-        ensures value { result ≡ has_passed T.below (input_front_of T.below self.old node) t.now }
+        ensures value { result ≡ has_passed T.times (input_front_of T.times self.old node) t.now }
     {
         self.tally.input_has_passed(node, t)
     }
@@ -212,7 +212,7 @@ fn count_inputs<T: Minimum>(tally: &mut Tally<T>, inputs: &InputFrontiers<T>) ->
     ensures counted { OnOk result
         (SameCounts tally.new.items (items_left (length tally.old.nodes) inputs.now)) }
     ensures nodes { tally.new.nodes ≡ tally.old.nodes }
-    ensures refused { IfErr result (λ refusal. refusal ≡ OutOfMemory) }
+    ensures refused { OnlyMemory result }
 {
     for n in 0..tally.plan().len() {
         let input = NodeId::new(n);

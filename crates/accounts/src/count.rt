@@ -1,7 +1,7 @@
 //! How bundles are counted that are sent: each element of a stamp, at the port where the bundle is
 //! to wait. A bundle whose place does not exist is dropped when it is put, so it is not counted.
-ghost use Rattle.std.specs.Prelude.{◌≡◌, ◌++◌, [], ◌∷◌, IfErr, OnErr, OnOk};
-ghost use Rattle.update.specs.declared.refusal.Refusal.TheVariants.{OutOfMemory};
+ghost use Rattle.std.specs.Prelude.{◌≡◌, ◌++◌, [], ◌∷◌, OnErr, OnOk};
+ghost use Rattle.update.specs.Refusals.{OnlyMemory};
 ghost use Rattle.progress.specs.declared.place.Place.TheVariants.{Port};
 ghost use Rattle.progress.specs.Several.{AreCounted};
 ghost use Rattle.progress.specs.Tallies.{SameCounts};
@@ -34,7 +34,7 @@ pub(crate) fn add_sent<T: Minimum>(
     ensures counted { OnOk result
         (SameCounts tally.new.items (items_sent (lots stations.now) sent.now ++ tally.old.items)) }
     ensures nodes { tally.new.nodes ≡ tally.old.nodes }
-    ensures refused { IfErr result (λ refusal. refusal ≡ OutOfMemory) }
+    ensures refused { OnlyMemory result }
     ensures unchanged { OnErr result (SameCounts tally.new.items tally.old.items) }
 {
     for number in 0..sent.len() {
@@ -55,7 +55,7 @@ fn add_one<T: Minimum>(
     ensures counted { OnOk result (SameCounts tally.new.items
         (items_sent (lots stations.now) (bundle.now ∷ []) ++ tally.old.items)) }
     ensures nodes { tally.new.nodes ≡ tally.old.nodes }
-    ensures refused { IfErr result (λ refusal. refusal ≡ OutOfMemory) }
+    ensures refused { OnlyMemory result }
     ensures unchanged { OnErr result (SameCounts tally.new.items tally.old.items) }
 {
     if !stations.has_place(&bundle.place) {

@@ -1,14 +1,14 @@
 //! What a worker gives: the updates of a node, cut into the bundles in which they go on.
 //!
-//! Most often all updates go on along the last edge. Then the last bundle is the list itself, and not
-//! a copy of it: an evaluation may give more updates than all else that lies on a board. So a cut
-//! emission has the updates in one place only: in a list of their own, or in the last bundle. The
-//! invariant: if it has no list of its own, then there is a last bundle.
+//! Most often all updates go on along the last edge. Then the last bundle is the list itself, and
+//! not a copy of it: an evaluation may give more updates than all else that lies on a board. So a
+//! cut emission has the updates in one place only: in a list of their own, or in the last bundle.
+//! The invariant: if it has no list of its own, then there is a last bundle.
 //!
 //! A contract sees the emission and the bundles, whichever of them has the list.
 ghost use Rattle.std.specs.Prelude.{◌≡◌, ◌<◌, ◌++◌, IfErr, IfOk, OnErr, OnOk, length};
+ghost use Rattle.update.specs.Refusals.{OnlyMemory};
 ghost use Rattle.accounts.specs.CutEmissions.{last_updates};
-ghost use Rattle.update.specs.declared.refusal.Refusal.TheVariants.{OutOfMemory};
 ghost use Rattle.histories.specs.declared.event.Event.TheVariants.{Give};
 ghost use Rattle.histories.specs.Histories.Cuts.{bundled};
 
@@ -78,7 +78,7 @@ impl<T: Minimum> CutEmission<T> {
     ) -> Result<CutEmission<T>, Emission<T>>
         ensures given { IfOk result (λ c. c.given ≡ emission) }
         ensures sent { IfOk result
-            (λ c. c.sent ≡ sent.items ++ bundled T.below place emission.updates) }
+            (λ c. c.sent ≡ sent.items ++ bundled T.times place emission.updates) }
         ensures returned { IfErr result (λ back. back ≡ emission) }
     {
         if emission.updates.len() == 0 {
@@ -165,7 +165,7 @@ impl<T: Minimum> CutEmission<T> {
         ensures node { self.new.given.node ≡ self.old.given.node }
         ensures worker { self.new.given.worker ≡ self.old.given.worker }
         ensures unchanged { OnErr result (self.new ≡ self.old) }
-        ensures refused { IfErr result (λ refusal. refusal ≡ OutOfMemory) }
+        ensures refused { OnlyMemory result }
     {
         if let Some(updates) = &mut self.own {
             view.capture(updates)?;

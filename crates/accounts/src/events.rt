@@ -1,13 +1,12 @@
 //! What clients do to the accounts, and what a worker that takes does. What comes in is counted
 //! before anything moves, and what goes out is counted off last.
 ghost use Rattle.std.specs.Prelude.{◌≡◌, ◌<◌, [], IfErr, IfOk, None, OnErr, OnOk, Some, length, set, slice_get};
-ghost use Rattle.update.specs.Refusals.{IsRefusalBy};
-ghost use Rattle.update.specs.declared.refusal.Refusal.TheVariants.{OutOfMemory};
+ghost use Rattle.update.specs.Refusals.{OnlyMemory, IsRefusalBy};
 ghost use Rattle.plan.specs.Rules.{first_refusal};
 ghost use Rattle.outstanding.specs.declared.queue.Parcel.TheVariants.{Change};
 ghost use Rattle.outstanding.specs.Inputs.{front_at, advance_faults};
 ghost use Rattle.outstanding.specs.Loads.{load_of, put_at, queue_of, taken_from};
-ghost use Rattle.accounts.specs.Accounts.{AccountState, with_stations};
+ghost use Rattle.accounts.specs.Accounts.{with_stations};
 
 use crate::accounts::Accounts;
 use crate::count::port_of;
@@ -27,7 +26,7 @@ impl<T: Minimum> Accounts<T> {
     pub fn put(&mut self, site: &Site, update: Update<T>) -> Result<(), Refusal>
         ensures put { OnOk result (self.new ≡ with_stations self.old
             (put_at site.now (load_of (Change update)) self.old.stations)) }
-        ensures refused { IfErr result (λ refusal. refusal ≡ OutOfMemory) }
+        ensures refused { OnlyMemory result }
         ensures unchanged { OnErr result (self.new ≡ self.old) }
     {
         if !self.stations.has_place(site) {
@@ -54,7 +53,7 @@ impl<T: Minimum> Accounts<T> {
         ensures place { IfOk result (λ bundle. bundle.place ≡ site.now) }
         ensures taken { IfOk result (λ bundle.
             self.new ≡ with_stations self.old (taken_from number bundle self.old.stations)) }
-        ensures refused { IfErr result (λ refusal. refusal ≡ OutOfMemory) }
+        ensures refused { OnlyMemory result }
         ensures unchanged { OnErr result (self.new ≡ self.old) }
     {
         let bundle = self.stations.take(site, number, &mut self.tally)?;
@@ -74,9 +73,9 @@ impl<T: Minimum> Accounts<T> {
         ensures moved { OnOk result
             (self.new ≡ record self.old { inputs = set self.old.inputs input times }) }
         ensures accepted { OnOk result (first_refusal
-            (advance_faults T.below (front_at input self.old.inputs) times) ≡ None) }
+            (advance_faults T.times (front_at input self.old.inputs) times) ≡ None) }
         ensures refused { IfErr result (IsRefusalBy (first_refusal
-            (advance_faults T.below (front_at input self.old.inputs) times))) }
+            (advance_faults T.times (front_at input self.old.inputs) times))) }
         ensures unchanged { OnErr result (self.new ≡ self.old) }
     {
         if !all_beyond(self.inputs.of(input), times.as_slice()) {

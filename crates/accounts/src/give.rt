@@ -1,13 +1,12 @@
 //! What a worker gives. First all of it is counted and room is made, which may be refused; then
-//! everything moves, which needs no memory. The times that the worker is to hold are capabilities as
-//! soon as they are counted, so none of the two ways out can forget them.
+//! everything moves, which needs no memory. The times that the worker is to hold are capabilities
+//! as soon as they are counted, so none of the two ways out can forget them.
 ghost use Rattle.std.specs.Prelude.{◌≡◌, ◌++◌, ◌<◌, [], IfErr, IfOk, OnErr, OnOk, get_or, length};
 ghost use Rattle.progress.specs.Several.{AreCounted};
 ghost use Rattle.progress.specs.Tallies.{SameCounts};
 ghost use Rattle.outstanding.specs.Loads.{held_from, put_all};
 ghost use Rattle.outstanding.specs.Stations.{lots, HasRoomFor};
-ghost use Rattle.views.specs.Views.{ViewState};
-ghost use Rattle.accounts.specs.Accounts.{AccountState, after_giving, items_given, items_held_by};
+ghost use Rattle.accounts.specs.Accounts.{after_giving, items_given, items_held_by};
 
 use crate::accounts::Accounts;
 use crate::count::{add_sent, remove_sent};
@@ -29,8 +28,8 @@ pub struct Ungiven<T> {
 
 impl<T: Minimum> Accounts<T> {
     /// A worker gives what it computed at a node: the bundles go to their places, and the worker
-    /// holds these times there from then on, and no other. Refused only if memory runs out. Then all
-    /// arguments come back, and nothing changes.
+    /// holds these times there from then on, and no other. Refused only if memory runs out. Then
+    /// all arguments come back, and nothing changes.
     ///
     /// Cost: linear in the bundles, with the cost of [`Tally::add`] for each element of a stamp and
     /// for each held time. What is held and sent moves.
@@ -82,8 +81,9 @@ impl<T: Minimum> Accounts<T> {
     }
 }
 
-// The part of a give that may be refused: it counts what is sent and what will be held, and reserves
-// room for the bundles. If it was refused, then it has taken back what it did, and the times come back.
+// The part of a give that may be refused: it counts what is sent and what will be held, and
+// reserves room for the bundles. If it was refused, then it has taken back what it did, and the
+// times come back.
 fn announce<T: Minimum>(
     tally: &mut Tally<T>,
     stations: &mut Stations<T>,

@@ -9,6 +9,7 @@ use Rattle.std.specs.Cmp.Lexicographic.{pointwise}
 use Rattle.std.proofs.lemmas.Cmp.{tied_itself}
 use Rattle.std.specs.declared.cmp.Ordering.{Ordering}
 use Rattle.std.specs.declared.cmp.Ordering.TheVariants.{Less, Equal, Greater}
+use Rattle.lattice.specs.Times.{Times}
 use Rattle.lattice.specs.Order.{PartialOrderLaws}
 use Rattle.lattice.specs.Frontiers.{is_beyond}
 use Rattle.antichain.specs.Antichains.{is_incomparable, is_antichain, is_least, least, SameElements, IsFrontier}
@@ -33,34 +34,34 @@ implied : (a b : Bool) → IsTrue (not a || b) → IsTrue a → IsTrue b
 implied true b h k = h
 implied false b h k = absurd (true≢false (sym k))
 
-module _ {T : Type 0} (below : T → T → Bool) where
+module _ {T : Type 0} (times : Times T) where
   -- a time beyond a frontier has an element at or before it
-  pub beyond_has : (F : List T) (t : T) → IsTrue (is_beyond below F t) → (f : T) × Among f F × IsTrue (below f t)
+  pub beyond_has : (F : List T) (t : T) → IsTrue (is_beyond times F t) → (f : T) × Among f F × IsTrue (times.below f t)
   beyond_has [] t h = absurd (true≢false (sym h))
   beyond_has (f ∷ F) t h =
       ⊎_elim (λ e. (f, inl refl, e)) (λ e. let r = beyond_has F t e in (r.0, inr r.1, r.2)) (or_cases _ _ h)
 
   -- a time with an element at or before it is beyond the frontier
-  pub has_beyond : (F : List T) (f t : T) → Among f F → IsTrue (below f t) → IsTrue (is_beyond below F t)
+  pub has_beyond : (F : List T) (f t : T) → Among f F → IsTrue (times.below f t) → IsTrue (is_beyond times F t)
   has_beyond [] f t m h = absurd m
   has_beyond (g ∷ F) f t m h =
       ⊎_elim
-      (λ e. or_left (below g t) (is_beyond below F t) (ap (λ x. below x t) e ∙ h))
-      (λ n. or_right (below g t) (is_beyond below F t) (has_beyond F f t n h))
+      (λ e. or_left (times.below g t) (is_beyond times F t) (ap (λ x. times.below x t) e ∙ h))
+      (λ n. or_right (times.below g t) (is_beyond times F t) (has_beyond F f t n h))
       m
 
   -- if one element of an antichain is at or before another, then they are the same
-  pub antichain_one : (F : List T) (s t : T) → IsTrue (is_antichain below F) → Among s F → Among t F → IsTrue (below s t) → s ≡ t
+  pub antichain_one : (F : List T) (s t : T) → IsTrue (is_antichain times F) → Among s F → Among t F → IsTrue (times.below s t) → s ≡ t
   antichain_one [] s t a m n h = absurd m
   antichain_one (f ∷ F) s t a m n h =
       let parts = and_parts _ _ a in
       ⊎_elim
       (λ e. ⊎_elim
       (λ d. sym e ∙ d)
-      (λ k. absurd (not_true _ (and_parts _ _ (all_at (is_incomparable below f) F t parts.0 k)).0 (ap (λ x. below x t) e ∙ h)))
+      (λ k. absurd (not_true _ (and_parts _ _ (all_at (is_incomparable times f) F t parts.0 k)).0 (ap (λ x. times.below x t) e ∙ h)))
       n)
       (λ j. ⊎_elim
-      (λ d. absurd (not_true _ (and_parts _ _ (all_at (is_incomparable below f) F s parts.0 j)).1 (ap (below s) d ∙ h)))
+      (λ d. absurd (not_true _ (and_parts _ _ (all_at (is_incomparable times f) F s parts.0 j)).1 (ap (times.below s) d ∙ h)))
       (λ k. antichain_one F s t parts.1 j k h)
       n)
       m
@@ -70,36 +71,36 @@ pub among_same : {T : Type 0} (s t : T) (xs : List T) → s ≡ t → Among s xs
 among_same s t [] e h = h
 among_same s t (x ∷ xs) e h = ⊎_elim (λ d. inl (d ∙ e)) (λ d. inr (among_same s t xs e d)) h
 
-module _ {T : Type 0} (below : T → T → Bool) (o : PartialOrderLaws below) (F S : List T) (a : IsTrue (is_antichain below F)) (same : (t : T) → is_beyond below F t ≡ is_beyond below S t) where
+module _ {T : Type 0} (times : Times T) (o : PartialOrderLaws times) (F S : List T) (a : IsTrue (is_antichain times F)) (same : (t : T) → is_beyond times F t ≡ is_beyond times S t) where
   -- a time of S that is at or before an element of F is that element
-  frontier_one : (f s : T) → Among f F → Among s S → IsTrue (below s f) → IsTrue (below f s)
+  frontier_one : (f s : T) → Among f F → Among s S → IsTrue (times.below s f) → IsTrue (times.below f s)
   frontier_one f s m n h =
-      let r = beyond_has below F s (same s ∙ has_beyond below S s s n (o.reflexive s)) in
-      let e = antichain_one below F r.0 f a r.1 m (o.transitive _ _ _ r.2 h) in
-      ap (λ x. below x s) (sym e) ∙ r.2
+      let r = beyond_has times F s (same s ∙ has_beyond times S s s n (o.reflexive s)) in
+      let e = antichain_one times F r.0 f a r.1 m (o.transitive _ _ _ r.2 h) in
+      ap (λ x. times.below x s) (sym e) ∙ r.2
 
-  frontier_to_least : (t : T) → Among t F → Among t (least below S)
+  frontier_to_least : (t : T) → Among t F → Among t (least times S)
   unfolding least
   frontier_to_least t m =
-      let r = beyond_has below S t (sym (same t) ∙ has_beyond below F t t m (o.reflexive t)) in
+      let r = beyond_has times S t (sym (same t) ∙ has_beyond times F t t m (o.reflexive t)) in
       let e : r.0 ≡ t = o.antisymmetric _ _ r.2 (frontier_one t r.0 m r.1 r.2) in
-      filter_takes (is_least below S) S t (among_same r.0 t S e r.1)
-      (all_from (λ s. not (below s t) || below t s) S (λ s n. implies_from (below s t) (below t s) (λ h. frontier_one t s m n h)))
+      filter_takes (is_least times S) S t (among_same r.0 t S e r.1)
+      (all_from (λ s. not (times.below s t) || times.below t s) S (λ s n. implies_from (times.below s t) (times.below t s) (λ h. frontier_one t s m n h)))
 
-  least_to_frontier : (t : T) → Among t (least below S) → Among t F
+  least_to_frontier : (t : T) → Among t (least times S) → Among t F
   unfolding least
   least_to_frontier t m =
-      let k = filter_has (is_least below S) S t m in
-      let f = beyond_has below F t (same t ∙ has_beyond below S t t k.0 (o.reflexive t)) in
-      let s = beyond_has below S f.0 (sym (same f.0) ∙ has_beyond below F f.0 f.0 f.1 (o.reflexive f.0)) in
-      let up : IsTrue (below t s.0) = implied _ _ (all_at (λ s. not (below s t) || below t s) S s.0 k.1 s.1) (o.transitive _ _ _ s.2 f.2) in
+      let k = filter_has (is_least times S) S t m in
+      let f = beyond_has times F t (same t ∙ has_beyond times S t t k.0 (o.reflexive t)) in
+      let s = beyond_has times S f.0 (sym (same f.0) ∙ has_beyond times F f.0 f.0 f.1 (o.reflexive f.0)) in
+      let up : IsTrue (times.below t s.0) = implied _ _ (all_at (λ s. not (times.below s t) || times.below t s) S s.0 k.1 s.1) (o.transitive _ _ _ s.2 f.2) in
       among_same f.0 t F (o.antisymmetric _ _ f.2 (o.transitive _ _ _ up s.2)) f.1
 
   -- an antichain consists of the least of any times that have the same times beyond them
-  pub frontier_least : SameElements F (least below S)
+  pub frontier_least : SameElements F (least times S)
   frontier_least = record {
-    into = λ t c. contains_among t (least below S) (frontier_to_least t (among_contains t F c));
-    back = λ t c. contains_among t F (least_to_frontier t (among_contains t (least below S) c));
+    into = λ t c. contains_among t (least times S) (frontier_to_least t (among_contains t F c));
+    back = λ t c. contains_among t F (least_to_frontier t (among_contains t (least times S) c));
   }
 
 -- strictly sorted lists with the same elements are equal
@@ -144,35 +145,35 @@ module _ {T : Type 0} {cmp : T → T → Ordering} (total : IsTotalOrder cmp) wh
       head_named : (t u v : T) (zs : List T) → u ≡ v → Among t (u ∷ zs) → Among t (v ∷ zs)
       head_named t u v zs d m = ⊎_elim (λ c. inl (sym d ∙ c)) (λ n. inr n) m
 
-module _ {T : Type 0} {below : T → T → Bool} {cmp : T → T → Ordering} (o : PartialOrderLaws below) (total : IsTotalOrder cmp) where
+module _ {T : Type 0} {times : Times T} {cmp : T → T → Ordering} (o : PartialOrderLaws times) (total : IsTotalOrder cmp) where
   -- a frontier is determined by its elements
-  pub frontier_by_elements : (F G : List T) → IsFrontier below cmp F → IsFrontier below cmp G → SameElements F G → F ≡ G
+  pub frontier_by_elements : (F G : List T) → IsFrontier times cmp F → IsFrontier times cmp G → SameElements F G → F ≡ G
   frontier_by_elements F G f g same =
       sorted_same total F G f.ascending g.ascending
       (λ t m. among_contains t G (same.into t (contains_among t F m)))
       (λ t m. among_contains t F (same.back t (contains_among t G m)))
 
   -- an element of one frontier is an element of every frontier that has the same times beyond it
-  element_of : (F G : List T) → IsTrue (is_antichain below F) → ((t : T) → is_beyond below F t ≡ is_beyond below G t) → (t : T) → Among t F → Among t G
+  element_of : (F G : List T) → IsTrue (is_antichain times F) → ((t : T) → is_beyond times F t ≡ is_beyond times G t) → (t : T) → Among t F → Among t G
   element_of F G a same t m =
-      let g = beyond_has below G t (sym (same t) ∙ has_beyond below F t t m (o.reflexive t)) in
-      let f = beyond_has below F g.0 (same g.0 ∙ has_beyond below G g.0 g.0 g.1 (o.reflexive g.0)) in
-      let one : f.0 ≡ t = antichain_one below F f.0 t a f.1 m (o.transitive _ _ _ f.2 g.2) in
-      among_same g.0 t G (o.antisymmetric _ _ g.2 (ap (λ x. below x g.0) (sym one) ∙ f.2)) g.1
+      let g = beyond_has times G t (sym (same t) ∙ has_beyond times F t t m (o.reflexive t)) in
+      let f = beyond_has times F g.0 (same g.0 ∙ has_beyond times G g.0 g.0 g.1 (o.reflexive g.0)) in
+      let one : f.0 ≡ t = antichain_one times F f.0 t a f.1 m (o.transitive _ _ _ f.2 g.2) in
+      among_same g.0 t G (o.antisymmetric _ _ g.2 (ap (λ x. times.below x g.0) (sym one) ∙ f.2)) g.1
 
   -- a frontier is determined by the times beyond it
-  pub frontier_by_beyond : (F G : List T) → IsFrontier below cmp F → IsFrontier below cmp G → ((t : T) → is_beyond below F t ≡ is_beyond below G t) → F ≡ G
+  pub frontier_by_beyond : (F G : List T) → IsFrontier times cmp F → IsFrontier times cmp G → ((t : T) → is_beyond times F t ≡ is_beyond times G t) → F ≡ G
   frontier_by_beyond F G f g same =
       sorted_same total F G f.ascending g.ascending (element_of F G f.antichain same) (element_of G F g.antichain (λ t. sym (same t)))
 
-module _ {T : Type 0} (below : T → T → Bool) (cmp : T → T → Ordering) where
+module _ {T : Type 0} (times : Times T) (cmp : T → T → Ordering) where
   -- the empty list is a frontier
-  pub frontier_none : IsFrontier below cmp []
+  pub frontier_none : IsFrontier times cmp []
   unfolding IsStrictlySortedBy
   frontier_none = record { antichain = refl; ascending = tt }
 
   -- a single time is a frontier
-  pub frontier_one_time : (t : T) → IsFrontier below cmp (t ∷ [])
+  pub frontier_one_time : (t : T) → IsFrontier times cmp (t ∷ [])
   unfolding IsStrictlySortedBy
   frontier_one_time t = record { antichain = refl; ascending = (tt, tt) }
 

@@ -7,6 +7,7 @@ use Rattle.std.specs.Ordering.{is_lt, ordering_reverse}
 use Rattle.std.specs.Cmp.{IsTotalOrder}
 use Rattle.std.specs.declared.cmp.Ordering.{Ordering}
 use Rattle.std.specs.declared.cmp.Ordering.TheVariants.{Less, Equal, Greater}
+use Rattle.lattice.specs.Times.{Times}
 use Rattle.lattice.specs.Order.{PartialOrderLaws, ExtendsLaws}
 use Rattle.lattice.specs.Frontiers.{is_beyond}
 use Rattle.lattice.proofs.BoundLemmas.{same_test}
@@ -127,136 +128,136 @@ module _ {T : Type 0} (cmp : T → T → Ordering) where
             | false ↦ kept P ys a.1
           ]
 
-module _ {T : Type 0} (below : T → T → Bool) where
-  antichain_filter : (p : T → Bool) (xs : List T) → IsTrue (is_antichain below xs) → IsTrue (is_antichain below (filter p xs))
+module _ {T : Type 0} (times : Times T) where
+  antichain_filter : (p : T → Bool) (xs : List T) → IsTrue (is_antichain times xs) → IsTrue (is_antichain times (filter p xs))
   antichain_filter p [] a = refl
   antichain_filter p (x ∷ xs) a =
       let parts = and_parts _ _ a in
-      elim (p x) as (λ b. IsTrue (is_antichain below (cond b (x ∷ filter p xs) (filter p xs)))) [
-        | true ↦ and_from _ _ (all_filter (is_incomparable below x) p xs parts.0) (antichain_filter p xs parts.1)
+      elim (p x) as (λ b. IsTrue (is_antichain times (cond b (x ∷ filter p xs) (filter p xs)))) [
+        | true ↦ and_from _ _ (all_filter (is_incomparable times x) p xs parts.0) (antichain_filter p xs parts.1)
         | false ↦ antichain_filter p xs parts.1
       ]
 
-  incomparable_back : (s t : T) → IsTrue (is_incomparable below s t) → IsTrue (is_incomparable below t s)
+  incomparable_back : (s t : T) → IsTrue (is_incomparable times s t) → IsTrue (is_incomparable times t s)
   incomparable_back s t h =
-      let p = and_parts (not (below s t)) (not (below t s)) h in
-      and_from (not (below t s)) (not (below s t)) p.1 p.0
+      let p = and_parts (not (times.below s t)) (not (times.below t s)) h in
+      and_from (not (times.below t s)) (not (times.below s t)) p.1 p.0
 
-  antichain_placed : (cmp : T → T → Ordering) (t : T) (xs : List T) → IsTrue (list_all (is_incomparable below t) xs) → IsTrue (is_antichain below xs) → IsTrue (is_antichain below (insertion cmp t xs))
+  antichain_placed : (cmp : T → T → Ordering) (t : T) (xs : List T) → IsTrue (list_all (is_incomparable times t) xs) → IsTrue (is_antichain times xs) → IsTrue (is_antichain times (insertion cmp t xs))
   antichain_placed cmp t [] h a = refl
   antichain_placed cmp t (x ∷ xs) h a =
       let apart = and_parts _ _ h in
       let parts = and_parts _ _ a in
-      elim (is_lt (cmp t x)) as (λ b. IsTrue (is_antichain below (cond b (t ∷ (x ∷ xs)) (x ∷ insertion cmp t xs)))) [
+      elim (is_lt (cmp t x)) as (λ b. IsTrue (is_antichain times (cond b (t ∷ (x ∷ xs)) (x ∷ insertion cmp t xs)))) [
         | true ↦ and_from _ _ h a
-        | false ↦ and_from _ _ (all_test_placed cmp (is_incomparable below x) t xs (incomparable_back t x apart.0) parts.0) (antichain_placed cmp t xs apart.1 parts.1)
+        | false ↦ and_from _ _ (all_test_placed cmp (is_incomparable times x) t xs (incomparable_back t x apart.0) parts.0) (antichain_placed cmp t xs apart.1 parts.1)
       ]
 
   -- a time that is not beyond the frontier cannot be compared with the elements that it is not at
   -- or before
-  pub apart_from_rest : (t : T) (xs : List T) → is_beyond below xs t ≡ false → IsTrue (list_all (is_incomparable below t) (not_above below t xs))
+  pub apart_from_rest : (t : T) (xs : List T) → is_beyond times xs t ≡ false → IsTrue (list_all (is_incomparable times t) (not_above times t xs))
   apart_from_rest t xs h =
-      all_from (is_incomparable below t) (not_above below t xs)
+      all_from (is_incomparable times t) (not_above times t xs)
       (λ x m.
-      let k = filter_has (λ y. not (below t y)) xs x m in
-      and_from _ _ k.1 (not_from (below x t) (λ b. true≢false (sym (has_beyond below xs x t k.0 b) ∙ h))))
+      let k = filter_has (λ y. not (times.below t y)) xs x m in
+      and_from _ _ k.1 (not_from (times.below x t) (λ b. true≢false (sym (has_beyond times xs x t k.0 b) ∙ h))))
 
-module _ {T : Type 0} {below : T → T → Bool} (order : PartialOrderLaws below) where
+module _ {T : Type 0} {times : Times T} (order : PartialOrderLaws times) where
   -- the elements that an insertion removes are beyond the new time
-  beyond_rest : (t s : T) (xs : List T) → (below t s || is_beyond below (not_above below t xs) s) ≡ (below t s || is_beyond below xs s)
+  beyond_rest : (t s : T) (xs : List T) → (times.below t s || is_beyond times (not_above times t xs) s) ≡ (times.below t s || is_beyond times xs s)
   beyond_rest t s xs =
-      same_test (below t s || is_beyond below (not_above below t xs) s) (below t s || is_beyond below xs s)
-      (λ h. ⊎_elim (λ k. or_left _ _ k) (λ k. or_right (below t s) _ (more k)) (or_cases _ _ h))
+      same_test (times.below t s || is_beyond times (not_above times t xs) s) (times.below t s || is_beyond times xs s)
+      (λ h. ⊎_elim (λ k. or_left _ _ k) (λ k. or_right (times.below t s) _ (more k)) (or_cases _ _ h))
       (λ h. ⊎_elim (λ k. or_left _ _ k) fewer (or_cases _ _ h))
     where
-      more : IsTrue (is_beyond below (not_above below t xs) s) → IsTrue (is_beyond below xs s)
+      more : IsTrue (is_beyond times (not_above times t xs) s) → IsTrue (is_beyond times xs s)
       more k =
-          let r = beyond_has below (not_above below t xs) s k in
-          has_beyond below xs r.0 s (filter_has (λ y. not (below t y)) xs r.0 r.1).0 r.2
+          let r = beyond_has times (not_above times t xs) s k in
+          has_beyond times xs r.0 s (filter_has (λ y. not (times.below t y)) xs r.0 r.1).0 r.2
 
-      fewer : IsTrue (is_beyond below xs s) → IsTrue (below t s || is_beyond below (not_above below t xs) s)
+      fewer : IsTrue (is_beyond times xs s) → IsTrue (times.below t s || is_beyond times (not_above times t xs) s)
       fewer k =
-          let r = beyond_has below xs s k in
-          elim (below t r.0) as (λ b. below t r.0 ≡ b → IsTrue (below t s || is_beyond below (not_above below t xs) s)) [
+          let r = beyond_has times xs s k in
+          elim (times.below t r.0) as (λ b. times.below t r.0 ≡ b → IsTrue (times.below t s || is_beyond times (not_above times t xs) s)) [
             | true ↦ λ e. or_left _ _ (order.transitive _ _ _ e r.2)
-            | false ↦ λ e. or_right (below t s) _ (has_beyond below (not_above below t xs) r.0 s (filter_takes (λ y. not (below t y)) xs r.0 r.1 (ap not e)) r.2)
+            | false ↦ λ e. or_right (times.below t s) _ (has_beyond times (not_above times t xs) r.0 s (filter_takes (λ y. not (times.below t y)) xs r.0 r.1 (ap not e)) r.2)
           ] refl
 
   -- the times beyond the frontier after an insertion
-  pub beyond_inserted : (cmp : T → T → Ordering) (t s : T) (xs : List T) → is_beyond below (insertion cmp t (not_above below t xs)) s ≡ (below t s || is_beyond below xs s)
-  beyond_inserted cmp t s xs = any_placed cmp (λ f. below f s) t (not_above below t xs) ∙ beyond_rest t s xs
+  pub beyond_inserted : (cmp : T → T → Ordering) (t s : T) (xs : List T) → is_beyond times (insertion cmp t (not_above times t xs)) s ≡ (times.below t s || is_beyond times xs s)
+  beyond_inserted cmp t s xs = any_placed cmp (λ f. times.below f s) t (not_above times t xs) ∙ beyond_rest t s xs
 
   -- inserting a time that is beyond the frontier opens no times
-  pub beyond_already : (t s : T) (xs : List T) → is_beyond below xs t ≡ true → is_beyond below xs s ≡ (below t s || is_beyond below xs s)
+  pub beyond_already : (t s : T) (xs : List T) → is_beyond times xs t ≡ true → is_beyond times xs s ≡ (times.below t s || is_beyond times xs s)
   beyond_already t s xs h =
       same_test _ _
-      (λ k. or_right (below t s) _ k)
+      (λ k. or_right (times.below t s) _ k)
       (λ k. ⊎_elim (λ b. beyond_up order xs t s h b) (λ b. b) (or_cases _ _ k))
 
   -- inserting a time that is not beyond a frontier gives a frontier
-  pub frontier_inserted : {cmp : T → T → Ordering} → IsTotalOrder cmp → ExtendsLaws below cmp → (t : T) (xs : List T) → is_beyond below xs t ≡ false → IsFrontier below cmp xs → IsFrontier below cmp (insertion cmp t (not_above below t xs))
+  pub frontier_inserted : {cmp : T → T → Ordering} → IsTotalOrder cmp → ExtendsLaws times cmp → (t : T) (xs : List T) → is_beyond times xs t ≡ false → IsFrontier times cmp xs → IsFrontier times cmp (insertion cmp t (not_above times t xs))
   frontier_inserted {cmp} total extends t xs h f = record {
-    antichain = antichain_placed below cmp t (not_above below t xs) (apart_from_rest below t xs h) (antichain_filter below (λ y. not (below t y)) xs f.antichain);
-    ascending = sorted_placed cmp total t (not_above below t xs)
+    antichain = antichain_placed times cmp t (not_above times t xs) (apart_from_rest times t xs h) (antichain_filter times (λ y. not (times.below t y)) xs f.antichain);
+    ascending = sorted_placed cmp total t (not_above times t xs)
         (λ x m e.
-        let there = (filter_has (λ y. not (below t y)) xs x m).0 in
+        let there = (filter_has (λ y. not (times.below t y)) xs x m).0 in
         let same : t ≡ x = extends.exact t x e in
-        true≢false (sym (has_beyond below xs x t there (ap (below x) same ∙ order.reflexive x)) ∙ h))
-        (sorted_filter cmp (λ y. not (below t y)) xs f.ascending);
+        true≢false (sym (has_beyond times xs x t there (ap (times.below x) same ∙ order.reflexive x)) ∙ h))
+        (sorted_filter cmp (λ y. not (times.below t y)) xs f.ascending);
   }
 
   -- after an insertion the elements are the least of the old elements and the time
-  pub least_inserted : {cmp : T → T → Ordering} → IsTotalOrder cmp → ExtendsLaws below cmp → (t : T) (xs : List T) → is_beyond below xs t ≡ false → IsFrontier below cmp xs → SameElements (insertion cmp t (not_above below t xs)) (least below (t ∷ xs))
+  pub least_inserted : {cmp : T → T → Ordering} → IsTotalOrder cmp → ExtendsLaws times cmp → (t : T) (xs : List T) → is_beyond times xs t ≡ false → IsFrontier times cmp xs → SameElements (insertion cmp t (not_above times t xs)) (least times (t ∷ xs))
   least_inserted {cmp} total extends t xs h f =
-      frontier_least below order (insertion cmp t (not_above below t xs)) (t ∷ xs)
+      frontier_least times order (insertion cmp t (not_above times t xs)) (t ∷ xs)
       (frontier_inserted total extends t xs h f).antichain
       (λ s. beyond_inserted cmp t s xs)
 
   -- a time that is already beyond the frontier changes nothing in the least elements
-  pub least_already : {cmp : T → T → Ordering} (t : T) (xs : List T) → is_beyond below xs t ≡ true → IsFrontier below cmp xs → SameElements xs (least below (t ∷ xs))
-  least_already t xs h f = frontier_least below order xs (t ∷ xs) f.antichain (λ s. beyond_already t s xs h)
+  pub least_already : {cmp : T → T → Ordering} (t : T) (xs : List T) → is_beyond times xs t ≡ true → IsFrontier times cmp xs → SameElements xs (least times (t ∷ xs))
+  least_already t xs h f = frontier_least times order xs (t ∷ xs) f.antichain (λ s. beyond_already t s xs h)
 
   -- for any times there is an antichain that has the same times beyond it
-  antichain_of : (times : List T) → (F : List T) × IsTrue (is_antichain below F) × ((s : T) → is_beyond below F s ≡ is_beyond below times s)
+  antichain_of : (elements : List T) → (F : List T) × IsTrue (is_antichain times F) × ((s : T) → is_beyond times F s ≡ is_beyond times elements s)
   antichain_of [] = ([], refl, λ s. refl)
   antichain_of (t ∷ ts) =
       let r = antichain_of ts in
-      elim (is_beyond below r.0 t) as (λ b. is_beyond below r.0 t ≡ b → (F : List T) × IsTrue (is_antichain below F) × ((s : T) → is_beyond below F s ≡ (below t s || is_beyond below ts s))) [
-        | true ↦ λ e. (r.0, r.1, λ s. beyond_already t s r.0 e ∙ ap (λ b. below t s || b) (r.2 s))
+      elim (is_beyond times r.0 t) as (λ b. is_beyond times r.0 t ≡ b → (F : List T) × IsTrue (is_antichain times F) × ((s : T) → is_beyond times F s ≡ (times.below t s || is_beyond times ts s))) [
+        | true ↦ λ e. (r.0, r.1, λ s. beyond_already t s r.0 e ∙ ap (λ b. times.below t s || b) (r.2 s))
         | false ↦ λ e. (
-          t ∷ not_above below t r.0,
-          and_from _ _ (apart_from_rest below t r.0 e) (antichain_filter below (λ y. not (below t y)) r.0 r.1),
-          λ s. beyond_rest t s r.0 ∙ ap (λ b. below t s || b) (r.2 s),
+          t ∷ not_above times t r.0,
+          and_from _ _ (apart_from_rest times t r.0 e) (antichain_filter times (λ y. not (times.below t y)) r.0 r.1),
+          λ s. beyond_rest t s r.0 ∙ ap (λ b. times.below t s || b) (r.2 s),
         )
       ] refl
 
   -- the least of some times have the same times beyond them as all of them
-  pub least_beyond : (times : List T) (s : T) → is_beyond below (least below times) s ≡ is_beyond below times s
-  least_beyond times s =
-      let r = antichain_of times in
-      let same = frontier_least below order r.0 times r.1 r.2 in
+  pub least_beyond : (elements : List T) (s : T) → is_beyond times (least times elements) s ≡ is_beyond times elements s
+  least_beyond elements s =
+      let r = antichain_of elements in
+      let same = frontier_least times order r.0 elements r.1 r.2 in
       same_test _ _
       (λ h.
-      let l = beyond_has below (least below times) s h in
-      sym (r.2 s) ∙ has_beyond below r.0 l.0 s (among_contains l.0 r.0 (same.back l.0 (contains_among l.0 (least below times) l.1))) l.2)
+      let l = beyond_has times (least times elements) s h in
+      sym (r.2 s) ∙ has_beyond times r.0 l.0 s (among_contains l.0 r.0 (same.back l.0 (contains_among l.0 (least times elements) l.1))) l.2)
       (λ h.
-      let f = beyond_has below r.0 s (r.2 s ∙ h) in
-      has_beyond below (least below times) f.0 s (among_contains f.0 (least below times) (same.into f.0 (contains_among f.0 r.0 f.1))) f.2)
+      let f = beyond_has times r.0 s (r.2 s ∙ h) in
+      has_beyond times (least times elements) f.0 s (among_contains f.0 (least times elements) (same.into f.0 (contains_among f.0 r.0 f.1))) f.2)
 
   -- a step of the loop in `least_of`: one more of the times goes into the frontier
-  pub beyond_step : (F G rest all : List T) (t s : T) → is_beyond below G s ≡ (below t s || is_beyond below F s) → (is_beyond below F s || is_beyond below (t ∷ rest) s) ≡ is_beyond below all s → (is_beyond below G s || is_beyond below rest s) ≡ is_beyond below all s
+  pub beyond_step : (F G rest all : List T) (t s : T) → is_beyond times G s ≡ (times.below t s || is_beyond times F s) → (is_beyond times F s || is_beyond times (t ∷ rest) s) ≡ is_beyond times all s → (is_beyond times G s || is_beyond times rest s) ≡ is_beyond times all s
   beyond_step F G rest all t s e h =
-      ap (λ b. b || is_beyond below rest s) e ∙ or_turn (below t s) (is_beyond below F s) (is_beyond below rest s) ∙ h
+      ap (λ b. b || is_beyond times rest s) e ∙ or_turn (times.below t s) (is_beyond times F s) (is_beyond times rest s) ∙ h
 
   -- a step of the loop in `insert_joins`: one more of the joins with f goes into the frontier
-  pub joins_step : (F G rest : List T) (f g fg s : T) (all : Bool) → below fg s ≡ (below f s && below g s) → is_beyond below G s ≡ (below fg s || is_beyond below F s) → (is_beyond below F s || (below f s && is_beyond below (g ∷ rest) s)) ≡ all → (is_beyond below G s || (below f s && is_beyond below rest s)) ≡ all
+  pub joins_step : (F G rest : List T) (f g fg s : T) (all : Bool) → times.below fg s ≡ (times.below f s && times.below g s) → is_beyond times G s ≡ (times.below fg s || is_beyond times F s) → (is_beyond times F s || (times.below f s && is_beyond times (g ∷ rest) s)) ≡ all → (is_beyond times G s || (times.below f s && is_beyond times rest s)) ≡ all
   joins_step F G rest f g fg s all j e h =
-      ap (λ b. b || (below f s && is_beyond below rest s)) (e ∙ ap (λ b. b || is_beyond below F s) j)
-      ∙ joins_turn (below f s) (below g s) (is_beyond below F s) (is_beyond below rest s) ∙ h
+      ap (λ b. b || (times.below f s && is_beyond times rest s)) (e ∙ ap (λ b. b || is_beyond times F s) j)
+      ∙ joins_turn (times.below f s) (times.below g s) (is_beyond times F s) (is_beyond times rest s) ∙ h
 
   -- a step of the loop in `joined`: the joins of f with all elements of the other antichain have
   -- gone in
-  pub joined_step : (F G rest others : List T) (f s : T) (all : Bool) → is_beyond below G s ≡ (is_beyond below F s || (below f s && is_beyond below others s)) → (is_beyond below F s || (is_beyond below (f ∷ rest) s && is_beyond below others s)) ≡ all → (is_beyond below G s || (is_beyond below rest s && is_beyond below others s)) ≡ all
+  pub joined_step : (F G rest others : List T) (f s : T) (all : Bool) → is_beyond times G s ≡ (is_beyond times F s || (times.below f s && is_beyond times others s)) → (is_beyond times F s || (is_beyond times (f ∷ rest) s && is_beyond times others s)) ≡ all → (is_beyond times G s || (is_beyond times rest s && is_beyond times others s)) ≡ all
   joined_step F G rest others f s all e h =
-      ap (λ b. b || (is_beyond below rest s && is_beyond below others s)) e
-      ∙ joined_turn (below f s) (is_beyond below F s) (is_beyond below rest s) (is_beyond below others s) ∙ h
+      ap (λ b. b || (is_beyond times rest s && is_beyond times others s)) e
+      ∙ joined_turn (times.below f s) (is_beyond times F s) (is_beyond times rest s) (is_beyond times others s) ∙ h

@@ -12,7 +12,7 @@ use lattice::PartialOrder;
 ///
 /// Cost: one comparison for each element.
 pub fn is_beyond<T: PartialOrder>(frontier: &[T], t: &T) -> bool
-    ensures { result ≡ is_beyond T.below frontier.now t.now }
+    ensures { result ≡ is_beyond T.times frontier.now t.now }
 {
     for f in frontier {
         if f.less_equal(t) {
@@ -26,7 +26,7 @@ pub fn is_beyond<T: PartialOrder>(frontier: &[T], t: &T) -> bool
 ///
 /// Cost: one comparison for each pair of elements.
 pub fn all_beyond<T: PartialOrder>(earlier: &[T], later: &[T]) -> bool
-    ensures { result ≡ all_beyond T.below earlier.now later.now }
+    ensures { result ≡ all_beyond T.times earlier.now later.now }
 {
     for t in later {
         if !is_beyond(earlier, t) {

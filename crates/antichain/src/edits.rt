@@ -15,11 +15,11 @@ use smallvec::SmallVec;
 // if there are none of these and there is no room.
 pub(crate) fn insert_new<T: Lattice>(elements: &mut SmallVec<T, 4>, t: T) -> Result<(), NoMemory>
     ensures ok { OnOk result
-        (elements.new.items ≡ insertion T.cmp t (not_above T.below t elements.old.items)) }
+        (elements.new.items ≡ insertion T.cmp t (not_above T.times t elements.old.items)) }
     ensures err { OnErr result (elements.new.items ≡ elements.old.items) }
     ensures full { OnErr result (elements.old.capacity ≤ small_vec_len elements.old) }
     ensures none_above { OnErr result
-        (not_above T.below t elements.old.items ≡ elements.old.items) }
+        (not_above T.times t elements.old.items ≡ elements.old.items) }
     ensures capacity { elements.old.capacity ≤ elements.new.capacity }
 {
     make_way(elements, t)?;
@@ -31,12 +31,12 @@ pub(crate) fn insert_new<T: Lattice>(elements: &mut SmallVec<T, 4>, t: T) -> Res
 // Removes the elements that `t` is at or before. If there are none, makes room for one more
 // element.
 fn make_way<T: Lattice>(elements: &mut SmallVec<T, 4>, t: T) -> Result<(), NoMemory>
-    ensures rest { OnOk result (elements.new.items ≡ not_above T.below t elements.old.items) }
+    ensures rest { OnOk result (elements.new.items ≡ not_above T.times t elements.old.items) }
     ensures room { OnOk result (HasRoomFor elements.new 1) }
     ensures err { OnErr result (elements.new.items ≡ elements.old.items) }
     ensures full { OnErr result (elements.old.capacity ≤ small_vec_len elements.old) }
     ensures none_above { OnErr result
-        (not_above T.below t elements.old.items ≡ elements.old.items) }
+        (not_above T.times t elements.old.items ≡ elements.old.items) }
     ensures capacity { elements.old.capacity ≤ elements.new.capacity }
 {
     let before = elements.len();
@@ -49,7 +49,7 @@ fn make_way<T: Lattice>(elements: &mut SmallVec<T, 4>, t: T) -> Result<(), NoMem
 
 // Removes the elements that `t` is at or before.
 fn remove_above<T: Lattice>(elements: &mut SmallVec<T, 4>, t: T)
-    ensures rest { elements.new.items ≡ not_above T.below t elements.old.items }
+    ensures rest { elements.new.items ≡ not_above T.times t elements.old.items }
     ensures capacity { elements.new.capacity ≡ elements.old.capacity }
 {
     elements.retain(|e| !t.less_equal(e));

@@ -32,7 +32,7 @@ impl<T: Lattice> Model for Antichain<T> {
 
     ghost view = { λ a. a.elements.items };
 
-    ghost invariant = { λ a. IsFrontier T.below T.cmp a.elements.items
+    ghost invariant = { λ a. IsFrontier T.times T.cmp a.elements.items
         × (4 ≤ a.elements.capacity) };
 }
 
@@ -62,9 +62,9 @@ impl<T: Lattice> Antichain<T> {
     /// on the way than in the result, so the cost is linear in the number of times multiplied by
     /// the most elements that are ever held.
     pub fn least_of(alloc: Global, times: &[T]) -> Result<Self, NoMemory>
-        ensures least { IfOk result (λ frontier. SameElements frontier (least T.below times.now)) }
+        ensures least { IfOk result (λ frontier. SameElements frontier (least T.times times.now)) }
         ensures beyond { IfOk result (λ frontier. (s : T)
-            → is_beyond T.below frontier s ≡ is_beyond T.below times.now s) }
+            → is_beyond T.times frontier s ≡ is_beyond T.times times.now s) }
         ensures small { length times.now ≤ 4 → IsOk result }
     {
         let mut frontier = Antichain::new(alloc);
@@ -77,14 +77,14 @@ impl<T: Lattice> Antichain<T> {
     /// The elements, in `Ord` order; no two can be compared. Takes no memory.
     pub fn elements(&self) -> &[T]
         ensures value { result.now ≡ self.now }
-        ensures frontier { IsFrontier T.below T.cmp self.now }
+        ensures frontier { IsFrontier T.times T.cmp self.now }
     {
         self.elements.as_slice()
     }
 
     /// Tells the prover that the elements are a frontier. Costs nothing.
     pub fn known(&self)
-        ensures { IsFrontier T.below T.cmp self.now }
+        ensures { IsFrontier T.times T.cmp self.now }
     {
         let _ = &self.elements;
     }
@@ -108,7 +108,7 @@ impl<T: Lattice> Antichain<T> {
     ///
     /// Cost: one comparison for each element.
     pub fn less_equal(&self, t: &T) -> bool
-        ensures { result ≡ is_beyond T.below self.now t.now }
+        ensures { result ≡ is_beyond T.times self.now t.now }
     {
         is_beyond(self.elements.as_slice(), t)
     }
@@ -118,9 +118,9 @@ impl<T: Lattice> Antichain<T> {
     ///
     /// Cost: one comparison for each pair of elements.
     pub fn is_beyond(&self, other: &Antichain<T>) -> bool
-        ensures value { result ≡ all_beyond T.below other.now self.now }
+        ensures value { result ≡ all_beyond T.times other.now self.now }
         ensures times { IsTrue result ↔ ((t : T)
-            → IsTrue (is_beyond T.below self.now t) → IsTrue (is_beyond T.below other.now t)) }
+            → IsTrue (is_beyond T.times self.now t) → IsTrue (is_beyond T.times other.now t)) }
     {
         all_beyond(other.elements.as_slice(), self.elements.as_slice())
     }
@@ -133,17 +133,17 @@ impl<T: Lattice> Antichain<T> {
     ///
     /// Cost: linear in the number of elements.
     pub fn insert(&mut self, t: T) -> Result<bool, NoMemory>
-        ensures least { OnOk result (SameElements self.new (least T.below (t ∷ self.old))) }
+        ensures least { OnOk result (SameElements self.new (least T.times (t ∷ self.old))) }
         ensures beyond { OnOk result ((s : T)
-            → is_beyond T.below self.new s ≡ (T.below t s || is_beyond T.below self.old s)) }
-        ensures answer { IfOk result (λ inserted. inserted ≡ not (is_beyond T.below self.old t)) }
-        ensures already { IsTrue (is_beyond T.below self.old t) → self.new ≡ self.old }
-        ensures frontier { IsFrontier T.below T.cmp self.new }
+            → is_beyond T.times self.new s ≡ (T.times.below t s || is_beyond T.times self.old s)) }
+        ensures answer { IfOk result (λ inserted. inserted ≡ not (is_beyond T.times self.old t)) }
+        ensures already { IsTrue (is_beyond T.times self.old t) → self.new ≡ self.old }
+        ensures frontier { IsFrontier T.times T.cmp self.new }
         ensures len { OnOk result (length self.new ≤ length self.old + 1) }
 
         ensures err { OnErr result (self.new ≡ self.old) }
         ensures full { OnErr result ((4 ≤ length self.old)
-            × IsTrue (list_all (is_incomparable T.below t) self.old)) }
+            × IsTrue (list_all (is_incomparable T.times t) self.old)) }
     {
         if self.less_equal(&t) {
             return Ok(false);
@@ -161,8 +161,8 @@ impl<T: Lattice> Antichain<T> {
     /// of pairs multiplied by the most elements that are ever held.
     pub fn joined(&self, other: &Antichain<T>) -> Result<Antichain<T>, NoMemory>
         ensures beyond { IfOk result (λ both. (t : T)
-            → is_beyond T.below both t
-            ≡ (is_beyond T.below self.now t && is_beyond T.below other.now t)) }
+            → is_beyond T.times both t
+            ≡ (is_beyond T.times self.now t && is_beyond T.times other.now t)) }
         ensures small { OnErr result (4 < length self.now * length other.now) }
     {
         let mut both = Antichain::new(*self.elements.allocator());
@@ -175,8 +175,8 @@ impl<T: Lattice> Antichain<T> {
 
 // Inserts the joins of one time with each of the others.
 fn insert_joins<T: Lattice>(both: &mut Antichain<T>, f: T, others: &[T]) -> Result<(), NoMemory>
-    ensures beyond { OnOk result ((t : T) → is_beyond T.below both.new t
-        ≡ (is_beyond T.below both.old t || (T.below f t && is_beyond T.below others.now t))) }
+    ensures beyond { OnOk result ((t : T) → is_beyond T.times both.new t
+        ≡ (is_beyond T.times both.old t || (T.times.below f t && is_beyond T.times others.now t))) }
     ensures len { OnOk result (length both.new ≤ length both.old + length others.now) }
     ensures full { OnErr result (4 < length both.old + length others.now) }
 {

@@ -9,18 +9,18 @@ use lattice::Lattice;
 /// A frontier, as a contract sees it, is determined by its elements, and also by the times that are
 /// beyond it.
 pub fn frontiers_are_determined<T: Lattice>()
-    ensures elements { (F G : List T) → IsFrontier T.below T.cmp F → IsFrontier T.below T.cmp G
+    ensures elements { (F G : List T) → IsFrontier T.times T.cmp F → IsFrontier T.times T.cmp G
         → SameElements F G → F ≡ G }
-    ensures beyond { (F G : List T) → IsFrontier T.below T.cmp F → IsFrontier T.below T.cmp G
-        → ((t : T) → is_beyond T.below F t ≡ is_beyond T.below G t) → F ≡ G }
+    ensures beyond { (F G : List T) → IsFrontier T.times T.cmp F → IsFrontier T.times T.cmp G
+        → ((t : T) → is_beyond T.times F t ≡ is_beyond T.times G t) → F ≡ G }
 {}
 
 /// The least of some times stand for all of them: the same times are beyond them. And they are the
 /// only antichain for which this is so.
 pub fn least_elements_stand_for_all<T: Lattice>()
     ensures beyond { (times : List T) (t : T)
-        → is_beyond T.below (least T.below times) t ≡ is_beyond T.below times t }
-    ensures one { (F times : List T) → IsTrue (is_antichain T.below F)
-        → ((t : T) → is_beyond T.below F t ≡ is_beyond T.below times t)
-        → SameElements F (least T.below times) }
+        → is_beyond T.times (least T.times times) t ≡ is_beyond T.times times t }
+    ensures one { (F times : List T) → IsTrue (is_antichain T.times F)
+        → ((t : T) → is_beyond T.times F t ≡ is_beyond T.times times t)
+        → SameElements F (least T.times times) }
 {}

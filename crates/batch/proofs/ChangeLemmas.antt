@@ -1,6 +1,6 @@
 -- The changes of one row: in the order of a batch if their times ascend, and pushed one by one with
 -- the row of the last update.
-use Rattle.std.proofs.Common.{◌≡◌, ◌≢◌, ℕ, suc, ◌+◌, ◌-◌, ◌<◌, Bool, List, [], ◌∷◌, ◌++◌, length, take, drop, get_or, slice_get, Some, ℤ, pos, FitsSigned, w64, refl, sym, ap, subst, ◌∙◌, arith}
+use Rattle.std.proofs.Common.{◌≡◌, ◌≢◌, ℕ, suc, ◌+◌, ◌-◌, ◌<◌, List, [], ◌∷◌, ◌++◌, length, take, drop, get_or, slice_get, Some, ℤ, pos, FitsSigned, w64, refl, sym, ap, subst, ◌∙◌, arith}
 use Rattle.std.specs.List.{All}
 use Rattle.std.specs.Cmp.{IsTotalOrder, tied_itself}
 use Rattle.std.specs.Cmp.Lexicographic.{slice_cmp}
@@ -12,6 +12,7 @@ use Rattle.std.proofs.lemmas.List.{get_or-map, length-map, map_more, append_asso
 use Rattle.std.proofs.lemmas.Grind.{get_or_after_one}
 use Rattle.std.proofs.lemmas.Option.{slice_get_read}
 use Rattle.std.proofs.Math.Seq.{take-length, get_or-append_seam}
+use Rattle.lattice.specs.Times.{Times}
 use Rattle.lattice.specs.Order.{PartialOrderLaws}
 use Rattle.update.specs.declared.change.Update.{Update}
 use Rattle.update.specs.Updates.{HasLargeTotal}
@@ -51,14 +52,14 @@ module _ {T : Type 0} (cmp : T → T → Ordering) where
       ∙ ap (λ o. ordering_then o (cmp (get_or cs k e).time (get_or cs (suc k) e).time)) (row_ties row)
       ∙ behind k e within
 
-module _ {T : Type 0} {below : T → T → Bool} {cmp : T → T → Ordering} (o : PartialOrderLaws below) (total : IsTotalOrder cmp) where
+module _ {T : Type 0} {times : Times T} {cmp : T → T → Ordering} (o : PartialOrderLaws times) (total : IsTotalOrder cmp) where
   -- changes that were looked at from place to place are sealed, whatever their row
   pub settled_is_sealed : (row : List ℤ) (cs : List (Change T)) → All (λ c. c.diff ≢ pos 0) cs → ((k : ℕ) (d : Change T) → suc k < length cs → cmp (get_or cs k d).time (get_or cs (suc k) d).time ≡ Less) → IsSealed cmp (with_row row cs)
   settled_is_sealed row cs nonzero behind =
       sealed_by_steps o total (with_row row cs) (diff_of_each (λ z. z ≢ pos 0) row cs nonzero) (in_row cmp row cs behind)
 
   -- and no total is too large
-  pub settled_fits : (row : List ℤ) (cs : List (Change T)) → All (λ c. FitsSigned w64 c.diff) cs → ((k : ℕ) (d : Change T) → suc k < length cs → cmp (get_or cs k d).time (get_or cs (suc k) d).time ≡ Less) → HasLargeTotal below (with_row row cs) → ⊥
+  pub settled_fits : (row : List ℤ) (cs : List (Change T)) → All (λ c. FitsSigned w64 c.diff) cs → ((k : ℕ) (d : Change T) → suc k < length cs → cmp (get_or cs k d).time (get_or cs (suc k) d).time ≡ Less) → HasLargeTotal times (with_row row cs) → ⊥
   settled_fits row cs fits behind =
       sealed_fits_by_steps o total (with_row row cs) (diff_of_each (FitsSigned w64) row cs fits) (in_row cmp row cs behind)
 

@@ -9,7 +9,7 @@ pub mod TieLemmas
 pub mod SealedLemmas
 pub mod TimesLemmas
 pub mod CompactionLemmas
-pub mod MergingLemmas
+pub mod MergeLemmas
 pub mod ChangeLemmas
 pub mod HandLemmas
 pub mod UnderwayLemmas

@@ -1,12 +1,13 @@
 -- When a list is sealed as it stands: each update comes after the one before it, and each has a
 -- difference. Then each total is a difference, so none is too large.
-use Rattle.std.proofs.Common.{◌≡◌, ◌≢◌, ℕ, suc, ◌<◌, Bool, true, false, cond, ◌&&◌, List, [], ◌∷◌, length, get_or, ℤ, pos, ◌+ℤ◌, FitsSigned, w64, refl, sym, subst, ◌∙◌, arith, rules}
+use Rattle.std.proofs.Common.{◌≡◌, ◌≢◌, ℕ, suc, ◌<◌, true, false, cond, ◌&&◌, List, [], ◌∷◌, length, get_or, ℤ, pos, ◌+ℤ◌, FitsSigned, w64, refl, sym, subst, ◌∙◌, arith, rules}
 use Rattle.std.specs.List.{All, AllByRecursion}
 use Rattle.std.specs.List.Sorted.{IsStrictlySortedBy}
 use Rattle.std.specs.Cmp.{IsTotalOrder}
 use Rattle.std.specs.declared.cmp.Ordering.{Ordering}
 use Rattle.std.specs.declared.cmp.Ordering.TheVariants.{Less}
 use Rattle.std.proofs.Math.IntN.{+ℤ_idr, +ℤ_idl}
+use Rattle.lattice.specs.Times.{Times}
 use Rattle.lattice.specs.Order.{PartialOrderLaws}
 use Rattle.update.specs.declared.change.Update.{Update}
 use Rattle.update.specs.Bags.{same_row}
@@ -36,27 +37,27 @@ module _ {X : Type 0} {cmp : X → X → Ordering} (total : IsTotalOrder cmp) wh
       let rest = sorted_by_steps (y ∷ xs) (λ k d l. h (suc k) d (omega (arith, l))) in
       ((first, behind_all x y first xs rest.0), rest)
 
-module _ {T : Type 0} {below : T → T → Bool} {cmp : T → T → Ordering} (o : PartialOrderLaws below) (total : IsTotalOrder cmp) where
+module _ {T : Type 0} {times : Times T} {cmp : T → T → Ordering} (o : PartialOrderLaws times) (total : IsTotalOrder cmp) where
   -- each total is a difference or 0
-  total_fits : (row : List ℤ) (t : T) (us : List (Update T)) → IsStrictlySortedBy (by_row_then_time cmp) us → AllByRecursion (λ u. FitsSigned w64 u.diff) us → FitsSigned w64 (total_at below row t us)
+  total_fits : (row : List ℤ) (t : T) (us : List (Update T)) → IsStrictlySortedBy (by_row_then_time cmp) us → AllByRecursion (λ u. FitsSigned w64 u.diff) us → FitsSigned w64 (total_at times row t us)
   unfolding IsStrictlySortedBy
   total_fits row t [] s f = search rules
   total_fits row t (x ∷ us) s f =
       let y : Update T = record { time = t; row = row; diff = x.diff } in
-      elim (same_row x.row row && (below x.time t && below t x.time)) as (λ b. same_row x.row row && (below x.time t && below t x.time) ≡ b → FitsSigned w64 (total_at below row t (x ∷ us))) [
+      elim (same_row x.row row && (times.below x.time t && times.below t x.time)) as (λ b. same_row x.row row && (times.below x.time t && times.below t x.time) ≡ b → FitsSigned w64 (total_at times row t (x ∷ us))) [
         | true ↦ λ e.
-            let none : total_at below row t us ≡ pos 0 =
-            subst (λ r. total_at below r t us ≡ pos 0) (meets_row o y x e)
-            (subst (λ z. total_at below x.row z us ≡ pos 0) (meets_time o y x e) (none_after o total x us s.0)) in
-            let whole : total_at below row t (x ∷ us) ≡ x.diff = (λ i. cond (e i) x.diff (pos 0) +ℤ none i) ∙ +ℤ_idr x.diff in
+            let none : total_at times row t us ≡ pos 0 =
+            subst (λ r. total_at times r t us ≡ pos 0) (meets_row o y x e)
+            (subst (λ z. total_at times x.row z us ≡ pos 0) (meets_time o y x e) (none_after o total x us s.0)) in
+            let whole : total_at times row t (x ∷ us) ≡ x.diff = (λ i. cond (e i) x.diff (pos 0) +ℤ none i) ∙ +ℤ_idr x.diff in
             subst (FitsSigned w64) (sym whole) f.0
         | false ↦ λ e.
-            let whole : total_at below row t (x ∷ us) ≡ total_at below row t us = (λ i. cond (e i) x.diff (pos 0) +ℤ total_at below row t us) ∙ +ℤ_idl (total_at below row t us) in
+            let whole : total_at times row t (x ∷ us) ≡ total_at times row t us = (λ i. cond (e i) x.diff (pos 0) +ℤ total_at times row t us) ∙ +ℤ_idl (total_at times row t us) in
             subst (FitsSigned w64) (sym whole) (total_fits row t us s.1 f.1)
       ] refl
 
   -- so none is too large
-  pub sealed_fits : (us : List (Update T)) → IsStrictlySortedBy (by_row_then_time cmp) us → AllByRecursion (λ u. FitsSigned w64 u.diff) us → HasLargeTotal below us → ⊥
+  pub sealed_fits : (us : List (Update T)) → IsStrictlySortedBy (by_row_then_time cmp) us → AllByRecursion (λ u. FitsSigned w64 u.diff) us → HasLargeTotal times us → ⊥
   sealed_fits us s f large = large.2 (total_fits large.0 large.1 us s f)
 
   -- a list that was looked at from place to place is sealed
@@ -66,5 +67,5 @@ module _ {T : Type 0} {below : T → T → Bool} {cmp : T → T → Ordering} (o
     nonzero = each_by_place (λ u. u.diff ≢ pos 0) us nonzero;
   }
 
-  pub sealed_fits_by_steps : (us : List (Update T)) → All (λ u. FitsSigned w64 u.diff) us → ((k : ℕ) (d : Update T) → suc k < length us → by_row_then_time cmp (get_or us k d) (get_or us (suc k) d) ≡ Less) → HasLargeTotal below us → ⊥
+  pub sealed_fits_by_steps : (us : List (Update T)) → All (λ u. FitsSigned w64 u.diff) us → ((k : ℕ) (d : Update T) → suc k < length us → by_row_then_time cmp (get_or us k d) (get_or us (suc k) d) ≡ Less) → HasLargeTotal times us → ⊥
   sealed_fits_by_steps us fits behind = sealed_fits us (sorted_by_steps (by_row_total total) us behind) (each_by_place (λ u. FitsSigned w64 u.diff) us fits)

@@ -1,6 +1,7 @@
 -- Descriptions of batches, and what contracts see of a description, a batch and a builder.
-use Rattle.std.specs.Prelude.{◌≡◌, ℕ, Bool, List, [], IsTrue}
+use Rattle.std.specs.Prelude.{◌≡◌, ℕ, List, [], IsTrue}
 use Rattle.std.specs.declared.cmp.Ordering.{Ordering}
+use Rattle.lattice.specs.Times.{Times}
 use Rattle.lattice.specs.Frontiers.{all_beyond}
 use Rattle.antichain.specs.Antichains.{IsFrontier}
 use Rattle.update.specs.declared.change.Update.{Update}
@@ -30,12 +31,12 @@ pub record BuilderState (T : Type 0) : Type 0 where
   pub updates : List (Update T)
 
 -- three frontiers, of which the upper is beyond the lower
-pub record IsInterval {T : Type 0} (below : T → T → Bool) (cmp : T → T → Ordering)
+pub record IsInterval {T : Type 0} (times : Times T) (cmp : T → T → Ordering)
     (lower upper since : List T) : Type 0 where
-  pub lower_frontier : IsFrontier below cmp lower
-  pub upper_frontier : IsFrontier below cmp upper
-  pub since_frontier : IsFrontier below cmp since
-  pub forward : IsTrue (all_beyond below lower upper)
+  pub lower_frontier : IsFrontier times cmp lower
+  pub upper_frontier : IsFrontier times cmp upper
+  pub since_frontier : IsFrontier times cmp since
+  pub forward : IsTrue (all_beyond times lower upper)
 
 -- b begins where a ends, and has the same worker and node
 abbrev pub Follows : {T : Type 0} → DescriptionState T → DescriptionState T → Type 0

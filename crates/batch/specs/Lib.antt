@@ -6,4 +6,4 @@ pub mod Compaction
 pub mod Changes
 pub mod Descriptions
 pub mod Intervals
-pub mod Merging
+pub mod Merges

@@ -48,7 +48,7 @@ impl<T: Lattice> Model for Batch<T> {
     ghost invariant = { λ b. IsSealed T.cmp b.columns
         × IsEmptyIfStill (record { description = b.description; updates = b.columns })
         × IsTrue
-        (are_compacted T.joined T.met b.description.since T.below b.columns) };
+        (are_compacted T.times b.description.since b.columns) };
 }
 
 impl<T: Lattice> Batch<T> {
@@ -57,7 +57,7 @@ impl<T: Lattice> Batch<T> {
         requires sealed { IsSealed T.cmp columns }
         requires still { IsEmptyIfStill (record { description = description; updates = columns }) }
         requires compacted { IsTrue
-            (are_compacted T.joined T.met description.since T.below columns) }
+            (are_compacted T.times description.since columns) }
         ensures { result ≡ record { description = description; updates = columns } }
     {
         Batch {
@@ -99,7 +99,7 @@ impl<T: Lattice> Batch<T> {
 
     /// Tells the prover that each time is its own representative as of the since. Costs nothing.
     pub fn known(&self)
-        ensures { IsTrue (are_compacted T.joined T.met self.now.description.since T.below
+        ensures { IsTrue (are_compacted T.times self.now.description.since
             self.now.updates) }
     {
         // (a function knows the invariant if it uses a field)

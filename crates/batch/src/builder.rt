@@ -6,6 +6,7 @@
 //! builder as it was.
 ghost use Rattle.std.specs.Prelude.{◌≡◌, ◌≤◌, ◌↔◌, ◌⊎◌, ◌∷◌, ◌++◌, [], List, ℤ, Bool, Err, IfOk, IfErr, OnOk, OnErr, IsTrue, ◌&&◌};
 ghost use Rattle.std.specs.List.{list_all};
+ghost use Rattle.update.specs.Refusals.{OnlyMemory};
 ghost use Rattle.lattice.specs.Frontiers.{all_beyond};
 ghost use Rattle.update.specs.Bags.{Alike};
 ghost use Rattle.update.specs.Updates.{as_of, total_where, HasLargeTotal, size};
@@ -69,7 +70,7 @@ impl<T: Lattice> Builder<T> {
         ensures ok { OnOk result
             (self.new ≡ record self.old { updates = self.old.updates ++ update ∷ [] }) }
         ensures err { OnErr result (self.new ≡ self.old) }
-        ensures only { IfErr result (λ refused. refused ≡ Refusal.OutOfMemory) }
+        ensures only { OnlyMemory result }
     {
         self.updates.push(update)?;
         Ok(())
@@ -91,32 +92,32 @@ impl<T: Minimum> Builder<T> {
     ///   the batch was refused.
     ///
     /// Cost: n log n comparisons in the number of updates, for one sort in place, one comparison of
-    /// each update with each element of the frontiers, and a count of the rows and a copy of what is
-    /// left.
+    /// each update with each element of the frontiers, and a count of the rows and a copy of what
+    /// is left.
     pub fn seal(self, lower: &Antichain<T>, upper: &Antichain<T>) -> Result<Batch<T>, Refusal>
         ensures described { IfOk result (λ batch. batch.description ≡ record {
           worker = self.worker;
           node = self.node;
           lower = lower.now;
           upper = upper.now;
-          since = T.least ∷ [];
+          since = T.times.least ∷ [];
         }) }
         ensures sealed { IfOk result (λ batch. IsSealed T.cmp batch.updates) }
         ensures between { IfOk result
-            (λ batch. IsTrue (all_between T.below lower.now upper.now batch.updates)) }
+            (λ batch. IsTrue (all_between T.times lower.now upper.now batch.updates)) }
         ensures totals { IfOk result (λ batch. (p : List ℤ → T → Bool)
             → total_where p batch.updates ≡ total_where p self.updates) }
         ensures sums { IfOk result (λ batch. (t : T)
-            → Alike (as_of T.below t batch.updates) (as_of T.below t self.updates)) }
+            → Alike (as_of T.times t batch.updates) (as_of T.times t self.updates)) }
         ensures among { IfOk result (λ batch. (p : List ℤ → T → Bool)
             → IsTrue (list_all (λ u. p u.row u.time) self.updates)
             → IsTrue (list_all (λ u. p u.row u.time) batch.updates)) }
         ensures size { IfOk result (λ batch. size batch.updates ≤ size self.updates) }
         ensures stray { (result ≡ Err Refusal.Stray)
-            ↔ (IsTrue (is_interval_of T.below lower.now upper.now self.updates) → ⊥) }
+            ↔ (IsTrue (is_interval_of T.times lower.now upper.now self.updates) → ⊥) }
         ensures overflow { (result ≡ Err Refusal.Overflow)
-            ↔ (IsTrue (is_interval_of T.below lower.now upper.now self.updates)
-            × HasLargeTotal T.below self.updates) }
+            ↔ (IsTrue (is_interval_of T.times lower.now upper.now self.updates)
+            × HasLargeTotal T.times self.updates) }
         ensures only { IfErr result (λ refused. (refused ≡ Refusal.OutOfMemory)
             ⊎ ((refused ≡ Refusal.Stray) ⊎ (refused ≡ Refusal.Overflow))) }
     {
@@ -162,32 +163,32 @@ impl<T: Minimum> Builder<T> {
           node = self.old.node;
           lower = lower.now;
           upper = upper.now;
-          since = T.least ∷ [];
+          since = T.times.least ∷ [];
         }) }
         ensures sealed { IfOk result (λ batch. IsSealed T.cmp batch.updates) }
         ensures between { IfOk result
-            (λ batch. IsTrue (all_between T.below lower.now upper.now batch.updates)) }
+            (λ batch. IsTrue (all_between T.times lower.now upper.now batch.updates)) }
         ensures totals { IfOk result (λ batch. (p : List ℤ → T → Bool)
             → total_where p batch.updates
-            ≡ total_where p (passed_updates T.below upper.now self.old.updates)) }
-        ensures sums { IfOk result (λ batch. (t : T) → Alike (as_of T.below t batch.updates)
-            (as_of T.below t (passed_updates T.below upper.now self.old.updates))) }
+            ≡ total_where p (passed_updates T.times upper.now self.old.updates)) }
+        ensures sums { IfOk result (λ batch. (t : T) → Alike (as_of T.times t batch.updates)
+            (as_of T.times t (passed_updates T.times upper.now self.old.updates))) }
         ensures among { IfOk result (λ batch. (p : List ℤ → T → Bool)
             → IsTrue (list_all (λ u. p u.row u.time)
-            (passed_updates T.below upper.now self.old.updates))
+            (passed_updates T.times upper.now self.old.updates))
             → IsTrue (list_all (λ u. p u.row u.time) batch.updates)) }
         ensures size { IfOk result (λ batch.
-            size batch.updates ≤ size (passed_updates T.below upper.now self.old.updates)) }
+            size batch.updates ≤ size (passed_updates T.times upper.now self.old.updates)) }
         ensures rest { OnOk result (self.new
-            ≡ record self.old { updates = open_updates T.below upper.now self.old.updates }) }
+            ≡ record self.old { updates = open_updates T.times upper.now self.old.updates }) }
         ensures unchanged { OnErr result (self.new ≡ self.old) }
         ensures fits { OnOk result
-            (HasLargeTotal T.below (passed_updates T.below upper.now self.old.updates) → ⊥) }
+            (HasLargeTotal T.times (passed_updates T.times upper.now self.old.updates) → ⊥) }
         ensures stray { (result ≡ Err Refusal.Stray)
-            ↔ (IsTrue (is_interval_of T.below lower.now upper.now
-            (passed_updates T.below upper.now self.old.updates)) → ⊥) }
+            ↔ (IsTrue (is_interval_of T.times lower.now upper.now
+            (passed_updates T.times upper.now self.old.updates)) → ⊥) }
         ensures overflow { result ≡ Err Refusal.Overflow
-            → HasLargeTotal T.below (passed_updates T.below upper.now self.old.updates) }
+            → HasLargeTotal T.times (passed_updates T.times upper.now self.old.updates) }
         ensures only { IfErr result (λ refused. (refused ≡ Refusal.OutOfMemory)
             ⊎ ((refused ≡ Refusal.Stray) ⊎ (refused ≡ Refusal.Overflow))) }
     {
@@ -210,15 +211,15 @@ pub(crate) fn unmoved<T: Minimum>(
     lower: &Antichain<T>,
     upper: &Antichain<T>,
 ) -> Result<Description<T>, Refusal>
-    requires { IsTrue (all_beyond T.below lower.now upper.now) }
+    requires { IsTrue (all_beyond T.times lower.now upper.now) }
     ensures made { IfOk result (λ made. made ≡ record {
       worker = worker;
       node = node;
       lower = lower.now;
       upper = upper.now;
-      since = T.least ∷ [];
+      since = T.times.least ∷ [];
     }) }
-    ensures only { IfErr result (λ refused. refused ≡ Refusal.OutOfMemory) }
+    ensures only { OnlyMemory result }
 {
     let since = Antichain::from_elem(alloc, T::minimum());
     Description::new(
@@ -237,14 +238,14 @@ fn is_interval<T: Lattice>(
     lower: &Antichain<T>,
     upper: &Antichain<T>,
 ) -> bool
-    ensures { result ≡ is_interval_of T.below lower.now upper.now updates.now }
+    ensures { result ≡ is_interval_of T.times lower.now upper.now updates.now }
 {
     upper.is_beyond(lower) && are_between(updates, lower.elements(), upper.elements())
 }
 
 // Whether each update's time is beyond the lower frontier and passed by the upper one.
 fn are_between<T: Lattice>(updates: &[Update<T>], lower: &[T], upper: &[T]) -> bool
-    ensures { result ≡ all_between T.below lower.now upper.now updates.now }
+    ensures { result ≡ all_between T.times lower.now upper.now updates.now }
 {
     for update in updates {
         if !is_beyond(lower, &update.time) || is_beyond(upper, &update.time) {

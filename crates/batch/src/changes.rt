@@ -4,9 +4,10 @@
 //!
 //! Where no time moved they come sealed, and go into the columns as they are. Otherwise they become
 //! plain updates, which are sorted and added up.
-ghost use Rattle.std.specs.Prelude.{◌≡◌, ◌≢◌, ◌<◌, ◌-◌, ◌++◌, List, ℤ, pos, length, slice_index_or, FitsSigned, IfErr, IfOk, OnOk, IsTrue};
+ghost use Rattle.std.specs.Prelude.{◌≡◌, ◌≢◌, ◌<◌, ◌-◌, ◌++◌, List, ℤ, pos, length, slice_index_or, FitsSigned, IfOk, OnOk, IsTrue};
 ghost use Rattle.std.specs.Int.{w64};
 ghost use Rattle.std.specs.declared.cmp.Ordering.TheVariants.{Less};
+ghost use Rattle.update.specs.Refusals.{OnlyMemory};
 ghost use Rattle.update.specs.Updates.{HasLargeTotal};
 ghost use Rattle.update.specs.declared.refusal.Refusal.{Refusal};
 ghost use Rattle.batch.specs.declared.changes.Change.{Change};
@@ -42,13 +43,13 @@ fn is_settled<T: Lattice>(changes: &[Change<T>], i: usize) -> bool
     i == 0 || changes[i - 1].time.cmp(&changes[i].time).is_lt()
 }
 
-// Whether the updates of a row are sealed as they stand. In 64 bits each difference fits, so then no
-// total is too large.
+// Whether the updates of a row are sealed as they stand. In 64 bits each difference fits, so then
+// no total is too large.
 pub(crate) fn are_settled<T: Lattice>(changes: &[Change<T>]) -> bool
     ensures sealed { IsTrue result
         → (row : List ℤ) → IsSealed T.cmp (with_row row changes.now) }
     ensures fits { IsTrue result
-        → (row : List ℤ) → HasLargeTotal T.below (with_row row changes.now) → ⊥ }
+        → (row : List ℤ) → HasLargeTotal T.times (with_row row changes.now) → ⊥ }
 {
     for i in 0..changes.len() {
         if !is_settled(changes, i) {
@@ -65,7 +66,7 @@ pub(crate) fn spread<T: Lattice>(
     changes: &[Change<T>],
 ) -> Result<Vec<Update<T>>, Refusal>
     ensures made { IfOk result (λ made. made.items ≡ with_row row.now changes.now) }
-    ensures only { IfErr result (λ refused. refused ≡ Refusal.OutOfMemory) }
+    ensures only { OnlyMemory result }
 {
     let mut updates = Vec::with_capacity(alloc, changes.len())?;
     for change in changes {
@@ -86,7 +87,7 @@ pub(crate) fn push_run<T: Lattice>(
     changes: &[Change<T>],
 ) -> Result<(), Refusal>
     ensures more { OnOk result (columns.new ≡ columns.old ++ with_row row.now changes.now) }
-    ensures only { IfErr result (λ refused. refused ≡ Refusal.OutOfMemory) }
+    ensures only { OnlyMemory result }
 {
     let [first, rest @ ..] = changes else {
         return Ok(());

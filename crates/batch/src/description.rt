@@ -6,6 +6,7 @@
 //! depend on the type of times. The invariant: the three are antichains in `Ord` order, and the
 //! upper one is beyond the lower one, so no interval goes backwards.
 ghost use Rattle.std.specs.Prelude.{◌≡◌, ◌↔◌, ◌⊎◌, Err, IfOk, IfErr, OnOk, IsTrue};
+ghost use Rattle.update.specs.Refusals.{OnlyMemory};
 ghost use Rattle.lattice.specs.Frontiers.{all_beyond};
 ghost use Rattle.antichain.specs.Antichains.{IsFrontier};
 ghost use Rattle.batch.specs.Descriptions.{IsInterval, Follows};
@@ -40,7 +41,7 @@ impl<T: Lattice> Model for Description<T> {
       since = d.since.items;
     } };
 
-    ghost invariant = { λ d. IsInterval T.below T.cmp d.lower.items d.upper.items d.since.items };
+    ghost invariant = { λ d. IsInterval T.times T.cmp d.lower.items d.upper.items d.since.items };
 }
 
 impl<T: Lattice> Description<T> {
@@ -53,7 +54,7 @@ impl<T: Lattice> Description<T> {
         upper: &[T],
         since: &[T],
     ) -> Result<Description<T>, Refusal>
-        requires { IsInterval T.below T.cmp lower.now upper.now since.now }
+        requires { IsInterval T.times T.cmp lower.now upper.now since.now }
         ensures made { IfOk result (λ made. made
             ≡ record {
               worker = worker;
@@ -62,7 +63,7 @@ impl<T: Lattice> Description<T> {
               upper = upper.now;
               since = since.now;
             }) }
-        ensures only { IfErr result (λ refused. refused ≡ Refusal.OutOfMemory) }
+        ensures only { OnlyMemory result }
     {
         Ok(Description {
             worker,
@@ -82,7 +83,7 @@ impl<T: Lattice> Description<T> {
         next: &Description<T>,
         since: &[T],
     ) -> Result<Description<T>, Refusal>
-        requires { IsFrontier T.below T.cmp since.now }
+        requires { IsFrontier T.times T.cmp since.now }
         ensures made { IfOk result (λ made. made ≡ record {
           worker = self.now.worker;
           node = self.now.node;
@@ -90,9 +91,9 @@ impl<T: Lattice> Description<T> {
           upper = next.now.upper;
           since = since.now;
         }) }
-        ensures forward { OnOk result (IsTrue (all_beyond T.below self.now.lower self.now.upper)) }
+        ensures forward { OnOk result (IsTrue (all_beyond T.times self.now.lower self.now.upper)) }
         ensures next_forward { OnOk result
-            (IsTrue (all_beyond T.below next.now.lower next.now.upper)) }
+            (IsTrue (all_beyond T.times next.now.lower next.now.upper)) }
         ensures follows { OnOk result (Follows self.now next.now) }
         ensures still { OnOk result (self.now.lower ≡ next.now.upper
             → (self.now.lower ≡ self.now.upper) × (next.now.lower ≡ next.now.upper)) }
@@ -112,9 +113,9 @@ impl<T: Lattice> Description<T> {
 
     // The same interval as of another frontier. Refused only if memory is refused.
     pub(crate) fn as_of(&self, alloc: Global, since: &[T]) -> Result<Description<T>, Refusal>
-        requires { IsFrontier T.below T.cmp since.now }
+        requires { IsFrontier T.times T.cmp since.now }
         ensures made { IfOk result (λ made. made ≡ record self.now { since = since.now }) }
-        ensures only { IfErr result (λ refused. refused ≡ Refusal.OutOfMemory) }
+        ensures only { OnlyMemory result }
     {
         let (worker, node) = self.names();
         Description::new(alloc, worker, node, self.lower(), self.upper(), since)
@@ -160,8 +161,8 @@ impl<T: Lattice> Description<T> {
     /// The lower frontier: the times of the updates are beyond it. Takes no memory.
     pub fn lower(&self) -> &[T]
         ensures value { result.now ≡ self.now.lower }
-        ensures frontier { IsFrontier T.below T.cmp self.now.lower }
-        ensures forward { IsTrue (all_beyond T.below self.now.lower self.now.upper) }
+        ensures frontier { IsFrontier T.times T.cmp self.now.lower }
+        ensures forward { IsTrue (all_beyond T.times self.now.lower self.now.upper) }
     {
         self.lower.as_slice()
     }
@@ -170,8 +171,8 @@ impl<T: Lattice> Description<T> {
     /// frontier. Takes no memory.
     pub fn upper(&self) -> &[T]
         ensures value { result.now ≡ self.now.upper }
-        ensures frontier { IsFrontier T.below T.cmp self.now.upper }
-        ensures forward { IsTrue (all_beyond T.below self.now.lower self.now.upper) }
+        ensures frontier { IsFrontier T.times T.cmp self.now.upper }
+        ensures forward { IsTrue (all_beyond T.times self.now.lower self.now.upper) }
     {
         self.upper.as_slice()
     }
@@ -180,7 +181,7 @@ impl<T: Lattice> Description<T> {
     /// Takes no memory.
     pub fn since(&self) -> &[T]
         ensures value { result.now ≡ self.now.since }
-        ensures frontier { IsFrontier T.below T.cmp self.now.since }
+        ensures frontier { IsFrontier T.times T.cmp self.now.since }
     {
         self.since.as_slice()
     }

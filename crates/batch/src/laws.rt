@@ -16,19 +16,19 @@ use lattice::Lattice;
 /// at every time. So the totals that a seal or a merge preserves say which list it gives.
 pub fn sealed_lists_are_determined<T: Lattice>()
     ensures totals { (us vs : List (Update T)) → IsSealed T.cmp us → IsSealed T.cmp vs
-        → ((row : List ℤ) (t : T) → total_at T.below row t us ≡ total_at T.below row t vs)
+        → ((row : List ℤ) (t : T) → total_at T.times row t us ≡ total_at T.times row t vs)
         → us ≡ vs }
     ensures sums { (us vs : List (Update T)) → IsSealed T.cmp us → IsSealed T.cmp vs
-        → ((t : T) → Alike (as_of T.below t us) (as_of T.below t vs)) → us ≡ vs }
+        → ((t : T) → Alike (as_of T.times t us) (as_of T.times t vs)) → us ≡ vs }
 {}
 
 /// As of a frontier that is not empty, no two updates of one row are left in a compacted batch that
 /// a read beyond the frontier cannot tell apart. Every batch is compacted as of its own since.
 pub fn compacted_rows_are_apart<T: Lattice>()
     ensures { (F : List T) (us : List (Update T)) (u v : Update T) → F ≢ []
-        → IsSealed T.cmp us → IsTrue (are_compacted T.joined T.met F T.below us)
+        → IsSealed T.cmp us → IsTrue (are_compacted T.times F us)
         → Contains us u → Contains us v → u.row ≡ v.row
-        → Indistinguishable T.below F u.time v.time → u ≡ v }
+        → Indistinguishable T.times F u.time v.time → u ≡ v }
 {}
 
 /// What `seek` and then `seek_past` find from a place on are exactly the rows of the key that are

@@ -1,13 +1,14 @@
 //! A batch of a list that stays with its owner, such as a bundle that may have to be taken again.
 //!
-//! What an arrangement gives was sealed there, so it has a batch's order already. One pass sees that.
-//! Its columns are then copied as they stand: nothing is sorted, and no second list is made. A short
-//! list comes one by one, and is written column by column. Any other list is copied, and the copy is
-//! sealed as a builder does it.
+//! What an arrangement gives was sealed there, so it has a batch's order already. One pass sees
+//! that. Its columns are then copied as they stand: nothing is sorted, and no second list is made.
+//! A short list comes one by one, and is written column by column. Any other list is copied, and
+//! the copy is sealed as a builder does it.
 ghost use Rattle.std.specs.Prelude.{◌≡◌, ◌≢◌, ◌≤◌, ◌<◌, ◌-◌, ◌↔◌, ◌⊎◌, ◌∷◌, [], List, ℤ, Bool, Err, pos, length, slice_index_or, FitsSigned, IfOk, IfErr, OnOk, IsTrue};
 ghost use Rattle.std.specs.Int.{w64};
 ghost use Rattle.std.specs.List.{list_all};
 ghost use Rattle.std.specs.declared.cmp.Ordering.TheVariants.{Less};
+ghost use Rattle.update.specs.Refusals.{OnlyMemory};
 ghost use Rattle.update.specs.Bags.{Alike};
 ghost use Rattle.update.specs.Updates.{as_of, total_where, HasLargeTotal, size};
 ghost use Rattle.update.specs.declared.refusal.Refusal.{Refusal};
@@ -45,11 +46,11 @@ fn is_in_place<T: Lattice>(updates: &[Update<T>], i: usize) -> bool
     rows.then(updates[i - 1].time.cmp(&updates[i].time)).is_lt()
 }
 
-// Whether updates are sealed as they stand. In 64 bits each difference fits, so then no total is too
-// large.
+// Whether updates are sealed as they stand. In 64 bits each difference fits, so then no total is
+// too large.
 fn are_sealed<T: Lattice>(updates: &[Update<T>]) -> bool
     ensures sealed { IsTrue result → IsSealed T.cmp updates.now }
-    ensures fits { IsTrue result → HasLargeTotal T.below updates.now → ⊥ }
+    ensures fits { IsTrue result → HasLargeTotal T.times updates.now → ⊥ }
 {
     for i in 0..updates.len() {
         if !is_in_place(updates, i) {
@@ -59,8 +60,8 @@ fn are_sealed<T: Lattice>(updates: &[Update<T>]) -> bool
     true
 }
 
-// Whether the update at a place of columns has a difference and comes after the one before it. `run`
-// is the number of a run: that of the one before it makes this cheap.
+// Whether the update at a place of columns has a difference and comes after the one before it.
+// `run` is the number of a run: that of the one before it makes this cheap.
 fn is_packed_in_place<T: Lattice>(columns: &Columns<T>, i: usize, run: usize) -> bool
     requires { i < length columns.now }
     ensures fits { (d : Update T) → FitsSigned w64 (slice_index_or columns.now i d).diff }
@@ -84,7 +85,7 @@ fn is_packed_in_place<T: Lattice>(columns: &Columns<T>, i: usize, run: usize) ->
 // Whether columns are sealed as they stand.
 fn are_columns_sealed<T: Lattice>(columns: &Columns<T>) -> bool
     ensures sealed { IsTrue result → IsSealed T.cmp columns.now }
-    ensures fits { IsTrue result → HasLargeTotal T.below columns.now → ⊥ }
+    ensures fits { IsTrue result → HasLargeTotal T.times columns.now → ⊥ }
 {
     let mut run = 0;
     for i in 0..columns.len() {
@@ -99,7 +100,7 @@ fn are_columns_sealed<T: Lattice>(columns: &Columns<T>) -> bool
 // Whether a list is sealed as it stands.
 fn is_sealed<T: Lattice>(list: &UpdateList<T>) -> bool
     ensures sealed { IsTrue result → IsSealed T.cmp list.now }
-    ensures fits { IsTrue result → HasLargeTotal T.below list.now → ⊥ }
+    ensures fits { IsTrue result → HasLargeTotal T.times list.now → ⊥ }
 {
     match list.form() {
         Form::Plain(updates) => are_sealed(updates.as_slice()),
@@ -111,7 +112,7 @@ fn is_sealed<T: Lattice>(list: &UpdateList<T>) -> bool
 // refused.
 fn columns_of<T: Lattice>(alloc: Global, list: &UpdateList<T>) -> Result<Columns<T>, Refusal>
     ensures made { IfOk result (λ made. made ≡ list.now) }
-    ensures only { IfErr result (λ refused. refused ≡ Refusal.OutOfMemory) }
+    ensures only { OnlyMemory result }
 {
     match list.form() {
         Form::Plain(updates) => in_columns(alloc, updates.as_slice()),
@@ -121,14 +122,14 @@ fn columns_of<T: Lattice>(alloc: Global, list: &UpdateList<T>) -> Result<Columns
 
 // Whether a time is beyond the lower frontier and passed by the upper one.
 fn lies_between<T: Lattice>(time: T, lower: &[T], upper: &[T]) -> bool
-    ensures { result ≡ is_between T.below lower.now upper.now time }
+    ensures { result ≡ is_between T.times lower.now upper.now time }
 {
     is_beyond(lower, &time) && !is_beyond(upper, &time)
 }
 
 // Whether each update's time lies between the frontiers.
 fn is_list_between<T: Lattice>(list: &UpdateList<T>, lower: &[T], upper: &[T]) -> bool
-    ensures { result ≡ all_between T.below lower.now upper.now list.now }
+    ensures { result ≡ all_between T.times lower.now upper.now list.now }
 {
     for i in 0..list.len() {
         if !lies_between(list.time(i), lower, upper) {
@@ -144,14 +145,14 @@ fn is_list_interval<T: Lattice>(
     lower: &Antichain<T>,
     upper: &Antichain<T>,
 ) -> bool
-    ensures { result ≡ is_interval_of T.below lower.now upper.now list.now }
+    ensures { result ≡ is_interval_of T.times lower.now upper.now list.now }
 {
     upper.is_beyond(lower) && is_list_between(list, lower.elements(), upper.elements())
 }
 
 // Tells the prover that each time is at or after the least one. Costs nothing.
 fn known_list<T: Minimum>(list: &UpdateList<T>)
-    ensures { IsTrue (list_all (λ u. T.below T.least u.time) list.now) }
+    ensures { IsTrue (list_all (λ u. T.times.below T.times.least u.time) list.now) }
 {
     for i in 0..list.len() {
         list.time(i).known();
@@ -167,8 +168,8 @@ fn sealed_columns<T: Lattice>(alloc: Global, list: &UpdateList<T>) -> Result<Col
         → IsTrue (list_all (λ u. p u.row u.time) list.now)
         → IsTrue (list_all (λ u. p u.row u.time) out)) }
     ensures size { IfOk result (λ out. size out ≤ size list.now) }
-    ensures fits { OnOk result (HasLargeTotal T.below list.now → ⊥) }
-    ensures overflow { result ≡ Err Refusal.Overflow → HasLargeTotal T.below list.now }
+    ensures fits { OnOk result (HasLargeTotal T.times list.now → ⊥) }
+    ensures overflow { result ≡ Err Refusal.Overflow → HasLargeTotal T.times list.now }
     ensures only { IfErr result
         (λ refused. (refused ≡ Refusal.OutOfMemory) ⊎ (refused ≡ Refusal.Overflow)) }
 {
@@ -180,20 +181,20 @@ fn sealed_columns<T: Lattice>(alloc: Global, list: &UpdateList<T>) -> Result<Col
     in_columns(alloc, sealed.as_slice())
 }
 
-/// Seals a list that stays with its owner. The batch is that of a [`Builder`](crate::Builder) of this
-/// worker and node to which its updates were pushed, as [`Builder::seal`](crate::Builder::seal) makes
-/// it.
+/// Seals a list that stays with its owner. The batch is that of a [`Builder`](crate::Builder) of
+/// this worker and node to which its updates were pushed, as
+/// [`Builder::seal`](crate::Builder::seal) makes it.
 ///
-/// - [`Refusal::Stray`] if and only if `upper` is not beyond `lower`, or the time of an update is not
-///   between them, even if another update cancels it.
-/// - Otherwise [`Refusal::Overflow`] only if the total of some row at some time is no 64-bit number,
-///   and no batch is given in that case.
+/// - [`Refusal::Stray`] if and only if `upper` is not beyond `lower`, or the time of an update is
+///   not between them, even if another update cancels it.
+/// - Otherwise [`Refusal::Overflow`] only if the total of some row at some time is no 64-bit
+///   number, and no batch is given in that case.
 /// - Otherwise [`Refusal::OutOfMemory`] only if memory for the frontiers, for the columns of the
-///   batch, or for copies of updates in another order was refused. The copies are made before totals
-///   are computed, so this may come in place of an overflow.
+///   batch, or for copies of updates in another order was refused. The copies are made before
+///   totals are computed, so this may come in place of an overflow.
 ///
-/// Cost: if the updates are in a batch's order, some comparisons of each with the one before it, one
-/// with each element of the frontiers, and a copy. Otherwise also n log n comparisons in their
+/// Cost: if the updates are in a batch's order, some comparisons of each with the one before it,
+/// one with each element of the frontiers, and a copy. Otherwise also n log n comparisons in their
 /// number. It does not matter in which form the list is.
 pub fn seal_list<T: Minimum>(
     alloc: Global,
@@ -208,23 +209,23 @@ pub fn seal_list<T: Minimum>(
       node = node;
       lower = lower.now;
       upper = upper.now;
-      since = T.least ∷ [];
+      since = T.times.least ∷ [];
     }) }
     ensures sealed { IfOk result (λ batch. IsSealed T.cmp batch.updates) }
     ensures between { IfOk result
-        (λ batch. IsTrue (all_between T.below lower.now upper.now batch.updates)) }
+        (λ batch. IsTrue (all_between T.times lower.now upper.now batch.updates)) }
     ensures totals { IfOk result (λ batch. (p : List ℤ → T → Bool)
         → total_where p batch.updates ≡ total_where p list.now) }
     ensures sums { IfOk result (λ batch. (t : T)
-        → Alike (as_of T.below t batch.updates) (as_of T.below t list.now)) }
+        → Alike (as_of T.times t batch.updates) (as_of T.times t list.now)) }
     ensures among { IfOk result (λ batch. (p : List ℤ → T → Bool)
         → IsTrue (list_all (λ u. p u.row u.time) list.now)
         → IsTrue (list_all (λ u. p u.row u.time) batch.updates)) }
     ensures size { IfOk result (λ batch. size batch.updates ≤ size list.now) }
-    ensures fits { OnOk result (HasLargeTotal T.below list.now → ⊥) }
+    ensures fits { OnOk result (HasLargeTotal T.times list.now → ⊥) }
     ensures stray { (result ≡ Err Refusal.Stray)
-        ↔ (IsTrue (is_interval_of T.below lower.now upper.now list.now) → ⊥) }
-    ensures overflow { result ≡ Err Refusal.Overflow → HasLargeTotal T.below list.now }
+        ↔ (IsTrue (is_interval_of T.times lower.now upper.now list.now) → ⊥) }
+    ensures overflow { result ≡ Err Refusal.Overflow → HasLargeTotal T.times list.now }
     ensures only { IfErr result (λ refused. (refused ≡ Refusal.OutOfMemory)
         ⊎ ((refused ≡ Refusal.Stray) ⊎ (refused ≡ Refusal.Overflow))) }
 {

@@ -17,8 +17,8 @@
 //! at a time, but what happened to a key.
 //!
 //! - A [`Builder`] gathers updates in any order. It seals all of them between two frontiers, or
-//!   those that a frontier has passed, and then it keeps the others. [`seal_list`] seals a list that
-//!   stays with its owner.
+//!   those that a frontier has passed, and then it keeps the others. [`seal_list`] seals a list
+//!   that stays with its owner.
 //! - A [`Batch`] has a [`Description`], which names its worker, its node and the interval that it
 //!   covers. It is read by index through [`BatchReader`], which is all that operators will know of
 //!   it.
@@ -34,12 +34,12 @@
 mod batch;
 mod builder;
 mod changes;
-mod copying;
+mod copies;
 mod description;
 mod laws;
 mod lent;
 mod merged_rows;
-mod merging;
+mod merger;
 mod passed;
 mod plain;
 mod reader;
@@ -48,12 +48,12 @@ mod whole_merge;
 
 pub use batch::Batch;
 pub use builder::Builder;
-pub use copying::copy_runs;
+pub use copies::copy_runs;
 pub use description::Description;
 pub use laws::{
     compacted_rows_are_apart, sealed_lists_are_determined, seeks_find_the_rows_of_a_key,
 };
 pub use lent::seal_list;
-pub use merging::Merging;
+pub use merger::Merging;
 pub use reader::BatchReader;
 pub use whole_merge::merge;

@@ -1,7 +1,8 @@
 //! What a merge writes. A merge reads its sources row by row, and copies the updates of a row, each
 //! at the representative of its time. The row is in hand until the next one begins. Then its
 //! updates are sorted by time if moving times changed their order, and those that have become one
-//! are added up. So all that is finished is in order for good, and a merge can stop after each copy.
+//! are added up. So all that is finished is in order for good, and a merge can stop after each
+//! copy.
 //!
 //! Moving times never changes the order of rows. So it is enough to hold one row back. It is held
 //! once, with the time and the difference of each of its updates.
@@ -12,13 +13,13 @@ ghost use Rattle.std.specs.Ordering.{int_cmp};
 ghost use Rattle.std.specs.declared.cmp.Ordering.TheVariants.{Greater};
 ghost use Rattle.lattice.specs.Representatives.{representative_of};
 ghost use Rattle.update.specs.Updates.{HasLargeTotal};
-ghost use Rattle.update.specs.Refusals.{IsMemoryOrOverflow};
+ghost use Rattle.update.specs.Refusals.{OnlyMemory, IsMemoryOrOverflow};
 ghost use Rattle.update.specs.declared.change.Update.{Update};
 ghost use Rattle.update.specs.declared.refusal.Refusal.{Refusal};
 ghost use Rattle.batch.specs.Batches.{IsSealed};
 ghost use Rattle.batch.specs.Changes.{with_row};
 ghost use Rattle.batch.specs.Compaction.{compacted, StandFor};
-ghost use Rattle.batch.specs.Merging.{IsMerging};
+ghost use Rattle.batch.specs.Merges.{IsMerging};
 
 use crate::changes::{Change, are_settled, push_run, spread};
 use crate::plain::push_all;
@@ -57,10 +58,10 @@ fn put_in_hand<T: Lattice>(
     since: &[T],
 ) -> Result<(), Refusal>
     ensures written { OnOk result (in_hand.new.items ≡ in_hand.old.items ++ record {
-      time = representative_of T.joined T.met since.now time;
+      time = representative_of T.times since.now time;
       diff = diff;
     } ∷ []) }
-    ensures only { IfErr result (λ refused. refused ≡ Refusal.OutOfMemory) }
+    ensures only { OnlyMemory result }
 {
     in_hand.push(Change {
         time: representative(time, since),
@@ -79,9 +80,9 @@ fn put_sorted<T: Lattice>(
     ensures written { OnOk result ((added : List (Update T))
         × (finished.new ≡ finished.old ++ added)
         × IsSealed T.cmp added × StandFor added (with_row row.now in_hand.now)) }
-    ensures fits { OnOk result (HasLargeTotal T.below (with_row row.now in_hand.now) → ⊥) }
+    ensures fits { OnOk result (HasLargeTotal T.times (with_row row.now in_hand.now) → ⊥) }
     ensures refused { IfErr result
-        (IsMemoryOrOverflow (HasLargeTotal T.below (with_row row.now in_hand.now))) }
+        (IsMemoryOrOverflow (HasLargeTotal T.times (with_row row.now in_hand.now))) }
 {
     let updates = spread(alloc, row, in_hand)?;
     let sealed = sealed_list(updates)?;
@@ -99,9 +100,9 @@ fn put_row<T: Lattice>(
     ensures written { OnOk result ((added : List (Update T))
         × (finished.new ≡ finished.old ++ added)
         × IsSealed T.cmp added × StandFor added (with_row row.now in_hand.now)) }
-    ensures fits { OnOk result (HasLargeTotal T.below (with_row row.now in_hand.now) → ⊥) }
+    ensures fits { OnOk result (HasLargeTotal T.times (with_row row.now in_hand.now) → ⊥) }
     ensures refused { IfErr result
-        (IsMemoryOrOverflow (HasLargeTotal T.below (with_row row.now in_hand.now))) }
+        (IsMemoryOrOverflow (HasLargeTotal T.times (with_row row.now in_hand.now))) }
 {
     if are_settled(in_hand) {
         push_run(finished, row, in_hand)
@@ -119,7 +120,7 @@ impl<T: Lattice> MergedRows<T> {
     ) -> Result<MergedRows<T>, Refusal>
         ensures finished { IfOk result (λ made. made.finished ≡ []) }
         ensures in_hand { IfOk result (λ made. made.in_hand.items ≡ []) }
-        ensures only { IfErr result (λ refused. refused ≡ Refusal.OutOfMemory) }
+        ensures only { OnlyMemory result }
     {
         Ok(MergedRows {
             finished: Columns::with_capacity(alloc, updates, runs)?,
@@ -137,9 +138,9 @@ impl<T: Lattice> MergedRows<T> {
             × StandFor added (with_row self.old.row self.old.in_hand.items)) }
         ensures emptied { OnOk result (self.new.in_hand.items ≡ []) }
         ensures fits { OnOk result
-            (HasLargeTotal T.below (with_row self.old.row self.old.in_hand.items) → ⊥) }
+            (HasLargeTotal T.times (with_row self.old.row self.old.in_hand.items) → ⊥) }
         ensures refused { IfErr result (IsMemoryOrOverflow
-            (HasLargeTotal T.below (with_row self.old.row self.old.in_hand.items))) }
+            (HasLargeTotal T.times (with_row self.old.row self.old.in_hand.items))) }
     {
         let alloc = *self.in_hand.allocator();
         put_row(
@@ -176,18 +177,18 @@ impl<T: Lattice> MergedRows<T> {
         requires { place < length source.now }
         ensures kept { OnOk result ((next : Update T) → slice_get source.now place ≡ Some next
             → (us vs xs ys : List (Update T))
-            → IsMerging T.below T.cmp T.joined T.met since.now us vs self.old.finished
+            → IsMerging T.times T.cmp since.now us vs self.old.finished
             (with_row self.old.row self.old.in_hand.items) (next ∷ xs) ys
             → AllByRecursion (λ v. slice_cmp int_cmp next.row v.row ≢ Greater) ys
             → (self.new.row ≡ next.row)
-            × IsMerging T.below T.cmp T.joined T.met since.now us vs self.new.finished
+            × IsMerging T.times T.cmp since.now us vs self.new.finished
             (with_row self.new.row self.new.in_hand.items) (next ∷ xs) ys) }
         ensures refused { IfErr result (IsMemoryOrOverflow ((next : Update T)
             → slice_get source.now place ≡ Some next → (us vs xs ys : List (Update T))
-            → IsMerging T.below T.cmp T.joined T.met since.now us vs self.old.finished
+            → IsMerging T.times T.cmp since.now us vs self.old.finished
             (with_row self.old.row self.old.in_hand.items) (next ∷ xs) ys
             → AllByRecursion (λ v. slice_cmp int_cmp next.row v.row ≢ Greater) ys
-            → HasLargeTotal T.below (compacted T.joined T.met since.now (us ++ vs)))) }
+            → HasLargeTotal T.times (compacted T.times since.now (us ++ vs)))) }
     {
         if self.has_row(source, place, near) {
             return Ok(());
@@ -209,17 +210,17 @@ impl<T: Lattice> MergedRows<T> {
         requires { place < length source.now }
         ensures kept { OnOk result ((next : Update T) → slice_get source.now place ≡ Some next
             → (us vs xs ys : List (Update T))
-            → IsMerging T.below T.cmp T.joined T.met since.now us vs self.old.finished
+            → IsMerging T.times T.cmp since.now us vs self.old.finished
             (with_row self.old.row self.old.in_hand.items) (next ∷ xs) ys
             → AllByRecursion (λ v. slice_cmp int_cmp next.row v.row ≢ Greater) ys
-            → IsMerging T.below T.cmp T.joined T.met since.now us vs self.new.finished
+            → IsMerging T.times T.cmp since.now us vs self.new.finished
             (with_row self.new.row self.new.in_hand.items) xs ys) }
         ensures refused { IfErr result (IsMemoryOrOverflow ((next : Update T)
             → slice_get source.now place ≡ Some next → (us vs xs ys : List (Update T))
-            → IsMerging T.below T.cmp T.joined T.met since.now us vs self.old.finished
+            → IsMerging T.times T.cmp since.now us vs self.old.finished
             (with_row self.old.row self.old.in_hand.items) (next ∷ xs) ys
             → AllByRecursion (λ v. slice_cmp int_cmp next.row v.row ≢ Greater) ys
-            → HasLargeTotal T.below (compacted T.joined T.met since.now (us ++ vs)))) }
+            → HasLargeTotal T.times (compacted T.times since.now (us ++ vs)))) }
     {
         self.make_ready(source, place, near, since)?;
         put_in_hand(

@@ -1,7 +1,8 @@
 //! Plain updates and columns. A list that is to be sorted, and an update that is read or moved, are
 //! plain. What is finished is kept in columns. They live as long as the batch, so the runs are
 //! counted before the columns are made, and no list grows beyond what is used.
-ghost use Rattle.std.specs.Prelude.{◌≡◌, ◌<◌, ◌^◌, ◌+◌, ◌++◌, false, take, length, IfOk, IfErr, OnOk, IsTrue};
+ghost use Rattle.std.specs.Prelude.{◌≡◌, ◌<◌, ◌^◌, ◌+◌, ◌++◌, false, take, length, IfOk, OnOk, IsTrue};
+ghost use Rattle.update.specs.Refusals.{OnlyMemory};
 ghost use Rattle.columns.specs.Runs.{row_starts};
 ghost use Rattle.update.specs.declared.refusal.Refusal.{Refusal};
 
@@ -23,7 +24,7 @@ pub(crate) fn push_all<T: Lattice>(
     updates: &[Update<T>],
 ) -> Result<(), Refusal>
     ensures more { OnOk result (columns.new ≡ columns.old ++ updates.now) }
-    ensures only { IfErr result (λ refused. refused ≡ Refusal.OutOfMemory) }
+    ensures only { OnlyMemory result }
 {
     for update in updates {
         columns.push(update)?;
@@ -62,7 +63,7 @@ pub(crate) fn in_columns<T: Lattice>(
     updates: &[Update<T>],
 ) -> Result<Columns<T>, Refusal>
     ensures made { IfOk result (λ made. made ≡ updates.now) }
-    ensures only { IfErr result (λ refused. refused ≡ Refusal.OutOfMemory) }
+    ensures only { OnlyMemory result }
 {
     let mut columns = Columns::with_capacity(alloc, updates.len(), count_runs(updates))?;
     push_all(&mut columns, updates)?;

@@ -30,7 +30,7 @@ pub(crate) fn sealed_list<T: Lattice>(
         → IsTrue (list_all (λ u. p u.row u.time) updates.items)
         → IsTrue (list_all (λ u. p u.row u.time) out.items)) }
     ensures size { IfOk result (λ out. size out.items ≤ size updates.items) }
-    ensures overflow { IsErr result ↔ HasLargeTotal T.below updates.items }
+    ensures overflow { IsErr result ↔ HasLargeTotal T.times updates.items }
     ensures only { IfErr result (λ refused. refused ≡ Refusal.Overflow) }
 {
     sort_by_row(&mut updates);
@@ -39,7 +39,7 @@ pub(crate) fn sealed_list<T: Lattice>(
 
 // Tells the prover that each time is at or after the least one. Costs nothing.
 pub(crate) fn known_times<T: Minimum>(updates: &[Update<T>])
-    ensures { IsTrue (list_all (λ u. T.below T.least u.time) updates.now) }
+    ensures { IsTrue (list_all (λ u. T.times.below T.times.least u.time) updates.now) }
 {
     for update in updates {
         update.time.known();

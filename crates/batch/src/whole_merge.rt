@@ -1,6 +1,6 @@
 //! Merging two batches at once: which two can be merged, and what the merged batch is. The frontier
 //! `since` is a plain list, as in a description, since that is how a spine keeps it.
-ghost use Rattle.std.specs.Prelude.{◌≡◌, ◌≤◌, ◌+◌, ◌↔◌, ◌⊎◌, ◌++◌, List, ℤ, Bool, Err, IfOk, IfErr, OnOk, IsTrue};
+ghost use Rattle.std.specs.Prelude.{◌≡◌, ◌≤◌, ◌↔◌, ◌⊎◌, ◌++◌, List, ℤ, Bool, Err, IfOk, IfErr, OnOk, IsTrue};
 ghost use Rattle.std.specs.List.{list_all};
 ghost use Rattle.lattice.specs.Frontiers.{is_beyond};
 ghost use Rattle.antichain.specs.Antichains.{IsFrontier};
@@ -35,7 +35,7 @@ use update::Refusal;
 /// they are still in order. Memory for the times and the differences of both is allocated at once.
 /// To go on from call to call, use [`Merging`].
 pub fn merge<T: Lattice>(a: &Batch<T>, b: &Batch<T>, since: &[T]) -> Result<Batch<T>, Refusal>
-    requires { IsFrontier T.below T.cmp since.now }
+    requires { IsFrontier T.times T.cmp since.now }
     ensures described { IfOk result (λ both. both.description ≡ record {
       worker = a.now.description.worker;
       node = a.now.description.node;
@@ -45,24 +45,24 @@ pub fn merge<T: Lattice>(a: &Batch<T>, b: &Batch<T>, since: &[T]) -> Result<Batc
     }) }
     ensures sealed { IfOk result (λ both. IsSealed T.cmp both.updates) }
     ensures compacted { IfOk result (λ both.
-        IsTrue (are_compacted T.joined T.met since.now T.below both.updates)) }
+        IsTrue (are_compacted T.times since.now both.updates)) }
     ensures stand { IfOk result (λ both. StandFor both.updates
-        (compacted T.joined T.met since.now (a.now.updates ++ b.now.updates))) }
-    ensures sums { IfOk result (λ both. (t : T) → IsTrue (is_beyond T.below since.now t)
-        → Alike (as_of T.below t both.updates) (as_of T.below t (a.now.updates ++ b.now.updates))) }
-    ensures upward { IfOk result (λ both. (p : List ℤ → T → Bool) → IsUpward T.below p
+        (compacted T.times since.now (a.now.updates ++ b.now.updates))) }
+    ensures sums { IfOk result (λ both. (t : T) → IsTrue (is_beyond T.times since.now t)
+        → Alike (as_of T.times t both.updates) (as_of T.times t (a.now.updates ++ b.now.updates))) }
+    ensures upward { IfOk result (λ both. (p : List ℤ → T → Bool) → IsUpward T.times p
         → IsTrue (list_all (λ u. p u.row u.time) (a.now.updates ++ b.now.updates))
         → IsTrue (list_all (λ u. p u.row u.time) both.updates)) }
     ensures size { IfOk result
         (λ both. size both.updates ≤ size (a.now.updates ++ b.now.updates)) }
-    ensures fits { OnOk result (HasLargeTotal T.below
-        (compacted T.joined T.met since.now (a.now.updates ++ b.now.updates)) → ⊥) }
+    ensures fits { OnOk result (HasLargeTotal T.times
+        (compacted T.times since.now (a.now.updates ++ b.now.updates)) → ⊥) }
     ensures stray { (result ≡ Err Refusal.Stray)
         ↔ (Follows a.now.description b.now.description → ⊥) }
     ensures refused { IfErr result (λ refused. (refused ≡ Refusal.OutOfMemory)
         ⊎ ((refused ≡ Refusal.Stray)
-        ⊎ ((refused ≡ Refusal.Overflow) × HasLargeTotal T.below
-        (compacted T.joined T.met since.now (a.now.updates ++ b.now.updates))))) }
+        ⊎ ((refused ≡ Refusal.Overflow) × HasLargeTotal T.times
+        (compacted T.times since.now (a.now.updates ++ b.now.updates))))) }
 {
     let mut merging = Merging::of_two(a, b, since)?;
     merging.read_all(a.columns(), b.columns())?;

@@ -230,8 +230,8 @@ fn refused(alloc: Global, changes: &[Change], with: &Refusal) -> Result<bool, Re
     Ok(matches!(first, Err(by) if by == *with) && matches!(second, Err(by) if by == *with))
 }
 
-// Memory is ample here, so a total that is too large is not told as want of memory. A difference of 0
-// is not sealed.
+// Memory is ample here, so a total that is too large is not told as want of memory. A difference of
+// 0 is not sealed.
 #[test]
 fn lists_that_stay_are_refused_as_others_are(rt: HostRuntime) -> Result<(), Fail> {
     let outside: &[Change] = &[((6, 6), &[7], 1)];

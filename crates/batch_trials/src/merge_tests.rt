@@ -2,7 +2,7 @@
 //! they give is what was worked out by hand. No clause says how many calls a merge takes, and none
 //! that a merge which was refused for memory succeeds later.
 ghost use Rattle.std.specs.Prelude.{IfOk};
-ghost use Rattle.batch.specs.Merging.{IsUnderway};
+ghost use Rattle.batch.specs.Merges.{IsUnderway};
 
 use crate::batch_tests::assert_reads;
 use crate::batches::sealed;
@@ -78,9 +78,9 @@ fn go_on<T: Lattice>(
     b: &Batch<T>,
     calls: u64,
 ) -> Result<Merging<T>, Refusal>
-    requires { IsUnderway T.below T.cmp T.joined T.met a.now.updates b.now.updates merging }
+    requires { IsUnderway T.times T.cmp a.now.updates b.now.updates merging }
     ensures { IfOk result
-        (λ new. IsUnderway T.below T.cmp T.joined T.met a.now.updates b.now.updates new) }
+        (λ new. IsUnderway T.times T.cmp a.now.updates b.now.updates new) }
 {
     let mut merging = merging;
     for _ in 0..calls {

@@ -1,26 +1,10 @@
 -- What the program can be asked for, and what it then writes.
-use Rattle.std.specs.Prelude.{◌≤◌, ℕ, List, [], ◌∷◌, ◌++◌, length, codes, decimal}
+use Rattle.std.specs.Prelude.{ℕ, List, [], ◌∷◌, ◌++◌, length, codes, decimal}
 use Rattle.grammar.specs.ScriptModels.{ScriptModel}
 use Rattle.script.specs.Ends.{IsTextBeforeOverflow}
 use Rattle.script.specs.Text.{text}
-use Rattle.bitview.specs.declared.command_line.Action.{Action}
-use Rattle.bitview.specs.declared.command_line.Action.TheVariants.{Run, Plain, Check}
-use Rattle.bitview.specs.declared.command_line.Request.{Request}
-use Rattle.bitview.specs.declared.command_line.Request.TheVariants as request
-
--- the number of workers is supported
-abbrev pub IsInRange : Action → Type 0
-IsInRange (Run file workers) = (1 ≤ workers) × (workers ≤ 16)
-IsInRange (Plain file) = Unit {0}
-IsInRange (Check file) = Unit {0}
-
--- so is that of a request
-abbrev pub IsSupported : Request → Type 0
-IsSupported (request.Act action told) = IsInRange action
-IsSupported (request.Compare comparison) = (1 ≤ comparison.workers) × (comparison.workers ≤ 16)
-IsSupported (request.Explain file) = Unit {0}
-IsSupported (request.Import schema table) = Unit {0}
-IsSupported (request.Show dictionary text) = Unit {0}
+use Rattle.command_line.specs.declared.request.Action.{Action}
+use Rattle.command_line.specs.declared.request.Action.TheVariants.{Run, Plain, Check}
 
 -- ok NODES COMMANDS
 abbrev pub check_text : ScriptModel → List ℕ

@@ -7,7 +7,7 @@ use Rattle.grammar.specs.Scripts.{script_of}
 use Rattle.grammar.specs.ScriptModels.{ScriptModel, view_named}
 use Rattle.output.specs.Outs.{IsBeginning}
 use Rattle.comparison.specs.Differences.{AreRowsOfEither, difference_text}
-use Rattle.script.specs.Bounds.{IsLarge}
+use Rattle.engines.specs.Bounds.{IsLarge}
 use Rattle.script.specs.Reads.{FindsLastRows, last_session}
 
 -- `took` says which bytes the output took in this call, and how many of its calls failed
@@ -36,8 +36,8 @@ module _ (took : List ℕ → ℕ → Type 0) where
         ⊎ ((view : ℕ) × (refusal : Refusal) × (view_named t name ≡ Some view)
         × (FindsLastRows t view first (Err refusal) ⊎ FindsLastRows t view second (Err refusal)))
 
-    -- what happens with a script. If nothing is compared, nothing is written: 3 for want of memory or
-    -- of a thread, 4 if a number is too large, 6 if there is no such question
+    -- what happens with a script. If nothing is compared, nothing is written: 3 for want of memory
+    -- or of a thread, 4 if a number is too large, 6 if there is no such question
     abbrev pub IsAnswered : ScriptModel → ℕ → Type 0
     IsAnswered t status = ((before : List Entry) × (after : List Entry) × AreFound t before after × IsRead before after status)
         ⊎ (((status ≡ 3) × took [] 0)

@@ -9,8 +9,8 @@ use Rattle.explain.specs.Explanations.{fault_head}
 
 -- `took` says which bytes the output took in this call, and how many of its calls failed
 module _ (took : List ℕ → ℕ → Type 0) where
-  -- a script: nothing is at fault, and the status says whether there are warnings. A faulty file: what
-  -- is written begins with its first fault
+  -- a script: nothing is at fault, and the status says whether there are warnings. A faulty file:
+  -- what is written begins with its first fault
   abbrev pub IsExplained : Result ScriptModel (ℕ × Refusal) → ℕ → Type 0
   IsExplained (Ok t) status = ((status ≡ 0) ⊎ (status ≡ 5)) × (text : List ℕ) × took text 0
   IsExplained (Err (line, refusal)) status = (status ≡ 2)

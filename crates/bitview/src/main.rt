@@ -1,33 +1,31 @@
-//! The program. `bitview run FILE` reads a command file and writes the answers. Other words check and
-//! explain such a file, compare two reads of it, and make one of a CSV file.
+//! The program. `bitview run FILE` reads a command file and writes the answers. Other words check
+//! and explain such a file, compare two reads of it, and make one of a CSV file.
 //!
-//! [`words`] reads the arguments, this file reads and writes files, and [`act`] and its like do the
-//! rest. They know no file and no process, only bytes and two outputs, so their contracts can be
-//! stated in full. `main` keeps what no contract covers: the arguments, the files, and the process's
-//! standard output and standard error.
+//! [`command_line::words`] reads the arguments, this file reads and writes files, and [`act`] and
+//! its like do the rest. They know no file and no process, only bytes and two outputs, so their
+//! contracts can be stated in full. `main` keeps what no contract covers: the arguments, the files,
+//! and the process's standard output and standard error.
 #![tactic(auto)]
 
 ghost use Rattle.std.specs.Prelude.{◌≤◌};
-ghost use Rattle.bitview.specs.Actions.{IsInRange, IsSupported};
+ghost use Rattle.command_line.specs.Requests.{IsInRange, IsSupported};
 
-mod acting;
-mod command_line;
-mod comparing;
-mod explaining;
+mod actions;
+mod comparisons;
+mod explanations;
+mod progress_meter;
 mod tables;
-mod usage;
-mod watching;
 mod writers;
 
-use crate::acting::{act, unread};
-use crate::command_line::{Action, Comparison, Request, words};
-use crate::comparing::compare;
-use crate::explaining::explain_file;
+use crate::actions::{act, unread};
+use crate::comparisons::compare;
+use crate::explanations::explain_file;
+use crate::progress_meter::Progress;
 use crate::tables::{Made, Source, make, show_text};
-use crate::watching::Progress;
 use crate::writers::{Output, StandardError, Told};
 use clap::Error;
 use clap::error::ErrorKind;
+use command_line::{Action, Comparison, Request, words};
 use output::{Out, put_all};
 use script::Unwatched;
 use std::alloc::{AllocError, Global};
@@ -276,8 +274,8 @@ fn perform_show<R: Files + AllocGlobal + Eprint, W: Out>(
     Ok(show_text(alloc, dictionary, text, out, &mut error))
 }
 
-// Prints why the arguments were not understood, or the help or version that was asked for. These two go
-// to standard output, which may fail.
+// Prints why the arguments were not understood, or the help or version that was asked for. These
+// two go to standard output, which may fail.
 fn tell_usage<R: Print + Eprint>(rt: &R, error: &Error) -> u8 {
     if error.kind() == ErrorKind::OutOfMemory {
         return without_memory(rt);

@@ -1,7 +1,7 @@
 //! What `import` and `show` do with the bytes of files.
 ghost use Rattle.std.specs.Prelude.{◌≡◌, ◌⊎◌, IfErr};
 
-use crate::acting::end;
+use crate::actions::end;
 use crate::writers::Told;
 use dictionary::{Dictionary, DictionaryFault, Problem, dictionary_text, read_dictionary};
 use importer::{ImportFault, Imported, Schema, SchemaFault, SchemaProblem, import, read_schema};
@@ -51,8 +51,8 @@ fn refuse_schema<E: Out>(name: &str, fault: &SchemaFault, error: &mut E) -> u8
     2
 }
 
-// Reports what is wrong with a CSV file. The text is put into memory, so no output failed but for want
-// of memory.
+// Reports what is wrong with a CSV file. The text is put into memory, so no output failed but for
+// want of memory.
 fn refuse_table<E: Out>(name: &str, fault: &ImportFault, error: &mut E) -> u8
     ensures { (result ≡ 2) ⊎ (result ≡ 3) }
 {
@@ -160,9 +160,9 @@ fn show_by<W: Out, E: Out>(
     }
 }
 
-/// Writes the text of a run as CSV, with the names of a dictionary. The result is the program's status:
-/// 0; 2 if the dictionary or the text is at fault, and a line on the second output tells where; 3 if
-/// memory was refused or the first output failed.
+/// Writes the text of a run as CSV, with the names of a dictionary. The result is the program's
+/// status: 0; 2 if the dictionary or the text is at fault, and a line on the second output tells
+/// where; 3 if memory was refused or the first output failed.
 ///
 /// Cost: that of [`show`].
 pub(crate) fn show_text<W: Out, E: Out>(

@@ -1,5 +1,5 @@
-//! The process's own outputs, of which no contract says where their bytes go, and lines that take no
-//! memory.
+//! The process's own outputs, of which no contract says where their bytes go, and lines that take
+//! no memory.
 use output::{Out, OutFault, put_all};
 use std::io::Write;
 use std::{fmt, str};

@@ -1,8 +1,8 @@
-//! Clients of a session, who know the plan: an input of one column, a view of it, and a view of how often
-//! each row is there. So a test need not say which node it means, and no call asks for one that is not
-//! there.
+//! Clients of a session, who know the plan: an input of one column, a view of it, and a view of how
+//! often each row is there. So a test need not say which node it means, and no call asks for one
+//! that is not there.
 ghost use Rattle.std.specs.Prelude.{◌≡◌, IfOk};
-ghost use Rattle.shared_board.specs.Tenures.{terms_in};
+ghost use Rattle.shared_board.specs.Tenures.{opening_in};
 ghost use Rattle.client_trials.specs.Plans.{counted_rows};
 
 use antichain::Antichain;
@@ -41,13 +41,13 @@ fn viewed(alloc: Global) -> Result<Plan, Refusal>
     Ok(builder.finish())
 }
 
-// A client of that board, who knows the plan. It makes each call without waiting, or by its twin that
-// waits.
+// A client of that board, who knows the plan. It makes each call without waiting, or by its twin
+// that waits.
 #[derive(Drop)]
 pub(crate) struct Caller {
     client: Client<Bitime, BitemporalBoards>,
     pub(crate) waits: bool,
-    ghost knows: { (terms_in client.seen).dataflow.nodes ≡ counted_rows },
+    ghost knows: { (opening_in client.seen).dataflow.nodes ≡ counted_rows },
 }
 
 impl Caller {

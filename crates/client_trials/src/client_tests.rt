@@ -1,5 +1,5 @@
-//! Clients of a session where nobody else does anything: each call comes in, and succeeds if there is
-//! memory. The plan is that of an input of one column and a view of it.
+//! Clients of a session where nobody else does anything: each call comes in, and succeeds if there
+//! is memory. The plan is that of an input of one column and a view of it.
 use crate::caller::{Caller, Crew, callers};
 use antichain::Antichain;
 use lattice::Bitime;
@@ -61,8 +61,8 @@ fn changes_inputs<R: Wait + Abort>(
     Ok(())
 }
 
-// The worker has carried nothing on, so what was fed can't be read yet, and the view may still change
-// from the least time on.
+// The worker has carried nothing on, so what was fed can't be read yet, and the view may still
+// change from the least time on.
 fn asks_views<R: Wait + Abort>(
     rt: &R,
     alloc: Global,
@@ -84,8 +84,8 @@ fn asks_views<R: Wait + Abort>(
     client.probe(rt)
 }
 
-// Memory is ample here. No clause says that a client who is alone is not refused each time. What waits
-// answers the same.
+// Memory is ample here. No clause says that a client who is alone is not refused each time. What
+// waits answers the same.
 #[test]
 fn clients_change_inputs(rt: HostRuntime) -> Result<(), Fail> {
     changes_inputs(&rt, rt.alloc(), false, at(0, 0), at(0, 1))?;

@@ -1,4 +1,5 @@
-//! Tests of sessions and their clients, by public calls alone. No caller but them knows what stands here.
+//! Tests of sessions and their clients, by public calls alone. No caller but them knows what stands
+//! here.
 #![tactic(auto)]
 
 #[cfg(test)]

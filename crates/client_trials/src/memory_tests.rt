@@ -1,5 +1,5 @@
-//! A row of calls of which each may be refused for want of memory. It is made again then, and each answer
-//! is that of a row that was refused nothing: so nothing is lost, and nothing is done twice.
+//! A row of calls of which each may be refused for want of memory. It is made again then, and each
+//! answer is that of a row that was refused nothing: so nothing is lost, and nothing is done twice.
 use crate::caller::{Caller, Crew, callers};
 use lattice::Bitime;
 use session::{Move, drive};
@@ -150,8 +150,8 @@ fn make_all<R: Wait + Abort>(
     Ok(())
 }
 
-// A correction of what was read, and what is read before and after it. The times are (0, 0), (1, 0),
-// (0, 1), (1, 1) and (0, 2).
+// A correction of what was read, and what is read before and after it. The times are (0, 0), (1,
+// 0), (0, 1), (1, 1) and (0, 2).
 fn correction(times: [Bitime; 5]) -> [Call; 20] {
     let [first, next, corrected, both, end] = times;
     [

@@ -1,5 +1,5 @@
-//! A session as a caller embeds it: two workers and two clients, a late correction, and a schedule that
-//! is drawn.
+//! A session as a caller embeds it: two workers and two clients, a late correction, and a schedule
+//! that is drawn.
 use crate::caller::{Caller, Crew, callers};
 use session::{Move, drive};
 use std::alloc::Global;
@@ -38,8 +38,8 @@ fn settle<R: Wait + Abort>(
     panic!(rt; "the session does not come to an end")
 }
 
-// Two clients feed, and one of them corrects what the other has fed, once it was read. What was read
-// before stays as it was.
+// Two clients feed, and one of them corrects what the other has fed, once it was read. What was
+// read before stays as it was.
 fn corrects<R: Wait + Abort>(rt: &R, alloc: Global, seed: u64) -> Result<(), Refusal> {
     let mut draws = Draws::new(seed);
     let mut crew: Crew = Vec::new(alloc);

@@ -202,80 +202,80 @@ module _ {T : Type 0} where
       ∙ append_maybe begun place rest (cond last [] ((place + suc (length us)) ∷ []))
 
   -- there are as many updates as times
-  pub updates_long : (place : ℕ) (starts : List ℕ) (rows : List (List ℤ)) (times : List T) (diffs : List ℤ) → length diffs ≡ length times → length (updates_from place starts rows times diffs) ≡ length times
+  pub updates_long : (place : ℕ) (starts : List ℕ) (rows : List (List ℤ)) (elements : List T) (diffs : List ℤ) → length diffs ≡ length elements → length (updates_from place starts rows elements diffs) ≡ length elements
   updates_long place starts rows [] diffs e = refl
-  updates_long place starts rows (t ∷ times) [] e = absurd (omega (arith, e))
-  updates_long place starts rows (t ∷ times) (d ∷ diffs) e = ap suc (updates_long (suc place) starts rows times diffs (omega (arith, e)))
+  updates_long place starts rows (t ∷ elements) [] e = absurd (omega (arith, e))
+  updates_long place starts rows (t ∷ elements) (d ∷ diffs) e = ap suc (updates_long (suc place) starts rows elements diffs (omega (arith, e)))
 
   -- an update has the time and the difference at its place, and the row of its run
-  pub updates_get : (place : ℕ) (starts : List ℕ) (rows : List (List ℤ)) (times : List T) (diffs : List ℤ) (k : ℕ) (u : Update T) → length diffs ≡ length times → k < length times → get_or (updates_from place starts rows times diffs) k u ≡ record { time = get_or times k u.time; row = get_or rows (run_number starts (place + k)) []; diff = get_or diffs k (pos 0) }
+  pub updates_get : (place : ℕ) (starts : List ℕ) (rows : List (List ℤ)) (elements : List T) (diffs : List ℤ) (k : ℕ) (u : Update T) → length diffs ≡ length elements → k < length elements → get_or (updates_from place starts rows elements diffs) k u ≡ record { time = get_or elements k u.time; row = get_or rows (run_number starts (place + k)) []; diff = get_or diffs k (pos 0) }
   updates_get place starts rows [] diffs k u e h = absurd (omega (arith, h))
-  updates_get place starts rows (t ∷ times) [] k u e h = absurd (omega (arith, e))
-  updates_get place starts rows (t ∷ times) (d ∷ diffs) zero u e h =
+  updates_get place starts rows (t ∷ elements) [] k u e h = absurd (omega (arith, e))
+  updates_get place starts rows (t ∷ elements) (d ∷ diffs) zero u e h =
       let here : place ≡ place + 0 = omega arith in
       ap (λ n. record { time = t; row = get_or rows (run_number starts n) []; diff = d }) here
-  updates_get place starts rows (t ∷ times) (d ∷ diffs) (suc k) u e h =
+  updates_get place starts rows (t ∷ elements) (d ∷ diffs) (suc k) u e h =
       let there : suc place + k ≡ place + suc k = omega arith in
-      updates_get (suc place) starts rows times diffs k u (omega (arith, e)) (omega (arith, h))
-      ∙ ap (λ n. record { time = get_or times k u.time; row = get_or rows (run_number starts n) []; diff = get_or diffs k (pos 0) }) there
+      updates_get (suc place) starts rows elements diffs k u (omega (arith, e)) (omega (arith, h))
+      ∙ ap (λ n. record { time = get_or elements k u.time; row = get_or rows (run_number starts n) []; diff = get_or diffs k (pos 0) }) there
 
   -- the update at a place, whatever stands for one that is missing
-  pub update_at : (place : ℕ) (starts : List ℕ) (rows : List (List ℤ)) (times : List T) (diffs : List ℤ) (k : ℕ) → length diffs ≡ length times → k < length times → (u : Update T) × (slice_get (updates_from place starts rows times diffs) k ≡ Some u) × (u.row ≡ get_or rows (run_number starts (place + k)) []) × (u.diff ≡ get_or diffs k (pos 0)) × ((t : T) → u.time ≡ get_or times k t)
+  pub update_at : (place : ℕ) (starts : List ℕ) (rows : List (List ℤ)) (elements : List T) (diffs : List ℤ) (k : ℕ) → length diffs ≡ length elements → k < length elements → (u : Update T) × (slice_get (updates_from place starts rows elements diffs) k ≡ Some u) × (u.row ≡ get_or rows (run_number starts (place + k)) []) × (u.diff ≡ get_or diffs k (pos 0)) × ((t : T) → u.time ≡ get_or elements k t)
   update_at place starts rows [] diffs k e h = absurd (omega (arith, h))
-  update_at place starts rows (t ∷ times) [] k e h = absurd (omega (arith, e))
-  update_at place starts rows (t ∷ times) (d ∷ diffs) zero e h =
+  update_at place starts rows (t ∷ elements) [] k e h = absurd (omega (arith, e))
+  update_at place starts rows (t ∷ elements) (d ∷ diffs) zero e h =
       let here : place ≡ place + 0 = omega arith in
       (record { time = t; row = get_or rows (run_number starts place) []; diff = d }, refl, ap (λ n. get_or rows (run_number starts n) []) here, refl, λ s. refl)
-  update_at place starts rows (t ∷ times) (d ∷ diffs) (suc k) e h =
+  update_at place starts rows (t ∷ elements) (d ∷ diffs) (suc k) e h =
       let there : suc place + k ≡ place + suc k = omega arith in
-      let p = update_at (suc place) starts rows times diffs k (omega (arith, e)) (omega (arith, h)) in
+      let p = update_at (suc place) starts rows elements diffs k (omega (arith, e)) (omega (arith, h)) in
       (p.0, p.1, p.2 ∙ ap (λ n. get_or rows (run_number starts n) []) there, p.3, p.4)
 
   -- the times of the updates
-  pub times_are : (place : ℕ) (starts : List ℕ) (rows : List (List ℤ)) (times : List T) (diffs : List ℤ) → length diffs ≡ length times → map (λ (u : Update T). u.time) (updates_from place starts rows times diffs) ≡ times
+  pub times_are : (place : ℕ) (starts : List ℕ) (rows : List (List ℤ)) (elements : List T) (diffs : List ℤ) → length diffs ≡ length elements → map (λ (u : Update T). u.time) (updates_from place starts rows elements diffs) ≡ elements
   times_are place starts rows [] diffs e = refl
-  times_are place starts rows (t ∷ times) [] e = absurd (omega (arith, e))
-  times_are place starts rows (t ∷ times) (d ∷ diffs) e = ap (λ ts. t ∷ ts) (times_are (suc place) starts rows times diffs (omega (arith, e)))
+  times_are place starts rows (t ∷ elements) [] e = absurd (omega (arith, e))
+  times_are place starts rows (t ∷ elements) (d ∷ diffs) e = ap (λ ts. t ∷ ts) (times_are (suc place) starts rows elements diffs (omega (arith, e)))
 
   -- the differences of the updates
-  pub diffs_are : (place : ℕ) (starts : List ℕ) (rows : List (List ℤ)) (times : List T) (diffs : List ℤ) → length diffs ≡ length times → map (λ (u : Update T). u.diff) (updates_from place starts rows times diffs) ≡ diffs
+  pub diffs_are : (place : ℕ) (starts : List ℕ) (rows : List (List ℤ)) (elements : List T) (diffs : List ℤ) → length diffs ≡ length elements → map (λ (u : Update T). u.diff) (updates_from place starts rows elements diffs) ≡ diffs
   diffs_are place starts rows [] [] e = refl
   diffs_are place starts rows [] (d ∷ diffs) e = absurd (omega (arith, e))
-  diffs_are place starts rows (t ∷ times) [] e = absurd (omega (arith, e))
-  diffs_are place starts rows (t ∷ times) (d ∷ diffs) e = ap (λ ds. d ∷ ds) (diffs_are (suc place) starts rows times diffs (omega (arith, e)))
+  diffs_are place starts rows (t ∷ elements) [] e = absurd (omega (arith, e))
+  diffs_are place starts rows (t ∷ elements) (d ∷ diffs) e = ap (λ ds. d ∷ ds) (diffs_are (suc place) starts rows elements diffs (omega (arith, e)))
 
   -- runs that give the same rows give the same updates
-  pub updates_same : (place : ℕ) (starts others : List ℕ) (rows more : List (List ℤ)) (times : List T) (diffs : List ℤ) → ((k : ℕ) → k < place + length times → get_or rows (run_number starts k) [] ≡ get_or more (run_number others k) []) → updates_from place starts rows times diffs ≡ updates_from place others more times diffs
+  pub updates_same : (place : ℕ) (starts others : List ℕ) (rows more : List (List ℤ)) (elements : List T) (diffs : List ℤ) → ((k : ℕ) → k < place + length elements → get_or rows (run_number starts k) [] ≡ get_or more (run_number others k) []) → updates_from place starts rows elements diffs ≡ updates_from place others more elements diffs
   updates_same place starts others rows more [] diffs same = refl
-  updates_same place starts others rows more (t ∷ times) [] same = refl
-  updates_same place starts others rows more (t ∷ times) (d ∷ diffs) same =
+  updates_same place starts others rows more (t ∷ elements) [] same = refl
+  updates_same place starts others rows more (t ∷ elements) (d ∷ diffs) same =
       let first = same place (omega arith) in
-      let rest = updates_same (suc place) starts others rows more times diffs (λ k h. same k (omega (arith, h))) in
+      let rest = updates_same (suc place) starts others rows more elements diffs (λ k h. same k (omega (arith, h))) in
       λ j. record { time = t; row = first j; diff = d } ∷ rest j
 
   -- one more time and difference are one more update
-  pub updates_push : (place : ℕ) (starts : List ℕ) (rows : List (List ℤ)) (times : List T) (diffs : List ℤ) (t : T) (d : ℤ) → length diffs ≡ length times → updates_from place starts rows (times ++ t ∷ []) (diffs ++ d ∷ []) ≡ updates_from place starts rows times diffs ++ record { time = t; row = get_or rows (run_number starts (place + length times)) []; diff = d } ∷ []
+  pub updates_push : (place : ℕ) (starts : List ℕ) (rows : List (List ℤ)) (elements : List T) (diffs : List ℤ) (t : T) (d : ℤ) → length diffs ≡ length elements → updates_from place starts rows (elements ++ t ∷ []) (diffs ++ d ∷ []) ≡ updates_from place starts rows elements diffs ++ record { time = t; row = get_or rows (run_number starts (place + length elements)) []; diff = d } ∷ []
   updates_push place starts rows [] [] t d e =
       let here : place ≡ place + 0 = omega arith in
       ap (λ n. record { time = t; row = get_or rows (run_number starts n) []; diff = d } ∷ []) here
   updates_push place starts rows [] (x ∷ diffs) t d e = absurd (omega (arith, e))
-  updates_push place starts rows (s ∷ times) [] t d e = absurd (omega (arith, e))
-  updates_push place starts rows (s ∷ times) (x ∷ diffs) t d e =
-      let there : suc place + length times ≡ place + suc (length times) = omega arith in
+  updates_push place starts rows (s ∷ elements) [] t d e = absurd (omega (arith, e))
+  updates_push place starts rows (s ∷ elements) (x ∷ diffs) t d e =
+      let there : suc place + length elements ≡ place + suc (length elements) = omega arith in
       ap (λ us. record { time = s; row = get_or rows (run_number starts place) []; diff = x } ∷ us)
-      (updates_push (suc place) starts rows times diffs t d (omega (arith, e))
-      ∙ ap (λ n. updates_from (suc place) starts rows times diffs ++ record { time = t; row = get_or rows (run_number starts n) []; diff = d } ∷ []) there)
+      (updates_push (suc place) starts rows elements diffs t d (omega (arith, e))
+      ∙ ap (λ n. updates_from (suc place) starts rows elements diffs ++ record { time = t; row = get_or rows (run_number starts n) []; diff = d } ∷ []) there)
 
   -- the row of the last update is that of its run
-  pub row_behind_is : (place : ℕ) (before : List ℤ) (starts : List ℕ) (rows : List (List ℤ)) (times : List T) (diffs : List ℤ) → length diffs ≡ length times → 0 < length times → row_behind before (updates_from place starts rows times diffs) ≡ get_or rows (run_number starts ((place + length times) - 1)) []
+  pub row_behind_is : (place : ℕ) (before : List ℤ) (starts : List ℕ) (rows : List (List ℤ)) (elements : List T) (diffs : List ℤ) → length diffs ≡ length elements → 0 < length elements → row_behind before (updates_from place starts rows elements diffs) ≡ get_or rows (run_number starts ((place + length elements) - 1)) []
   row_behind_is place before starts rows [] diffs e h = absurd (omega (arith, h))
-  row_behind_is place before starts rows (t ∷ times) [] e h = absurd (omega (arith, e))
+  row_behind_is place before starts rows (t ∷ elements) [] e h = absurd (omega (arith, e))
   row_behind_is place before starts rows (t ∷ []) (d ∷ diffs) e h =
       let here : place ≡ (place + 1) - 1 = omega arith in
       ap (λ n. get_or rows (run_number starts n) []) here
-  row_behind_is place before starts rows (t ∷ s ∷ times) (d ∷ diffs) e h =
-      let there : (suc place + suc (length times)) - 1 ≡ (place + suc (suc (length times))) - 1 = omega arith in
-      row_behind_is (suc place) (get_or rows (run_number starts place) []) starts rows (s ∷ times) diffs (omega (arith, e)) (omega arith)
+  row_behind_is place before starts rows (t ∷ s ∷ elements) (d ∷ diffs) e h =
+      let there : (suc place + suc (length elements)) - 1 ≡ (place + suc (suc (length elements))) - 1 = omega arith in
+      row_behind_is (suc place) (get_or rows (run_number starts place) []) starts rows (s ∷ elements) diffs (omega (arith, e)) (omega arith)
       ∙ ap (λ n. get_or rows (run_number starts n) []) there
 
 -- a run for the next update, if its row is not the last one

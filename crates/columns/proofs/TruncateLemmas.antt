@@ -67,12 +67,12 @@ module _ {T : Type 0} where
       ∙ append_maybe begun place rest (starts_from (place + suc (length us)) (row_behind u.row us) vs)
 
   -- the first times and differences are those of the first updates
-  updates_take : (n place : ℕ) (starts : List ℕ) (rows : List (List ℤ)) (times : List T) (diffs : List ℤ) → updates_from place starts rows (take n times) (take n diffs) ≡ take n (updates_from place starts rows times diffs)
-  updates_take zero place starts rows times diffs = refl
+  updates_take : (n place : ℕ) (starts : List ℕ) (rows : List (List ℤ)) (ts : List T) (diffs : List ℤ) → updates_from place starts rows (take n ts) (take n diffs) ≡ take n (updates_from place starts rows ts diffs)
+  updates_take zero place starts rows ts diffs = refl
   updates_take (suc n) place starts rows [] diffs = refl
-  updates_take (suc n) place starts rows (t ∷ times) [] = refl
-  updates_take (suc n) place starts rows (t ∷ times) (d ∷ diffs) =
-      ap (λ us. record { time = t; row = get_or rows (run_number starts place) []; diff = d } ∷ us) (updates_take n (suc place) starts rows times diffs)
+  updates_take (suc n) place starts rows (t ∷ ts) [] = refl
+  updates_take (suc n) place starts rows (t ∷ ts) (d ∷ diffs) =
+      ap (λ us. record { time = t; row = get_or rows (run_number starts place) []; diff = d } ∷ us) (updates_take n (suc place) starts rows ts diffs)
 
   -- no run begins behind the end
   starts_none : (n place : ℕ) (before : List ℤ) (us : List (Update T)) → length us ≤ n → starts_from place before (drop n us) ≡ []
@@ -81,9 +81,9 @@ module _ {T : Type 0} where
   starts_none zero place before (u ∷ us) l = absurd (omega (arith, l))
   starts_none (suc n) place before (u ∷ us) l = starts_none n place before us (omega (arith, l))
 
-module _ {T : Type 0} (starts : List ℕ) (rows : List (List ℤ)) (times : List T) (diffs : List ℤ) (columns : IsColumns starts rows times diffs) (n m : ℕ) (inside : m ≤ length starts) (point : IsPartitionPoint (λ s. s < n) (λ s. n ≤ s) starts m) where
+module _ {T : Type 0} (starts : List ℕ) (rows : List (List ℤ)) (ts : List T) (diffs : List ℤ) (columns : IsColumns starts rows ts diffs) (n m : ℕ) (inside : m ≤ length starts) (point : IsPartitionPoint (λ s. s < n) (λ s. n ≤ s) starts m) where
   abbrev updates : List (Update T)
-  updates = updates_from 0 starts rows times diffs
+  updates = updates_from 0 starts rows ts diffs
 
   abbrev first : List ℕ
   first = row_starts (take n updates)
@@ -116,9 +116,9 @@ module _ {T : Type 0} (starts : List ℕ) (rows : List (List ℤ)) (times : List
   starts_kept = (λ j. take (count j) (split j)) ∙ take_at first rest (length first) refl
 
   -- where an update stays, a run does
-  some_kept : 0 < length (take n times) → 0 < m
+  some_kept : 0 < length (take n ts) → 0 < m
   some_kept h =
-      let cut = length-take n times in
+      let cut = length-take n ts in
       let begins = columns.begins (omega (arith, h, cut)) in
       let some = some_first starts begins in
       ⊎_elim
@@ -129,9 +129,9 @@ module _ {T : Type 0} (starts : List ℕ) (rows : List (List ℤ)) (times : List
       (cases_lt 0 m)
 
   -- an update that stays has the row that it had
-  row_stays : (k : ℕ) → k < 0 + length (take n times) → get_or (take m rows) (run_number (take m starts) k) [] ≡ get_or rows (run_number starts k) []
+  row_stays : (k : ℕ) → k < 0 + length (take n ts) → get_or (take m rows) (run_number (take m starts) k) [] ≡ get_or rows (run_number starts k) []
   row_stays k h =
-      let cut = length-take n times in
+      let cut = length-take n ts in
       let behind : All (λ s. k < s) rest = All-weaker (λ s. n ≤ s) (λ s. k < s) (λ s l. omega (arith, h, l, cut)) rest rest_high in
       let same : run_number starts k ≡ run_number first k =
       ap (λ ss. run_number ss k) split
@@ -147,26 +147,26 @@ module _ {T : Type 0} (starts : List ℕ) (rows : List (List ℤ)) (times : List
       ∙ ap (λ r. get_or rows r []) (sym same)
 
   -- the first updates are left
-  pub cut_off : updates_from 0 (take m starts) (take m rows) (take n times) (take n diffs) ≡ take n updates
+  pub cut_off : updates_from 0 (take m starts) (take m rows) (take n ts) (take n diffs) ≡ take n updates
   cut_off =
-      updates_same 0 (take m starts) starts (take m rows) rows (take n times) (take n diffs) row_stays
-      ∙ updates_take n 0 starts rows times diffs
+      updates_same 0 (take m starts) starts (take m rows) rows (take n ts) (take n diffs) row_stays
+      ∙ updates_take n 0 starts rows ts diffs
 
   -- and what must be so is so
-  pub cut_kept : IsColumns (take m starts) (take m rows) (take n times) (take n diffs)
+  pub cut_kept : IsColumns (take m starts) (take m rows) (take n ts) (take n diffs)
   cut_kept =
       record {
-        diffs_long = length-take n diffs ∙ ap (min n) columns.diffs_long ∙ sym (length-take n times);
+        diffs_long = length-take n diffs ∙ ap (min n) columns.diffs_long ∙ sym (length-take n ts);
         rows_long = length-take m rows ∙ ap (min m) columns.rows_long ∙ sym (length-take m starts);
-        begins = λ h. (let cut = length-take n times in get_or-take m starts 0 1 (some_kept h) ∙ columns.begins (omega (arith, h, cut)));
+        begins = λ h. (let cut = length-take n ts in get_or-take m starts 0 1 (some_kept h) ∙ columns.begins (omega (arith, h, cut)));
         starts_are = starts_kept ∙ sym (ap row_starts cut_off);
       }
 
 -- an update of the time, the row and the difference at a place is the one that is kept there
-pub some_whole : {T : Type 0} (starts : List ℕ) (rows : List (List ℤ)) (times : List T) (diffs : List ℤ) (columns : IsColumns starts rows times diffs) (us : List (Update T)) (view : updates_from 0 starts rows times diffs ≡ us) (i : ℕ) (inside : i < length us) (t : T) (row : List ℤ) (d : ℤ) → t ≡ get_or times i t → row ≡ get_or rows (run_number starts i) [] → d ≡ get_or diffs i (pos 0) → IsSomeAnd (slice_get us i) (λ u. record { time = t; row = row; diff = d } ≡ u)
-some_whole starts rows times diffs columns us view i inside t row d t_is row_is d_is =
-    let within = place_inside starts rows times diffs columns us view i inside in
-    let here = update_at 0 starts rows times diffs i columns.diffs_long within in
+pub some_whole : {T : Type 0} (starts : List ℕ) (rows : List (List ℤ)) (ts : List T) (diffs : List ℤ) (columns : IsColumns starts rows ts diffs) (us : List (Update T)) (view : updates_from 0 starts rows ts diffs ≡ us) (i : ℕ) (inside : i < length us) (t : T) (row : List ℤ) (d : ℤ) → t ≡ get_or ts i t → row ≡ get_or rows (run_number starts i) [] → d ≡ get_or diffs i (pos 0) → IsSomeAnd (slice_get us i) (λ u. record { time = t; row = row; diff = d } ≡ u)
+some_whole starts rows ts diffs columns us view i inside t row d t_is row_is d_is =
+    let within = place_inside starts rows ts diffs columns us view i inside in
+    let here = update_at 0 starts rows ts diffs i columns.diffs_long within in
     let at : 0 + i ≡ i = omega arith in
     let row_same : row ≡ here.0.row = row_is ∙ sym (here.2 ∙ ap (λ n. get_or rows (run_number starts n) []) at) in
     let d_same : d ≡ here.0.diff = d_is ∙ sym here.3 in

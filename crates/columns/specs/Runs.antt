@@ -12,10 +12,10 @@ run_number starts place = length (filter (λ start. nat_le start place) starts) 
 -- the updates of these times and differences, from a place on: each has the row of its run
 abbrev pub updates_from : {T : Type 0} → ℕ → List ℕ → List (List ℤ) → List T → List ℤ → List (Update T)
 updates_from place starts rows [] diffs = []
-updates_from place starts rows (time ∷ times) [] = []
-updates_from place starts rows (time ∷ times) (diff ∷ diffs) =
+updates_from place starts rows (time ∷ ts) [] = []
+updates_from place starts rows (time ∷ ts) (diff ∷ diffs) =
     record { time = time; row = slice_index_or rows (run_number starts place) []; diff = diff }
-    ∷ updates_from (suc place) starts rows times diffs
+    ∷ updates_from (suc place) starts rows ts diffs
 
 -- the places, counted from one on, where the row is another than that of the update before
 abbrev pub starts_from : {T : Type 0} → ℕ → List ℤ → List (Update T) → List ℕ
@@ -36,11 +36,11 @@ run_place us run = slice_index_or (row_starts us) run (length us)
 
 -- there is a difference for each time, and a row for each run, and the runs begin where the row of
 -- the updates changes
-pub record IsColumns {T : Type 0} (starts : List ℕ) (rows : List (List ℤ)) (times : List T) (diffs : List ℤ) : Type 0 where
-  pub diffs_long : length diffs ≡ length times
+pub record IsColumns {T : Type 0} (starts : List ℕ) (rows : List (List ℤ)) (ts : List T) (diffs : List ℤ) : Type 0 where
+  pub diffs_long : length diffs ≡ length ts
   pub rows_long : length rows ≡ length starts
-  pub begins : 0 < length times → slice_index_or starts 0 1 ≡ 0
-  pub starts_are : starts ≡ row_starts (updates_from 0 starts rows times diffs)
+  pub begins : 0 < length ts → slice_index_or starts 0 1 ≡ 0
+  pub starts_are : starts ≡ row_starts (updates_from 0 starts rows ts diffs)
 
 -- what a reader knows of the places where the runs begin
 pub record AreRuns {T : Type 0} (starts : List ℕ) (us : List (Update T)) : Type 0 where

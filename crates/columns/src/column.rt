@@ -3,8 +3,8 @@
 //! A column may be longer than the table is. What stands behind the last row belongs to a row whose
 //! push was refused halfway, or to rows that were dropped. Nobody reads it, and the next
 //! [`Column::put`] drops it. So a push needs no second pass that makes room in all columns first.
-ghost use Rattle.std.specs.Prelude.{◌≡◌, ◌<◌, ◌≤◌, ◌++◌, ◌∷◌, [], pos, take, length, slice_index_or, IfOk, IfErr, OnOk, OnErr};
-ghost use Rattle.update.specs.declared.refusal.Refusal.TheVariants.{OutOfMemory};
+ghost use Rattle.std.specs.Prelude.{◌≡◌, ◌<◌, ◌≤◌, ◌++◌, ◌∷◌, [], pos, take, length, slice_index_or, IfOk, OnOk, OnErr};
+ghost use Rattle.update.specs.Refusals.{OnlyMemory};
 
 use std::alloc::Global;
 use std::marker::Model;
@@ -28,7 +28,7 @@ impl Column {
     /// A column of this many zeros, with room for so many items. Refused only with `OutOfMemory`.
     pub(crate) fn zeros(alloc: Global, height: usize, room: usize) -> Result<Column, Refusal>
         ensures long { IfOk result (λ column. length column ≡ height) }
-        ensures refused { IfErr result (λ refusal. refusal ≡ OutOfMemory) }
+        ensures refused { OnlyMemory result }
     {
         let mut items = Vec::with_capacity(alloc, room)?;
         items.resize(height, 0)?;
@@ -38,7 +38,7 @@ impl Column {
     /// A copy, with no more memory than it needs. Refused only with `OutOfMemory`.
     pub(crate) fn copy(&self, alloc: Global) -> Result<Column, Refusal>
         ensures copied { IfOk result (λ copy. copy ≡ self.now) }
-        ensures refused { IfErr result (λ refusal. refusal ≡ OutOfMemory) }
+        ensures refused { OnlyMemory result }
     {
         let items = Vec::from_slice(alloc, self.items.as_slice())?;
         Ok(Column { items })
@@ -50,7 +50,7 @@ impl Column {
         requires { place ≤ length self.old }
         ensures put { OnOk result (self.new ≡ take place self.old ++ item ∷ []) }
         ensures kept { OnErr result (self.new ≡ take place self.old) }
-        ensures refused { IfErr result (λ refusal. refusal ≡ OutOfMemory) }
+        ensures refused { OnlyMemory result }
     {
         self.items.truncate(place);
         self.items.push(item)?;

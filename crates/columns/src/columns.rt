@@ -6,14 +6,14 @@
 //!
 //! A push that is refused changes nothing: it asks for the memory of all lists before it writes
 //! into one.
-ghost use Rattle.std.specs.Prelude.{◌≡◌, ◌<◌, ◌≤◌, ◌-◌, ◌++◌, ◌∷◌, [], Some, cond, map, true, false, take, drop, slice_range, length, slice_get, IsSomeAnd, IfOk, IfErr, OnOk, OnErr};
+ghost use Rattle.std.specs.Prelude.{◌≡◌, ◌<◌, ◌≤◌, ◌-◌, ◌++◌, ◌∷◌, [], Some, cond, map, true, false, take, drop, slice_range, length, slice_get, IsSomeAnd, IfOk, OnOk, OnErr};
 ghost use Rattle.std.specs.Cmp.Lexicographic.{slice_cmp};
 ghost use Rattle.std.specs.List.{AllWithin, filter};
 ghost use Rattle.std.specs.List.Sorted.{IsStrictlySortedBy, IsPartitionPoint};
 ghost use Rattle.std.specs.Ordering.{int_cmp};
+ghost use Rattle.update.specs.Refusals.{OnlyMemory};
 ghost use Rattle.update.specs.Bags.{same_row};
 ghost use Rattle.update.specs.declared.change.Update.{Update};
-ghost use Rattle.update.specs.declared.refusal.Refusal.TheVariants.{OutOfMemory};
 ghost use Rattle.columns.specs.Keys.{by_row_then_time, begins_with, at_key, is_left_behind, AllBefore, NoneBefore, AllAfter, NoneAfter};
 ghost use Rattle.columns.specs.Runs.{run_number, row_starts, AreRuns};
 ghost use Rattle.columns.specs.Tables.{last_row};
@@ -33,7 +33,8 @@ use update::{Refusal, Update};
 
 /// A list of updates, column by column. A contract sees the list of the updates.
 ///
-/// Cost: a time and 8 bytes for each update; for each run 9 bytes, and 8 for each column of its row.
+/// Cost: a time and 8 bytes for each update; for each run 9 bytes, and 8 for each column of its
+/// row.
 pub struct Columns<T> {
     times: Vec<T>,
     diffs: Vec<i64>,
@@ -77,7 +78,7 @@ fn start_run(
     ensures stored { OnOk result (rows.new ≡ rows.old ++ row.now ∷ []) }
     ensures same { OnErr result (starts.new.items ≡ starts.old.items) }
     ensures unchanged { OnErr result (rows.new ≡ rows.old) }
-    ensures refused { IfErr result (λ refusal. refusal ≡ OutOfMemory) }
+    ensures refused { OnlyMemory result }
 {
     starts.reserve(1)?;
     rows.push(row)?;
@@ -99,7 +100,7 @@ fn enter_run(
         ≡ rows.old ++ cond (same_row (last_row rows.old) row.now) [] (row.now ∷ [])) }
     ensures same { OnErr result (starts.new.items ≡ starts.old.items) }
     ensures unchanged { OnErr result (rows.new ≡ rows.old) }
-    ensures refused { IfErr result (λ refusal. refusal ≡ OutOfMemory) }
+    ensures refused { OnlyMemory result }
 {
     if rows.ends_with(row.columns()) {
         return Ok(());
@@ -124,7 +125,7 @@ impl<T: Lattice> Columns<T> {
     /// No updates, with room for so many in so many runs. Refused only with `OutOfMemory`.
     pub fn with_capacity(alloc: Global, updates: usize, runs: usize) -> Result<Columns<T>, Refusal>
         ensures none { IfOk result (λ columns. columns ≡ []) }
-        ensures refused { IfErr result (λ refusal. refusal ≡ OutOfMemory) }
+        ensures refused { OnlyMemory result }
     {
         let times = Vec::with_capacity(alloc, updates)?;
         let diffs = Vec::with_capacity(alloc, updates)?;
@@ -143,7 +144,7 @@ impl<T: Lattice> Columns<T> {
     pub fn push(&mut self, update: &Update<T>) -> Result<(), Refusal>
         ensures more { OnOk result (self.new ≡ self.old ++ update.now ∷ []) }
         ensures same { OnErr result (self.new ≡ self.old) }
-        ensures refused { IfErr result (λ refusal. refusal ≡ OutOfMemory) }
+        ensures refused { OnlyMemory result }
     {
         self.push_row(&update.row, update.time, update.diff)
     }
@@ -156,7 +157,7 @@ impl<T: Lattice> Columns<T> {
           diff = diff;
         } ∷ []) }
         ensures same { OnErr result (self.new ≡ self.old) }
-        ensures refused { IfErr result (λ refusal. refusal ≡ OutOfMemory) }
+        ensures refused { OnlyMemory result }
     {
         row.known();
         self.times.reserve(1)?;
@@ -178,7 +179,7 @@ impl<T: Lattice> Columns<T> {
             → slice_get self.old (length self.old - 1) ≡ Some u
             → self.new ≡ self.old ++ record { time = at; row = u.row; diff = diff } ∷ []) }
         ensures same { OnErr result (self.new ≡ self.old) }
-        ensures refused { IfErr result (λ refusal. refusal ≡ OutOfMemory) }
+        ensures refused { OnlyMemory result }
     {
         self.times.reserve(1)?;
         self.diffs.reserve(1)?;

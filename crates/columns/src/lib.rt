@@ -3,8 +3,8 @@
 //! A sealed batch has its updates in order of row, then time. So the updates of a row are
 //! neighbours, and a list of plain updates would hold the same row again and again. [`Columns`]
 //! stores it once. The times are in one list, the differences in another, and a third list has the
-//! places where a row begins. At times of 16 bytes an update takes 24 bytes, and a row takes 9 bytes
-//! and 8 for each of its columns.
+//! places where a row begins. At times of 16 bytes an update takes 24 bytes, and a row takes 9
+//! bytes and 8 for each of its columns.
 //!
 //! A contract sees a list of updates and nothing of all this. A caller that pushes or reads an
 //! update need not know how it is kept. A writer that knows that the next update has the row of the
@@ -27,9 +27,9 @@
 
 mod column;
 mod columns;
+mod key_search;
 mod list;
 mod runs;
-mod seeking;
 mod table;
 
 pub use columns::Columns;

@@ -4,9 +4,10 @@
 //! gives many updates of few rows, or more than it takes, gives them column by column: so they take
 //! half the memory or less while they wait. A list has one of the two forms, and a contract sees
 //! neither. A caller that wants the updates one by one asks for a vector: that copies a list of
-//! columns, and moves any other one. A caller that collects columns gets a list of columns without a
-//! copy if it has none yet. One that reads a list without taking it looks at its form.
+//! columns, and moves any other one. A caller that collects columns gets a list of columns without
+//! a copy if it has none yet. One that reads a list without taking it looks at its form.
 ghost use Rattle.std.specs.Prelude.{◌≡◌, ◌<◌, ◌++◌, length, slice_get, IfErr, IfOk, IsSomeAnd, OnErr, OnOk};
+ghost use Rattle.update.specs.Refusals.{OnlyMemory};
 ghost use Rattle.update.specs.declared.refusal.Refusal.TheVariants.{OutOfMemory};
 ghost use Rattle.columns.specs.Lists.{listed};
 
@@ -86,7 +87,7 @@ impl<T: Lattice> UpdateList<T> {
     pub fn take_vec(&mut self, alloc: Global) -> Result<Vec<Update<T>>, Refusal>
         ensures updates { IfOk result (λ updates. updates.items ≡ self.old) }
         ensures same { OnErr result (self.new ≡ self.old) }
-        ensures refused { IfErr result (λ refusal. refusal ≡ OutOfMemory) }
+        ensures refused { OnlyMemory result }
     {
         if let Form::Plain(updates) = &mut self.form {
             return Ok(mem::replace(updates, Vec::new(alloc)));
@@ -110,7 +111,7 @@ impl<T: Lattice> UpdateList<T> {
     /// Cost: one step for each column of each row.
     pub fn to_vec(&self, alloc: Global) -> Result<Vec<Update<T>>, Refusal>
         ensures copied { IfOk result (λ list. list.items ≡ self.now) }
-        ensures refused { IfErr result (λ refusal. refusal ≡ OutOfMemory) }
+        ensures refused { OnlyMemory result }
     {
         match &self.form {
             Form::Plain(updates) => copies_of(alloc, updates.as_slice()),
@@ -123,7 +124,7 @@ impl<T: Lattice> UpdateList<T> {
     /// Cost: linear in the updates. Columns are copied as they stand.
     pub fn copy(&self, alloc: Global) -> Result<UpdateList<T>, Refusal>
         ensures copied { IfOk result (λ copy. copy ≡ self.now) }
-        ensures refused { IfErr result (λ refusal. refusal ≡ OutOfMemory) }
+        ensures refused { OnlyMemory result }
     {
         match &self.form {
             Form::Plain(updates) => Ok(copies_of(alloc, updates.as_slice())?.into()),
@@ -138,7 +139,7 @@ impl<T: Lattice> UpdateList<T> {
     pub fn append_to(&self, others: &mut Columns<T>) -> Result<(), Refusal>
         ensures more { OnOk result (others.new ≡ others.old ++ self.now) }
         ensures same { OnErr result (others.new ≡ others.old) }
-        ensures refused { IfErr result (λ refusal. refusal ≡ OutOfMemory) }
+        ensures refused { OnlyMemory result }
     {
         match &self.form {
             Form::Plain(updates) => others.append(updates.as_slice()),
@@ -155,7 +156,7 @@ impl<T: Lattice> UpdateList<T> {
         ensures more { OnOk result (others.new ≡ others.old ++ self.old) }
         ensures same { OnErr result (others.new ≡ others.old) }
         ensures left { OnErr result (self.new ≡ self.old) }
-        ensures refused { IfErr result (λ refusal. refusal ≡ OutOfMemory) }
+        ensures refused { OnlyMemory result }
     {
         if let Form::Packed(columns) = &mut self.form {
             others.take_columns(columns)?;
@@ -168,7 +169,7 @@ impl<T: Lattice> UpdateList<T> {
 // Copies of updates.
 fn copies_of<T: Lattice>(alloc: Global, updates: &[Update<T>]) -> Result<Vec<Update<T>>, Refusal>
     ensures copied { IfOk result (λ copies. copies.items ≡ updates.now) }
-    ensures refused { IfErr result (λ refusal. refusal ≡ OutOfMemory) }
+    ensures refused { OnlyMemory result }
 {
     let mut copies = Vec::with_capacity(alloc, updates.len())?;
     for update in updates {
@@ -180,7 +181,7 @@ fn copies_of<T: Lattice>(alloc: Global, updates: &[Update<T>]) -> Result<Vec<Upd
 // A copy of columns, as a list.
 fn packed_copy<T: Lattice>(alloc: Global, columns: &Columns<T>) -> Result<UpdateList<T>, Refusal>
     ensures copied { IfOk result (λ copy. copy ≡ columns.now) }
-    ensures refused { IfErr result (λ refusal. refusal ≡ OutOfMemory) }
+    ensures refused { OnlyMemory result }
 {
     let copy = columns.to_columns(alloc)?;
     match UpdateList::packed(alloc, copy) {

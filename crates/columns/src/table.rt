@@ -1,13 +1,13 @@
-//! Rows, column by column. A comparison with a short key reads only the columns of the key, and they
-//! lie side by side for all rows. A column that no row has does not exist.
+//! Rows, column by column. A comparison with a short key reads only the columns of the key, and
+//! they lie side by side for all rows. A column that no row has does not exist.
 //!
 //! Rows of several widths may stand in one table. Each column has an item for each row, and 0 where
 //! the row is too short; the width of the row says which items are its own.
-ghost use Rattle.std.specs.Prelude.{◌≡◌, ◌<◌, ◌≤◌, ◌++◌, ◌∷◌, [], ℕ, pos, take, length, slice_index_or, IfOk, IfErr, OnOk, OnErr};
+ghost use Rattle.std.specs.Prelude.{◌≡◌, ◌<◌, ◌≤◌, ◌++◌, ◌∷◌, [], ℕ, pos, take, length, slice_index_or, IfOk, OnOk, OnErr};
 ghost use Rattle.std.specs.Cmp.Lexicographic.{slice_cmp};
 ghost use Rattle.std.specs.List.{All};
 ghost use Rattle.std.specs.Ordering.{int_cmp};
-ghost use Rattle.update.specs.declared.refusal.Refusal.TheVariants.{OutOfMemory};
+ghost use Rattle.update.specs.Refusals.{OnlyMemory};
 ghost use Rattle.update.specs.Bags.{same_row};
 ghost use Rattle.columns.specs.Tables.{row_at, last_row};
 
@@ -43,7 +43,7 @@ fn widen(columns: &mut Vec<Column>, width: usize, height: usize, room: usize) ->
     ensures same { take (length columns.old.items) columns.new.items ≡ columns.old.items }
     ensures more { length columns.old.items ≤ length columns.new.items }
     ensures wide { OnOk result (width ≤ length columns.new.items) }
-    ensures refused { IfErr result (λ refusal. refusal ≡ OutOfMemory) }
+    ensures refused { OnlyMemory result }
 {
     let alloc = *columns.allocator();
     while columns.len() < width {
@@ -69,7 +69,7 @@ fn put_row(columns: &mut Vec<Column>, height: usize, row: &[i64]) -> Result<(), 
     ensures longer { OnOk result (All (λ column. height < length column) columns.new.items) }
     ensures put { OnOk result (length row.now ≤ length columns.old.items
         → row_at columns.new.items height (length row.now) ≡ row.now) }
-    ensures refused { IfErr result (λ refusal. refusal ≡ OutOfMemory) }
+    ensures refused { OnlyMemory result }
 {
     for i in 0..columns.len() {
         columns[i].put(height, item_or_zero(row, i))?;
@@ -80,7 +80,7 @@ fn put_row(columns: &mut Vec<Column>, height: usize, row: &[i64]) -> Result<(), 
 // Copies of columns. Refused only with `OutOfMemory`.
 fn copies_of(alloc: Global, columns: &[Column]) -> Result<Vec<Column>, Refusal>
     ensures copied { IfOk result (λ copies. copies.items ≡ columns.now) }
-    ensures refused { IfErr result (λ refusal. refusal ≡ OutOfMemory) }
+    ensures refused { OnlyMemory result }
 {
     let mut copies = Vec::with_capacity(alloc, columns.len())?;
     for column in columns {
@@ -113,7 +113,7 @@ impl Table {
     /// Refused only with `OutOfMemory`.
     pub(crate) fn with_capacity(alloc: Global, rows: usize) -> Result<Table, Refusal>
         ensures none { IfOk result (λ table. table ≡ []) }
-        ensures refused { IfErr result (λ refusal. refusal ≡ OutOfMemory) }
+        ensures refused { OnlyMemory result }
     {
         let widths = Vec::with_capacity(alloc, rows)?;
         Ok(Table {
@@ -125,7 +125,7 @@ impl Table {
     /// A copy of all rows, with no more memory than they need. Refused only with `OutOfMemory`.
     pub(crate) fn copy(&self, alloc: Global) -> Result<Table, Refusal>
         ensures copied { IfOk result (λ copy. copy ≡ self.now) }
-        ensures refused { IfErr result (λ refusal. refusal ≡ OutOfMemory) }
+        ensures refused { OnlyMemory result }
     {
         let columns = copies_of(alloc, self.columns.as_slice())?;
         let widths = Vec::from_slice(alloc, self.widths.as_slice())?;
@@ -143,7 +143,7 @@ impl Table {
     pub(crate) fn push(&mut self, row: &Row) -> Result<(), Refusal>
         ensures more { OnOk result (self.new ≡ self.old ++ row.now ∷ []) }
         ensures same { OnErr result (self.new ≡ self.old) }
-        ensures refused { IfErr result (λ refusal. refusal ≡ OutOfMemory) }
+        ensures refused { OnlyMemory result }
     {
         let height = self.widths.len();
         let columns = row.columns();
@@ -185,7 +185,7 @@ impl Table {
         ensures width { IfOk result (λ width. width ≡ length (slice_index_or self.now number [])) }
         ensures some { IfOk result (λ width. 1 ≤ width) }
         ensures few { IfOk result (λ width. width ≤ 8) }
-        ensures refused { IfErr result (λ refusal. refusal ≡ OutOfMemory) }
+        ensures refused { OnlyMemory result }
     {
         let width = self.widths[number] as usize;
         for i in 0..width {

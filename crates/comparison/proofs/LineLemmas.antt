@@ -8,7 +8,7 @@ use Rattle.output.specs.Outs.{Wrote, Broke}
 use Rattle.update.specs.Bags.{Entry}
 use Rattle.comparison.specs.declared.change.Change.{Change}
 use Rattle.comparison.specs.Differences.{is_removal, is_addition, change_text}
-use Rattle.comparison.specs.Merging.{merged}
+use Rattle.comparison.specs.Merges.{merged}
 use Rattle.comparison.proofs.MergeLemmas.{removals_fit, additions_fit}
 use Rattle.output.proofs.OutLemmas.{InTurn, wrote_in_turn, broke_more}
 

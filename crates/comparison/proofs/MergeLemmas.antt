@@ -1,5 +1,5 @@
--- One step of the merge, from what the code has tested; and how many lines with a minus and a plus a
--- merge has at most.
+-- One step of the merge, from what the code has tested; and how many lines with a minus and a plus
+-- a merge has at most.
 use Rattle.std.proofs.Common.{◌≡◌, ℕ, zero, suc, ◌+◌, ◌<◌, ◌≤◌, Bool, true, false, cond, not, ◌&&◌, List, [], ◌∷◌, length, drop, slice_get, ℤ, refl, sym, ◌∙◌, ap, add-one, arith}
 use Rattle.std.proofs.lemmas.List.{drop_all}
 use Rattle.std.proofs.lemmas.List.Sums.{sum_by-cons}
@@ -12,7 +12,7 @@ use Rattle.std.specs.declared.cmp.Ordering.TheVariants.{Less, Equal, Greater}
 use Rattle.update.specs.Bags.{Entry}
 use Rattle.comparison.specs.declared.change.Change.{Change}
 use Rattle.comparison.specs.Differences.{is_removal, is_addition}
-use Rattle.comparison.specs.Merging.{only_before, only_after, in_both, heads_order, by_order, merged}
+use Rattle.comparison.specs.Merges.{only_before, only_after, in_both, heads_order, by_order, merged}
 
 -- the element at an index comes first in what is left from there on
 first_left : {X : Type 0} (P : X → Type 0) (xs : List X) (i : ℕ) → IsSomeAnd (slice_get xs i) P → (x : X) × (drop i xs ≡ x ∷ drop (suc i) xs) × P x

@@ -16,7 +16,7 @@ use Rattle.update.specs.Bags.{same_row, Entry, IsBag, count_of}
 use Rattle.update.proofs.BagLemmas.{count_absent, count_at, equal_rows}
 use Rattle.comparison.specs.declared.change.Change.{Change}
 use Rattle.comparison.specs.Differences.{AreRowsOfEither, change_of}
-use Rattle.comparison.specs.Merging.{only_before, only_after, in_both, by_order, merged}
+use Rattle.comparison.specs.Merges.{only_before, only_after, in_both, by_order, merged}
 
 -- ---- rows
 

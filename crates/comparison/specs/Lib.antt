@@ -1,2 +1,2 @@
 pub mod Differences
-pub mod Merging
+pub mod Merges

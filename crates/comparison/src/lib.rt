@@ -18,8 +18,8 @@
 
 mod change;
 mod laws;
+mod lines;
 mod merge;
-mod printing;
 
 pub use laws::rows_are_determined;
-pub use printing::write_difference;
+pub use lines::write_difference;

@@ -2,7 +2,7 @@
 //! lesser of two, and a row that both have comes up in both at once.
 ghost use Rattle.std.specs.Prelude.{◌≡◌, ◌≢◌, ◌^◌, ◌≤◌, ◌<◌, [], ◌∷◌, length, drop, slice_get, IfNone, IfSome, IsSomeAnd, MatchOption};
 ghost use Rattle.std.specs.declared.cmp.Ordering.TheVariants.{Less, Greater};
-ghost use Rattle.comparison.specs.Merging.{heads_order, only_before, only_after, in_both, remaining};
+ghost use Rattle.comparison.specs.Merges.{heads_order, only_before, only_after, in_both, remaining};
 
 use crate::change::Change;
 use std::cmp::Ordering;

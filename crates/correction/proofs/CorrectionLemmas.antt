@@ -20,6 +20,7 @@ use Rattle.update.proofs.TotalLemmas.{fits_zero}
 use Rattle.joined_times.specs.Joined.{of_key}
 use Rattle.reducer.specs.Refusals.{HasLargeSum}
 use Rattle.correction.specs.Corrections.{IsTooLarge, put, had}
+use Rattle.lattice.specs.Times.{Times}
 
 -- ---- sizes
 
@@ -112,34 +113,34 @@ size_right n us vs h =
 
 -- ---- what is wanted less what was given
 
-module _ {T : Type 0} (below : T → T → Bool) (k : ℕ) (key : List ℤ) where
-  pub as_of-keyed : (t : T) (us : List (Update T)) → as_of below t (filter (of_key k key) us) ≡ filter (has_key k key) (as_of below t us)
+module _ {T : Type 0} (times : Times T) (k : ℕ) (key : List ℤ) where
+  pub as_of-keyed : (t : T) (us : List (Update T)) → as_of times t (filter (of_key k key) us) ≡ filter (has_key k key) (as_of times t us)
   as_of-keyed t [] = refl
-  as_of-keyed t (u ∷ us) = step (same_row (take k u.row) key) refl (below u.time t) refl (as_of-keyed t us)
+  as_of-keyed t (u ∷ us) = step (same_row (take k u.row) key) refl (times.below u.time t) refl (as_of-keyed t us)
     where
-      step : (c : Bool) → same_row (take k u.row) key ≡ c → (b : Bool) → below u.time t ≡ b → as_of below t (filter (of_key k key) us) ≡ filter (has_key k key) (as_of below t us)
-          → as_of below t (cond c (u ∷ filter (of_key k key) us) (filter (of_key k key) us)) ≡ filter (has_key k key) (map entry (cond b (u ∷ filter (λ v. below v.time t) us) (filter (λ v. below v.time t) us)))
+      step : (c : Bool) → same_row (take k u.row) key ≡ c → (b : Bool) → times.below u.time t ≡ b → as_of times t (filter (of_key k key) us) ≡ filter (has_key k key) (as_of times t us)
+          → as_of times t (cond c (u ∷ filter (of_key k key) us) (filter (of_key k key) us)) ≡ filter (has_key k key) (map entry (cond b (u ∷ filter (λ v. times.below v.time t) us) (filter (λ v. times.below v.time t) us)))
       step true e true f h = rw (f, e) (ap (λ z. entry u ∷ z) h)
       step true e false f h = rw f h
       step false e true f h = rw e h
       step false e false f h = h
 
   -- of a row of the key, what was given
-  pub count-had : (t : T) (us : List (Update T)) (row : List ℤ) → same_row (take k row) key ≡ true → count_of (had below k key t us) row ≡ count_of (as_of below t us) row
-  count-had t us row d = count_of-filter (λ r. same_row (take k r) key) (as_of below t us) row ∙ ap (λ b. cond b (count_of (as_of below t us) row) (pos 0)) d
+  pub count-had : (t : T) (us : List (Update T)) (row : List ℤ) → same_row (take k row) key ≡ true → count_of (had times k key t us) row ≡ count_of (as_of times t us) row
+  count-had t us row d = count_of-filter (λ r. same_row (take k r) key) (as_of times t us) row ∙ ap (λ b. cond b (count_of (as_of times t us) row) (pos 0)) d
 
-  pub had-alike : (t : T) (us vs : List (Update T)) → Alike (as_of below t us) (as_of below t vs) → Alike (had below k key t us) (had below k key t vs)
+  pub had-alike : (t : T) (us vs : List (Update T)) → Alike (as_of times t us) (as_of times t vs) → Alike (had times k key t us) (had times k key t vs)
   had-alike t us vs h row =
-      count_of-filter (λ r. same_row (take k r) key) (as_of below t us) row
-      ∙ (ap (λ z. cond (same_row (take k row) key) z (pos 0)) (h row) ∙ sym (count_of-filter (λ r. same_row (take k r) key) (as_of below t vs) row))
+      count_of-filter (λ r. same_row (take k r) key) (as_of times t us) row
+      ∙ (ap (λ z. cond (same_row (take k row) key) z (pos 0)) (h row) ∙ sym (count_of-filter (λ r. same_row (take k r) key) (as_of times t vs) row))
 
-  pub as_of-put : (t : T) → below t t ≡ true → (es : List Entry) → as_of below t (put t es) ≡ es
+  pub as_of-put : (t : T) → times.below t t ≡ true → (es : List Entry) → as_of times t (put t es) ≡ es
   as_of-put t o [] = refl
   as_of-put t o (e ∷ es) = rw o (ap (λ z. e ∷ z) (as_of-put t o es))
 
-  total-put : (t s : T) (row : List ℤ) (es : List Entry) → total_at below row s (put t es) ≡ cond (below t s && below s t) (count_of es row) (pos 0)
-  total-put t s row [] = sym (when_zero (below t s && below s t))
-  total-put t s row (e ∷ es) = rw (total-put t s row es) (step (same_row e.row row) (below t s && below s t))
+  total-put : (t s : T) (row : List ℤ) (es : List Entry) → total_at times row s (put t es) ≡ cond (times.below t s && times.below s t) (count_of es row) (pos 0)
+  total-put t s row [] = sym (when_zero (times.below t s && times.below s t))
+  total-put t s row (e ∷ es) = rw (total-put t s row es) (step (same_row e.row row) (times.below t s && times.below s t))
     where
       step : (c b : Bool) → cond (c && b) e.count (pos 0) +ℤ cond b (count_of es row) (pos 0) ≡ cond b (cond c e.count (pos 0) +ℤ count_of es row) (pos 0)
       step true true = refl
@@ -159,7 +160,7 @@ module _ {T : Type 0} (below : T → T → Bool) (k : ℕ) (key : List ℤ) wher
       step false e2 w h = rw h refl
 
   abbrev pub change : List Entry → T → List (Update T) → List Entry
-  change want t given = want ++ map negated_entry (had below k key t given)
+  change want t given = want ++ map negated_entry (had times k key t given)
 
   pub keyed-filtered : (es : List Entry) → IsTrue (list_all (has_key k key) (map negated_entry (filter (has_key k key) es)))
   keyed-filtered [] = refl
@@ -174,30 +175,30 @@ module _ {T : Type 0} (below : T → T → Bool) (k : ℕ) (key : List ℤ) wher
   all-append p (x ∷ xs) ys a b = let h = and_parts (p x) (list_all p xs) a in and_from (p x) (list_all p (xs ++ ys)) h.0 (all-append p xs ys h.1 b)
 
   pub change-keyed : (want : List Entry) (t : T) (given : List (Update T)) → IsTrue (list_all (has_key k key) want) → IsTrue (list_all (has_key k key) (change want t given))
-  change-keyed want t given a = all-append (has_key k key) want (map negated_entry (had below k key t given)) a (keyed-filtered (as_of below t given))
+  change-keyed want t given a = all-append (has_key k key) want (map negated_entry (had times k key t given)) a (keyed-filtered (as_of times t given))
 
-  pub change-count : (want : List Entry) (t : T) (given : List (Update T)) (row : List ℤ) → same_row (take k row) key ≡ true → count_of (change want t given) row ≡ count_of want row +ℤ neg_ℤ (count_of (as_of below t given) row)
+  pub change-count : (want : List Entry) (t : T) (given : List (Update T)) (row : List ℤ) → same_row (take k row) key ≡ true → count_of (change want t given) row ≡ count_of want row +ℤ neg_ℤ (count_of (as_of times t given) row)
   change-count want t given row d =
-      count_of-append want (map negated_entry (had below k key t given)) row
-      ∙ ap (λ z. count_of want row +ℤ z) (count_of-negated_entry (had below k key t given) row ∙ ap neg_ℤ (count-had t given row d))
+      count_of-append want (map negated_entry (had times k key t given)) row
+      ∙ ap (λ z. count_of want row +ℤ z) (count_of-negated_entry (had times k key t given) row ∙ ap neg_ℤ (count-had t given row d))
 
   -- where a total of a draft of the change is too large, it is that of a row of the key
-  pub large_draft : (es fs : List Entry) (t : T) → Alike es fs → IsTrue (list_all (has_key k key) fs) → HasLargeTotal below (put t es) → (row : List ℤ) × (same_row (take k row) key ≡ true) × (FitsSigned w64 (count_of es row) → ⊥)
-  large_draft es fs t same a h = step (same_row (take k h.0) key) refl (below t h.1 && below h.1 t) refl
+  pub large_draft : (es fs : List Entry) (t : T) → Alike es fs → IsTrue (list_all (has_key k key) fs) → HasLargeTotal times (put t es) → (row : List ℤ) × (same_row (take k row) key ≡ true) × (FitsSigned w64 (count_of es row) → ⊥)
+  large_draft es fs t same a h = step (same_row (take k h.0) key) refl (times.below t h.1 && times.below h.1 t) refl
     where
-      large : FitsSigned w64 (cond (below t h.1 && below h.1 t) (count_of es h.0) (pos 0)) → ⊥
+      large : FitsSigned w64 (cond (times.below t h.1 && times.below h.1 t) (count_of es h.0) (pos 0)) → ⊥
       large f = h.2 (subst (FitsSigned w64) (sym (total-put t h.1 h.0 es)) f)
 
-      step : (d : Bool) → same_row (take k h.0) key ≡ d → (b : Bool) → (below t h.1 && below h.1 t) ≡ b → (row : List ℤ) × (same_row (take k row) key ≡ true) × (FitsSigned w64 (count_of es row) → ⊥)
+      step : (d : Bool) → same_row (take k h.0) key ≡ d → (b : Bool) → (times.below t h.1 && times.below h.1 t) ≡ b → (row : List ℤ) × (same_row (take k row) key ≡ true) × (FitsSigned w64 (count_of es row) → ⊥)
       step d e false f = absurd (large (subst (λ b. FitsSigned w64 (cond b (count_of es h.0) (pos 0))) (sym f) fits_zero))
       step true e true f = (h.0, e, λ g. large (subst (λ b. FitsSigned w64 (cond b (count_of es h.0) (pos 0))) (sym f) g))
       step false e true f = absurd (large (subst (λ b. FitsSigned w64 (cond b (count_of es h.0) (pos 0))) (sym f) (subst (FitsSigned w64) (sym (same h.0 ∙ count-elsewhere fs a h.0 e)) fits_zero)))
 
   abbrev pub at_key : T → List ℤ → T → Bool
-  at_key t row s = same_row (take k row) key && (below s t && below t s)
+  at_key t row s = same_row (take k row) key && (times.below s t && times.below t s)
 
-  pub put-at : (t : T) → below t t ≡ true → (es : List Entry) → IsTrue (list_all (has_key k key) es) → IsTrue (list_all (λ u. at_key t u.row u.time) (put t es))
+  pub put-at : (t : T) → times.below t t ≡ true → (es : List Entry) → IsTrue (list_all (has_key k key) es) → IsTrue (list_all (λ u. at_key t u.row u.time) (put t es))
   put-at t o [] a = refl
   put-at t o (e ∷ es) a =
       let h = and_parts (same_row (take k e.row) key) (list_all (has_key k key) es) a in
-      and_from (at_key t e.row t) (list_all (λ u. at_key t u.row u.time) (put t es)) (and_from (same_row (take k e.row) key) (below t t && below t t) h.0 (and_from (below t t) (below t t) o o)) (put-at t o es h.1)
+      and_from (at_key t e.row t) (list_all (λ u. at_key t u.row u.time) (put t es)) (and_from (same_row (take k e.row) key) (times.below t t && times.below t t) h.0 (and_from (times.below t t) (times.below t t) o o)) (put-at t o es h.1)

@@ -11,6 +11,7 @@ use Rattle.std.specs.Ordering.{int_cmp}
 use Rattle.std.proofs.lemmas.Int.{ints}
 use Rattle.std.proofs.lemmas.List.{append-nil, map-append, take_more}
 use Rattle.std.proofs.Math.IntN.{ℤ, pos, ◌+ℤ◌, neg_ℤ}
+use Rattle.lattice.specs.Times.{Times}
 use Rattle.lattice.specs.Order.{PartialOrderLaws}
 use Rattle.update.specs.Bags.{Entry, Alike, count_of, same_row, entry_of}
 use Rattle.update.specs.Updates.{entry, as_of}
@@ -131,23 +132,23 @@ module _ {T : Type 0} (t : T) where
       (p.0, p.1, λ row. ap (λ z. count_of z row) (sym (append-nil p.0) ∙ ap (λ z. p.0 ++ map negated_entry z) (sym (none_left bag i end))) ∙ p.2 row)
 
   -- one more update was taken back
-  pub given_more : (below : T → T → Bool) (a b c : List (Update T)) (given : List (Update T)) (i : ℕ) (u : Update T) → i < length given → u ≡ get_or given i u
-      → Appends t a b (map negated_entry (as_of below t (take i given))) → Appends t b c (map negated_entry (as_of below t (u ∷ [])))
-      → Appends t a c (map negated_entry (as_of below t (take (i + 1) given)))
-  given_more below a b c given i u l e p q =
-      let before = as_of below t (take i given) in
-      let one = as_of below t (u ∷ []) in
-      let whole : as_of below t (take (i + 1) given) ≡ before ++ one =
-      ap (as_of below t) (take_more given i u l) ∙ (as_of-append below t (take i given) (get_or given i u ∷ []) ∙ ap (λ v. before ++ as_of below t (v ∷ [])) (sym e)) in
+  pub given_more : (times : Times T) (a b c : List (Update T)) (given : List (Update T)) (i : ℕ) (u : Update T) → i < length given → u ≡ get_or given i u
+      → Appends t a b (map negated_entry (as_of times t (take i given))) → Appends t b c (map negated_entry (as_of times t (u ∷ [])))
+      → Appends t a c (map negated_entry (as_of times t (take (i + 1) given)))
+  given_more times a b c given i u l e p q =
+      let before = as_of times t (take i given) in
+      let one = as_of times t (u ∷ []) in
+      let whole : as_of times t (take (i + 1) given) ≡ before ++ one =
+      ap (as_of times t) (take_more given i u l) ∙ (as_of-append times t (take i given) (get_or given i u ∷ []) ∙ ap (λ v. before ++ as_of times t (v ∷ [])) (sym e)) in
       subst (Appends t a c) (sym (ap (map negated_entry) whole ∙ map-append negated_entry before one))
       (appends_then a b c (map negated_entry before) (map negated_entry one) p q)
 
   -- an update that is not there at the time takes nothing back, any other one its row
-  pub none_there : (below : T → T → Bool) (a : List (Update T)) (u : Update T) → below u.time t ≡ false → Appends t a a (map negated_entry (as_of below t (u ∷ [])))
-  none_there below a u h = rw h (appends_none a)
+  pub none_there : (times : Times T) (a : List (Update T)) (u : Update T) → times.below u.time t ≡ false → Appends t a a (map negated_entry (as_of times t (u ∷ [])))
+  none_there times a u h = rw h (appends_none a)
 
-  pub one_there : (below : T → T → Bool) (a b : List (Update T)) (u : Update T) → below u.time t ≡ true → Appends t a b (entry_of u.row (neg_ℤ u.diff) ∷ []) → Appends t a b (map negated_entry (as_of below t (u ∷ [])))
-  one_there below a b u h p = rw h p
+  pub one_there : (times : Times T) (a b : List (Update T)) (u : Update T) → times.below u.time t ≡ true → Appends t a b (entry_of u.row (neg_ℤ u.diff) ∷ []) → Appends t a b (map negated_entry (as_of times t (u ∷ [])))
+  one_there times a b u h p = rw h p
 
 -- the row of an entry taken back is the entry taken back
 pub entry_back : {T : Type 0} (t : T) (a b : List (Update T)) (bag : List Entry) (i : ℕ) (row : List ℤ) (n : ℤ) → IsSomeAnd (slice_get bag i) (λ e. row ≡ e.row) → IsSomeAnd (slice_get bag i) (λ e. n ≡ e.count)
@@ -296,34 +297,34 @@ entries_at want had i j P h = let r = entry_at want i h in let q = entry_at had 
 
 -- ---- drafts
 
-module _ {T : Type 0} {below : T → T → Bool} (o : PartialOrderLaws below) (t : T) (want : List Entry) (given : List (Update T)) where
+module _ {T : Type 0} {times : Times T} (o : PartialOrderLaws times) (t : T) (want : List Entry) (given : List (Update T)) where
   abbrev taken_back : List (Update T) → List Entry
-  taken_back us = map negated_entry (as_of below t us)
+  taken_back us = map negated_entry (as_of times t us)
 
-  count-taken_back : (us : List (Update T)) (row : List ℤ) → count_of (taken_back us) row ≡ neg_ℤ (count_of (as_of below t us) row)
-  count-taken_back us row = count_of-negated_entry (as_of below t us) row
+  count-taken_back : (us : List (Update T)) (row : List ℤ) → count_of (taken_back us) row ≡ neg_ℤ (count_of (as_of times t us) row)
+  count-taken_back us row = count_of-negated_entry (as_of times t us) row
 
   -- all that is wanted, and all that was given taken back
-  pub whole : (a b c : List (Update T)) → a ≡ [] → b ≡ a ++ put t want → Appends t b c (taken_back given) → IsDraft below t want given c
+  pub whole : (a b c : List (Update T)) → a ≡ [] → b ≡ a ++ put t want → Appends t b c (taken_back given) → IsDraft times t want given c
   whole a b c n p q =
       let r = appends_then t [] b c want (taken_back given) (appends_put t [] b want (p ∙ ap (λ z. z ++ put t want) n)) q in
       record { entries = r.0; draft_is = r.1; adds_up = r.2 }
 
   -- what changed in the answer, and what was given in between taken back
-  module _ (a : T) (h : below a t ≡ true) (answer : List Entry) (same : Alike answer (as_of below a given)) where
+  module _ (a : T) (h : times.below a t ≡ true) (answer : List Entry) (same : Alike answer (as_of times a given)) where
     abbrev since : List (Update T)
-    since = between below a t given
+    since = between times a t given
 
     gone : (row : List ℤ) → count_of (taken_back since) row ≡ neg_ℤ (count_of (map entry since) row)
     gone row = count-taken_back since row ∙ ap (λ z. neg_ℤ (count_of z row)) (as_of-between o a t given)
 
-    pub since_last : (n b c : List (Update T)) → n ≡ [] → Appends t n b (want ++ map negated_entry answer) → Appends t b c (taken_back since) → IsDraft below t want given c
+    pub since_last : (n b c : List (Update T)) → n ≡ [] → Appends t n b (want ++ map negated_entry answer) → Appends t b c (taken_back since) → IsDraft times t want given c
     since_last n b c m p q = record {
       entries = es ++ q.0;
       draft_is = put_then t [] b c es q.0 (p.1 ∙ ap (λ z. z ++ put t es) m) q.1;
       adds_up = λ row.
           let w = count_of want row in
-          let g = count_of (as_of below a given) row in
+          let g = count_of (as_of times a given) row in
           let x = count_of (map entry since) row in
           let changed : count_of es row ≡ w +ℤ neg_ℤ g =
           p.2 row ∙ (count_of-append want (map negated_entry answer) row ∙ ap (λ z. w +ℤ z) (count_of-negated_entry answer row ∙ ap neg_ℤ (same row))) in

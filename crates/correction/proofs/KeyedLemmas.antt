@@ -14,6 +14,7 @@ use Rattle.plan.specs.Reductions.{has_key}
 use Rattle.plan.proofs.CountLemmas.{row_same}
 use Rattle.joined_times.specs.Joined.{of_key}
 use Rattle.correction.specs.Corrections.{had}
+use Rattle.lattice.specs.Times.{Times}
 
 -- ---- entries
 
@@ -40,24 +41,24 @@ rows_pass p bag es is alike h = list_all-from_AllPass (λ (e : Entry). p e.row) 
     step i d l false e = absurd (All-from_recursion (λ (e : Entry). e.count ≢ pos 0) bag is.nonzero i d l
         (sym (count_at bag i d l is.ascending) ∙ (alike (get_or bag i d).row ∙ absent_row p es (get_or bag i d).row h e)))
 
-module _ {T : Type 0} (below : T → T → Bool) (k : ℕ) (key : List ℤ) where
+module _ {T : Type 0} (times : Times T) (k : ℕ) (key : List ℤ) where
   -- the sum of a key's updates has only rows of the key
-  pub own_sum : (t : T) (us : List (Update T)) → IsTrue (list_all (of_key k key) us) → IsTrue (list_all (has_key k key) (as_of below t us))
+  pub own_sum : (t : T) (us : List (Update T)) → IsTrue (list_all (of_key k key) us) → IsTrue (list_all (has_key k key) (as_of times t us))
   own_sum t [] h = refl
   own_sum t (u ∷ us) h =
       let p = and_parts (of_key k key u) (list_all (of_key k key) us) h in
-      step (below u.time t) p.0 (own_sum t us p.1)
+      step (times.below u.time t) p.0 (own_sum t us p.1)
     where
-      step : (b : Bool) → of_key k key u ≡ true → IsTrue (list_all (has_key k key) (as_of below t us)) → IsTrue (list_all (has_key k key) (map entry (cond b (u ∷ filter (λ v. below v.time t) us) (filter (λ v. below v.time t) us))))
-      step true e ih = and_from (has_key k key (entry u)) (list_all (has_key k key) (as_of below t us)) e ih
+      step : (b : Bool) → of_key k key u ≡ true → IsTrue (list_all (has_key k key) (as_of times t us)) → IsTrue (list_all (has_key k key) (map entry (cond b (u ∷ filter (λ v. times.below v.time t) us) (filter (λ v. times.below v.time t) us))))
+      step true e ih = and_from (has_key k key (entry u)) (list_all (has_key k key) (as_of times t us)) e ih
       step false e ih = ih
 
   all_kept : {X : Type 0} (p : X → Bool) (xs : List X) → IsTrue (list_all p xs) → filter p xs ≡ xs
   all_kept p [] h = refl
   all_kept p (x ∷ xs) h = let q = and_parts (p x) (list_all p xs) h in rw q.0 (ap (λ z. x ∷ z) (all_kept p xs q.1))
 
-  pub had_own : (t : T) (us : List (Update T)) → IsTrue (list_all (of_key k key) us) → had below k key t us ≡ as_of below t us
-  had_own t us h = all_kept (has_key k key) (as_of below t us) (own_sum t us h)
+  pub had_own : (t : T) (us : List (Update T)) → IsTrue (list_all (of_key k key) us) → had times k key t us ≡ as_of times t us
+  had_own t us h = all_kept (has_key k key) (as_of times t us) (own_sum t us h)
 
 module _ {T : Type 0} (k : ℕ) (key : List ℤ) where
   pub own_kept : (us : List (Update T)) → IsTrue (list_all (of_key k key) us) → filter (of_key k key) us ≡ us

@@ -9,7 +9,8 @@
 //!
 //! What is taken back may be -2^63, which has no opposite in 64 bits. It is put down in two parts.
 //! So a draft refuses no number: only the sum of its parts may be too large.
-ghost use Rattle.std.specs.Prelude.{◌≡◌, ◌≤◌, ◌<◌, ◌+◌, ◌++◌, ◌∷◌, [], ◌^◌, neg_ℤ, IfOk, IfErr, IfSome, IsSomeAnd, IsTrue, OnOk, List, drop, length, map, slice_get};
+ghost use Rattle.std.specs.Prelude.{◌≡◌, ◌≤◌, ◌<◌, ◌+◌, ◌++◌, ◌∷◌, [], ◌^◌, neg_ℤ, IfOk, IfSome, IsSomeAnd, IsTrue, OnOk, List, drop, length, map, slice_get};
+ghost use Rattle.update.specs.Refusals.{OnlyMemory};
 ghost use Rattle.update.specs.Bags.{Alike, Entry, entry_of};
 ghost use Rattle.update.specs.Updates.{as_of};
 ghost use Rattle.update.specs.declared.change.Update.{Update};
@@ -42,7 +43,7 @@ fn put_entry<T: Lattice>(
     requires { i < length bag.now }
     ensures put { OnOk result (IsSomeAnd (slice_get bag.now i)
         (λ e. out.new.items ≡ out.old.items ++ put time (e ∷ []))) }
-    ensures only { IfErr result (λ refused. refused ≡ Refusal.OutOfMemory) }
+    ensures only { OnlyMemory result }
 {
     out.push(Update {
         time,
@@ -61,7 +62,7 @@ fn put_row<T: Lattice>(
 ) -> Result<(), Refusal>
     ensures put { OnOk result
         (out.new.items ≡ out.old.items ++ put time (entry_of row.now count ∷ [])) }
-    ensures only { IfErr result (λ refused. refused ≡ Refusal.OutOfMemory) }
+    ensures only { OnlyMemory result }
 {
     out.push(Update {
         time,
@@ -80,7 +81,7 @@ fn put_opposite<T: Lattice>(
 ) -> Result<(), Refusal>
     ensures put { OnOk result (Appends time out.old.items out.new.items
         (entry_of row.now (neg_ℤ count) ∷ [])) }
-    ensures only { IfErr result (λ refused. refused ≡ Refusal.OutOfMemory) }
+    ensures only { OnlyMemory result }
 {
     let Some(opposite) = count.checked_neg() else {
         put_row(out, time, row, i64::MAX)?;
@@ -99,7 +100,7 @@ fn put_back_entry<T: Lattice>(
     requires { i < length bag.now }
     ensures put { OnOk result (IsSomeAnd (slice_get bag.now i)
         (λ e. Appends time out.old.items out.new.items (negated_entry e ∷ []))) }
-    ensures only { IfErr result (λ refused. refused ≡ Refusal.OutOfMemory) }
+    ensures only { OnlyMemory result }
 {
     put_opposite(out, time, bag.row(i), bag.count(i))
 }
@@ -113,7 +114,7 @@ fn put_rest<T: Lattice>(
 ) -> Result<(), Refusal>
     requires { start ≤ length bag.now }
     ensures put { OnOk result (out.new.items ≡ out.old.items ++ put time (drop start bag.now)) }
-    ensures only { IfErr result (λ refused. refused ≡ Refusal.OutOfMemory) }
+    ensures only { OnlyMemory result }
 {
     for i in start..bag.len() {
         put_entry(out, time, bag, i)?;
@@ -131,7 +132,7 @@ fn put_back_rest<T: Lattice>(
     requires { start ≤ length bag.now }
     ensures put { OnOk result (Appends time out.old.items out.new.items
         (map negated_entry (drop start bag.now))) }
-    ensures only { IfErr result (λ refused. refused ≡ Refusal.OutOfMemory) }
+    ensures only { OnlyMemory result }
 {
     for i in start..bag.len() {
         put_back_entry(out, time, bag, i)?;
@@ -166,7 +167,7 @@ fn put_difference<T: Lattice>(
         × (out.new.items ≡ out.old.items ++ put time entries)
         × Moves (drop i want.now) (drop j had.now) entries
         (drop (i + 1) want.now) (drop (j + 1) had.now)) }
-    ensures only { IfErr result (λ refused. refused ≡ Refusal.OutOfMemory) }
+    ensures only { OnlyMemory result }
 {
     if has_same_count(want, i, had, j) {
         return Ok(());
@@ -195,7 +196,7 @@ fn put_next<T: Lattice>(
         × (out.new.items ≡ out.old.items ++ put time entries)
         × Moves (drop at.want want.now) (drop at.had had.now) entries
         (drop next.want want.now) (drop next.had had.now)) }
-    ensures only { IfErr result (λ refused. refused ≡ Refusal.OutOfMemory) }
+    ensures only { OnlyMemory result }
 {
     let Cursors { want: i, had: j } = at;
     match want.row(i).cmp(had.row(j)) {
@@ -235,7 +236,7 @@ fn put_both<T: Lattice>(
     ensures moves { IfOk result (λ at. (entries : List Entry)
         × (out.new.items ≡ out.old.items ++ put time entries)
         × Moves want.now had.now entries (drop at.want want.now) (drop at.had had.now)) }
-    ensures only { IfErr result (λ refused. refused ≡ Refusal.OutOfMemory) }
+    ensures only { OnlyMemory result }
 {
     let mut at = Cursors { want: 0, had: 0 };
     while at.want < want.len() && at.had < had.len() {
@@ -253,7 +254,7 @@ fn put_change<T: Lattice>(
 ) -> Result<(), Refusal>
     ensures changes { OnOk result (Appends time out.old.items out.new.items
         (want.now ++ map negated_entry had.now)) }
-    ensures only { IfErr result (λ refused. refused ≡ Refusal.OutOfMemory) }
+    ensures only { OnlyMemory result }
 {
     let at = put_both(out, time, want, had)?;
     put_rest(out, time, want, at.want)?;
@@ -267,8 +268,8 @@ fn put_back_one<T: Lattice>(
     given: &Update<T>,
 ) -> Result<(), Refusal>
     ensures put { OnOk result (Appends time out.old.items out.new.items
-        (map negated_entry (as_of T.below time (given.now ∷ [])))) }
-    ensures only { IfErr result (λ refused. refused ≡ Refusal.OutOfMemory) }
+        (map negated_entry (as_of T.times time (given.now ∷ [])))) }
+    ensures only { OnlyMemory result }
 {
     if !given.time.less_equal(&time) {
         return Ok(());
@@ -283,8 +284,8 @@ fn put_back<T: Lattice>(
     given: &[Update<T>],
 ) -> Result<(), Refusal>
     ensures put { OnOk result (Appends time out.old.items out.new.items
-        (map negated_entry (as_of T.below time given.now))) }
-    ensures only { IfErr result (λ refused. refused ≡ Refusal.OutOfMemory) }
+        (map negated_entry (as_of T.times time given.now))) }
+    ensures only { OnlyMemory result }
 {
     for update in given {
         put_back_one(out, time, update)?;
@@ -301,8 +302,8 @@ fn put_back_since<T: Lattice>(
     given: &[Update<T>],
 ) -> Result<(), Refusal>
     ensures put { OnOk result (Appends time out.old.items out.new.items
-        (map negated_entry (as_of T.below time (between T.below after time given.now)))) }
-    ensures only { IfErr result (λ refused. refused ≡ Refusal.OutOfMemory) }
+        (map negated_entry (as_of T.times time (between T.times after time given.now)))) }
+    ensures only { OnlyMemory result }
 {
     let since = between(alloc, given, after, time)?;
     put_back(out, time, since.as_slice())
@@ -315,8 +316,8 @@ fn whole_draft<T: Lattice>(
     want: &Bag,
     given: &[Update<T>],
 ) -> Result<Vec<Update<T>>, Refusal>
-    ensures draft { IfOk result (λ draft. IsDraft T.below time want.now given.now draft.items) }
-    ensures only { IfErr result (λ refused. refused ≡ Refusal.OutOfMemory) }
+    ensures draft { IfOk result (λ draft. IsDraft T.times time want.now given.now draft.items) }
+    ensures only { OnlyMemory result }
 {
     let mut draft = Vec::new(alloc);
     put_rest(&mut draft, time, want, 0)?;
@@ -332,10 +333,10 @@ fn draft_since<T: Lattice>(
     given: &[Update<T>],
     last: &Evaluation<T>,
 ) -> Result<Vec<Update<T>>, Refusal>
-    requires earlier { IsTrue (T.below last.now.time time) }
-    requires answer { Alike last.now.answer (as_of T.below last.now.time given.now) }
-    ensures draft { IfOk result (λ draft. IsDraft T.below time want.now given.now draft.items) }
-    ensures only { IfErr result (λ refused. refused ≡ Refusal.OutOfMemory) }
+    requires earlier { IsTrue (T.times.below last.now.time time) }
+    requires answer { Alike last.now.answer (as_of T.times last.now.time given.now) }
+    ensures draft { IfOk result (λ draft. IsDraft T.times time want.now given.now draft.items) }
+    ensures only { OnlyMemory result }
 {
     let mut draft = Vec::new(alloc);
     put_change(&mut draft, time, want, &last.answer)?;
@@ -356,9 +357,9 @@ pub(crate) fn draft_of<T: Lattice>(
     last: &Option<Evaluation<T>>,
 ) -> Result<Vec<Update<T>>, Refusal>
     requires { IfSome last.now
-        (λ last. Alike last.answer (as_of T.below last.time given.now)) }
-    ensures draft { IfOk result (λ draft. IsDraft T.below time want.now given.now draft.items) }
-    ensures only { IfErr result (λ refused. refused ≡ Refusal.OutOfMemory) }
+        (λ last. Alike last.answer (as_of T.times last.time given.now)) }
+    ensures draft { IfOk result (λ draft. IsDraft T.times time want.now given.now draft.items) }
+    ensures only { OnlyMemory result }
 {
     match last {
         Some(last) if last.time.less_equal(&time) => draft_since(alloc, time, want, given, last),

@@ -1,6 +1,7 @@
 //! What the reducer answered for a key at a time, and the updates from one time to another.
-ghost use Rattle.std.specs.Prelude.{◌≡◌, ◌&&◌, not, IfOk, IfErr};
+ghost use Rattle.std.specs.Prelude.{◌≡◌, ◌&&◌, not, IfOk};
 ghost use Rattle.std.specs.List.{filter};
+ghost use Rattle.update.specs.Refusals.{OnlyMemory};
 ghost use Rattle.update.specs.declared.refusal.Refusal.{Refusal};
 
 use lattice::Lattice;
@@ -26,8 +27,8 @@ pub(crate) fn between<T: Lattice>(
     upto: T,
 ) -> Result<Vec<Update<T>>, Refusal>
     ensures between { IfOk result (λ list. list.items
-        ≡ filter (λ u. T.below u.time upto && not (T.below u.time after)) updates.now) }
-    ensures only { IfErr result (λ refused. refused ≡ Refusal.OutOfMemory) }
+        ≡ filter (λ u. T.times.below u.time upto && not (T.times.below u.time after)) updates.now) }
+    ensures only { OnlyMemory result }
 {
     let mut list = Vec::new(alloc);
     for update in updates {

@@ -15,11 +15,11 @@
 //! it are kept. What a correction is to be is defined in `specs/Corrections.antt`.
 #![tactic(auto)]
 
-mod correcting;
+mod corrections;
 mod draft;
 mod evaluation;
 mod tallied;
 
-pub use correcting::{Correction, correct};
+pub use corrections::{Correction, correct};
 pub use evaluation::Evaluation;
 pub use tallied::answer_at;

@@ -8,7 +8,7 @@
 ghost use Rattle.std.specs.Prelude.{◌≡◌, ◌≤◌, ◌++◌, Bool, List, [], ◌∷◌, ℤ, length, IsTrue, IfOk, IfErr, IfSome, OnOk};
 ghost use Rattle.std.specs.List.{list_all};
 ghost use Rattle.update.specs.Bags.{Alike, Entry, HasLargeCount, IsBag};
-ghost use Rattle.update.specs.Refusals.{IsMemoryOrOverflow};
+ghost use Rattle.update.specs.Refusals.{OnlyMemory, IsMemoryOrOverflow};
 ghost use Rattle.update.specs.Updates.{as_of};
 ghost use Rattle.update.specs.declared.refusal.Refusal.{Refusal};
 ghost use Rattle.plan.specs.Reductions.{has_key};
@@ -32,11 +32,11 @@ fn add_seen<T: Lattice>(
     noted: &mut Vec<Undone>,
 ) -> Result<bool, Refusal>
     ensures added { IfOk result (λ added. IsTrue added
-        → Alike base.new (base.old ++ as_of T.below time (update.now ∷ []))) }
+        → Alike base.new (base.old ++ as_of T.times time (update.now ∷ []))) }
     ensures undone { undone noted.new.items base.new ≡ undone noted.old.items base.old }
     ensures among { (p : List ℤ → Bool) → IsTrue (list_all (λ e. p e.row) base.old)
         → IsTrue (list_all (λ e. p e.row) base.new) }
-    ensures only { IfErr result (λ refused. refused ≡ Refusal.OutOfMemory) }
+    ensures only { OnlyMemory result }
 {
     if !update.time.less_equal(&time) {
         return Ok(true);
@@ -53,11 +53,11 @@ fn add_near<T: Lattice>(
     noted: &mut Vec<Undone>,
 ) -> Result<bool, Refusal>
     ensures added { IfOk result (λ added. IsTrue added
-        → Alike base.new (base.old ++ as_of T.below time near.now)) }
+        → Alike base.new (base.old ++ as_of T.times time near.now)) }
     ensures undone { undone noted.new.items base.new ≡ undone noted.old.items base.old }
     ensures among { (p : List ℤ → Bool) → IsTrue (list_all (λ e. p e.row) base.old)
         → IsTrue (list_all (λ e. p e.row) base.new) }
-    ensures only { IfErr result (λ refused. refused ≡ Refusal.OutOfMemory) }
+    ensures only { OnlyMemory result }
 {
     for update in near {
         if !add_seen(base, update, time, noted)? {
@@ -82,10 +82,10 @@ fn answer_by_tally<T: Lattice, R: Reducer>(
     requires few { length key.now ≤ 8 }
     requires keyed { IsTrue (list_all (has_key (length key.now) key.now) base.old) }
     ensures answer { IfOk result (λ answer. IfSome answer (IsAnswerFor
-        (R.reduces reducer.now) key.now (base.old ++ as_of T.below time near.now))) }
+        (R.reduces reducer.now) key.now (base.old ++ as_of T.times time near.now))) }
     ensures undone { undone noted.new.items base.new ≡ undone noted.old.items base.old }
     ensures refused { IfErr result
-        (IsMemoryOrOverflow (HasLargeSum (base.old ++ as_of T.below time near.now))) }
+        (IsMemoryOrOverflow (HasLargeSum (base.old ++ as_of T.times time near.now))) }
 {
     if !add_near(base, near, time, noted)? {
         return Ok(None);
@@ -97,7 +97,7 @@ fn answer_by_tally<T: Lattice, R: Reducer>(
 // Appends the entries of a tally.
 fn push_tally(entries: &mut Entries, base: &Tally) -> Result<(), Refusal>
     ensures pushed { OnOk result (entries.new ≡ entries.old ++ base.now) }
-    ensures only { IfErr result (λ refused. refused ≡ Refusal.OutOfMemory) }
+    ensures only { OnlyMemory result }
 {
     for i in 0..base.len() {
         entries.push(base.row(i).copy(), base.count(i))?;
@@ -107,8 +107,8 @@ fn push_tally(entries: &mut Entries, base: &Tally) -> Result<(), Refusal>
 
 // Appends the rows and differences of the updates at or before the time.
 fn push_near<T: Lattice>(entries: &mut Entries, near: &[Update<T>], time: T) -> Result<(), Refusal>
-    ensures pushed { OnOk result (entries.new ≡ entries.old ++ as_of T.below time near.now) }
-    ensures only { IfErr result (λ refused. refused ≡ Refusal.OutOfMemory) }
+    ensures pushed { OnOk result (entries.new ≡ entries.old ++ as_of T.times time near.now) }
+    ensures only { OnlyMemory result }
 {
     for update in near {
         if update.time.less_equal(&time) {
@@ -125,10 +125,10 @@ fn whole<T: Lattice>(
     near: &[Update<T>],
     time: T,
 ) -> Result<Bag, Refusal>
-    ensures sum { IfOk result (λ bag. Alike bag (base.now ++ as_of T.below time near.now)) }
+    ensures sum { IfOk result (λ bag. Alike bag (base.now ++ as_of T.times time near.now)) }
     ensures bag { IfOk result IsBag }
     ensures refused { IfErr result
-        (IsMemoryOrOverflow (HasLargeCount (base.now ++ as_of T.below time near.now))) }
+        (IsMemoryOrOverflow (HasLargeCount (base.now ++ as_of T.times time near.now))) }
 {
     let mut entries = Entries::new(alloc);
     push_tally(&mut entries, base)?;
@@ -150,9 +150,9 @@ fn answer_by_bag<T: Lattice, R: Reducer>(
     requires keyed { IsTrue (list_all (has_key (length key.now) key.now) base.now) }
     requires near { IsTrue (list_all (of_key (length key.now) key.now) near.now) }
     ensures answer { IfOk result (IsAnswerFor
-        (R.reduces reducer.now) key.now (base.now ++ as_of T.below time near.now)) }
+        (R.reduces reducer.now) key.now (base.now ++ as_of T.times time near.now)) }
     ensures refused { IfErr result
-        (IsMemoryOrOverflow (IsTooLarge (base.now ++ as_of T.below time near.now))) }
+        (IsMemoryOrOverflow (IsTooLarge (base.now ++ as_of T.times time near.now))) }
 {
     let rows = whole(alloc, base, near, time)?;
     let answer = reducer.reduce(alloc, key, &rows)?;
@@ -182,14 +182,14 @@ pub fn answer_at<T: Lattice, R: Reducer>(
     requires keyed { IsTrue (list_all (has_key (length key.now) key.now) base.old) }
     requires near { IsTrue (list_all (of_key (length key.now) key.now) near.now) }
     ensures value { IfOk result (λ answer. (entries : List Entry)
-        → Alike (base.old ++ as_of T.below time near.now) entries
+        → Alike (base.old ++ as_of T.times time near.now) entries
         → Alike answer (R.reduces reducer.now key.now entries)) }
     ensures bag { IfOk result IsBag }
     ensures keyed { IfOk result
         (λ answer. IsTrue (list_all (has_key (length key.now) key.now) answer)) }
     ensures same { base.new ≡ base.old }
     ensures refused { IfErr result
-        (IsMemoryOrOverflow (IsTooLarge (base.old ++ as_of T.below time near.now))) }
+        (IsMemoryOrOverflow (IsTooLarge (base.old ++ as_of T.times time near.now))) }
 {
     let mut noted = Vec::with_capacity(alloc, near.len())?;
     let tried = answer_by_tally(alloc, reducer, key, base, near, time, &mut noted);

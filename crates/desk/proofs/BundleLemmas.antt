@@ -4,6 +4,7 @@ use Rattle.std.specs.List.{slice_get}
 use Rattle.std.specs.Prelude.{unwrap_or}
 use Rattle.std.proofs.lemmas.Bool.{and_parts, and_from, or_left}
 use Rattle.std.proofs.lemmas.Bool.Decides.{nat_tests}
+use Rattle.lattice.specs.Times.{Times}
 use Rattle.lattice.specs.Frontiers.{all_beyond, is_beyond}
 use Rattle.update.specs.declared.change.Update.{Update}
 use Rattle.plan.specs.Nodes.{is_linear, node_at, sources}
@@ -19,7 +20,7 @@ use Rattle.linear.specs.Widths.{takes_rows, are_wide}
 use Rattle.histories.specs.declared.event.Bundle.{Bundle}
 use Rattle.histories.specs.declared.event.Site.{Site}
 use Rattle.histories.specs.Histories.Dataflows.{Dataflow, IsDataflow, node_of, source_of}
-use Rattle.histories.specs.Histories.States.{times}
+use Rattle.histories.specs.Histories.States.{update_times}
 use Rattle.operator.specs.Arrangements.{ArrangementState, rows_have, times_from}
 use Rattle.operator.specs.Reductions.{ReducingView, have_width}
 use Rattle.shared_board.specs.Widths.{width_at}
@@ -68,13 +69,13 @@ module _ {T : Type 0} where
         from port h = ap (λ node. slice_get (sources node) port) e ∙ one port h
 
   -- times at or after the least one are beyond its frontier
-  pub later_times : (below : T → T → Bool) (minimum : T) (us : List (Update T)) → IsTrue (times_from below minimum us) → IsTrue (all_beyond below (minimum ∷ []) (times us))
-  later_times below minimum [] h = refl
-  later_times below minimum (u ∷ us) h =
-      let parts = and_parts (below minimum u.time) (times_from below minimum us) h in
-      and_from (is_beyond below (minimum ∷ []) u.time) (all_beyond below (minimum ∷ []) (times us)) (or_left (below minimum u.time) false parts.0) (later_times below minimum us parts.1)
+  pub later_times : (times : Times T) (us : List (Update T)) → IsTrue (times_from times us) → IsTrue (all_beyond times (times.least ∷ []) (update_times us))
+  later_times times [] h = refl
+  later_times times (u ∷ us) h =
+      let parts = and_parts (times.below times.least u.time) (times_from times us) h in
+      and_from (is_beyond times (times.least ∷ []) u.time) (all_beyond times (times.least ∷ []) (update_times us)) (or_left (times.below times.least u.time) false parts.0) (later_times times us parts.1)
 
-module _ {T : Type 0} (below : T → T → Bool) (joined : T → T → T) (minimum : T) (plan : List Node) (d : DeskView T) (bundle : Bundle T) (more : Bool) (x : IsSomeones below joined minimum plan d (Taken bundle more)) where
+module _ {T : Type 0} (times : Times T) (plan : List Node) (d : DeskView T) (bundle : Bundle T) (more : Bool) (x : IsSomeones times plan d (Taken bundle more)) where
   abbrev n : ℕ
   n = bundle.place.node
 
@@ -93,7 +94,7 @@ module _ {T : Type 0} (below : T → T → Bool) (joined : T → T → T) (minim
   pub bundle_rows : IsTrue (takes_rows (node_at plan n) bundle.updates)
   bundle_rows = subst (λ node. IsTrue (takes_rows node bundle.updates)) at (fitting p x.is bundle.place bundle.updates x.right.on_plan.hand.1 x.right.on_plan.hand.2)
 
-  pub bundle_times : IsTrue (times_from below minimum bundle.updates)
+  pub bundle_times : IsTrue (times_from times bundle.updates)
   bundle_times = x.right.on_plan.hand.3
 
   -- at an arrange node there is an arrangement for them

@@ -7,6 +7,7 @@ use Rattle.std.specs.declared.cmp.Ordering.{Ordering}
 use Rattle.std.proofs.lemmas.Bool.{false≢true}
 use Rattle.std.proofs.lemmas.Int.{ints}
 use Rattle.std.proofs.lemmas.List.Sums.{sum_by-cons}
+use Rattle.lattice.specs.Times.{Times}
 use Rattle.lattice.specs.Order.{PartialOrderLaws}
 use Rattle.lattice.specs.Frontiers.{is_beyond}
 use Rattle.lattice.proofs.FrontierLemmas.{beyond_up}
@@ -48,7 +49,7 @@ module _ {T : Type 0} where
 positive : (a : ℤ) → a ≢ pos 0 → 0 < unsigned_abs a
 positive a other = omega (arith, ints, other)
 
-module _ {T : Type 0} {below : T → T → Bool} {cmp : T → T → Ordering} (o : PartialOrderLaws below) (total : IsTotalOrder cmp) (us out : List (Update T)) (sums : (t : T) → Alike (as_of below t out) (as_of below t us)) (flat : IsConsolidated cmp out) where
+module _ {T : Type 0} {times : Times T} {cmp : T → T → Ordering} (o : PartialOrderLaws times) (total : IsTotalOrder cmp) (us out : List (Update T)) (sums : (t : T) → Alike (as_of times t out) (as_of times t us)) (flat : IsConsolidated cmp out) where
   pub flat_smaller : size out ≤ size us
   flat_smaller =
       let h = least_size o total (λ t. true) out us (λ s t a b. refl) (λ t a. sums t) flat in
@@ -58,18 +59,18 @@ module _ {T : Type 0} {below : T → T → Bool} {cmp : T → T → Ordering} (o
 
   module _ (F : List T) where
     abbrev early : T → Bool
-    early t = not (is_beyond below F t)
+    early t = not (is_beyond times F t)
 
-    before_early : (s t : T) → IsTrue (below s t) → IsTrue (early t) → IsTrue (early s)
-    before_early s t le h = not_from (is_beyond below F s) (λ b. not_true (is_beyond below F t) h (beyond_up o F s t b le))
+    before_early : (s t : T) → IsTrue (times.below s t) → IsTrue (early t) → IsTrue (early s)
+    before_early s t le h = not_from (is_beyond times F s) (λ b. not_true (is_beyond times F t) h (beyond_up o F s t b le))
 
-    pub flat_beyond : IsTrue (list_all (λ (u : Update T). is_beyond below F u.time) us) → IsTrue (list_all (λ (u : Update T). is_beyond below F u.time) out)
-    flat_beyond h = all_from (λ (u : Update T). is_beyond below F u.time) out (λ u m. by u m (is_beyond below F u.time) refl)
+    pub flat_beyond : IsTrue (list_all (λ (u : Update T). is_beyond times F u.time) us) → IsTrue (list_all (λ (u : Update T). is_beyond times F u.time) out)
+    flat_beyond h = all_from (λ (u : Update T). is_beyond times F u.time) out (λ u m. by u m (is_beyond times F u.time) refl)
       where
         none : filter (λ (u : Update T). early u.time) us ≡ []
-        none = filter_none (λ (u : Update T). early u.time) us (λ u m. ap not (all_at (λ (u : Update T). is_beyond below F u.time) us u h m))
+        none = filter_none (λ (u : Update T). early u.time) us (λ u m. ap not (all_at (λ (u : Update T). is_beyond times F u.time) us u h m))
 
-        by : (u : Update T) → Among u out → (b : Bool) → is_beyond below F u.time ≡ b → IsTrue (is_beyond below F u.time)
+        by : (u : Update T) → Among u out → (b : Bool) → is_beyond times F u.time ≡ b → IsTrue (is_beyond times F u.time)
         by u m true e = e
         by u m false e =
             let small = least_size o total early out us before_early (λ t a. sums t) flat in

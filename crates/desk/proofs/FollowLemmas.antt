@@ -5,6 +5,7 @@ use Rattle.std.specs.Result.{OnErr, OnOk}
 use Rattle.std.specs.List.{slice_get}
 use Rattle.std.specs.declared.cmp.Ordering.{Ordering}
 use Rattle.std.proofs.lemmas.Bool.{eqb-true, eqb-false, or_left}
+use Rattle.lattice.specs.Times.{Times}
 use Rattle.lattice.specs.Order.{PartialOrderLaws}
 use Rattle.lattice.specs.Frontiers.{all_beyond}
 use Rattle.lattice.proofs.FrontierLemmas.{all_beyond_later}
@@ -20,8 +21,8 @@ use Rattle.histories.specs.Histories.Outstanding.{port_frontier}
 use Rattle.histories.specs.Histories.States.{State}
 use Rattle.operator.specs.Arrangements.{ArrangementState}
 use Rattle.operator.specs.Joins.{JoiningView}
-use Rattle.operator_laws.specs.Joining.{on_top}
-use Rattle.operator_laws.specs.Working.{IsWorkingAt, Works}
+use Rattle.operator_laws.specs.JoinNodes.{on_top}
+use Rattle.operator_laws.specs.Workers.{IsWorkingAt, Works}
 use Rattle.desk_laws.specs.Own.{DeskView, IsArrangedOn, IsTakenBefore, ReadsAt, boundary_at, hold_at, is_taken_at, other_port}
 use Rattle.desk_laws.specs.declared.hand.Hand.{Hand}
 use Rattle.desk_laws.specs.declared.hand.Hand.TheVariants.{Free, Taken}
@@ -29,7 +30,7 @@ use Rattle.desk_laws.proofs.FoundLemmas.{is_arrange}
 use Rattle.desk_laws.proofs.MergedLemmas.{beyond_reached}
 use Rattle.desk.specs.Desks.{IsRight}
 use Rattle.desk.specs.Openings.{on_plan}
-use Rattle.desk.specs.Tidying.{AreTold, HasMoved, IsFollowed, IsFollowedAt, IsTooLargeOn, LeadsOn, MayMove, MayTidy, front_of_port}
+use Rattle.desk.specs.Upkeep.{AreTold, HasMoved, IsFollowed, IsFollowedAt, IsTooLargeOn, LeadsOn, MayMove, MayTidy, front_of_port}
 use Rattle.desk.proofs.DeskLemmas.{with_arrangement}
 use Rattle.desk.proofs.FrontLemmas.{other_few, told_after, told_before}
 use Rattle.desk.proofs.PlaceLemmas.{one_entry}
@@ -52,28 +53,28 @@ module _ {T : Type 0} where
 
 -- ---- a join is a reader of the arrangements of its sources
 
-module _ {T : Type 0} (below : T → T → Bool) (joined : T → T → T) (minimum : T) (o : PartialOrderLaws below) (p : Dataflow) (q : IsDataflow p) (w : State T) (k : ℕ) (d : DeskView T) (fronts : List (List T)) (told : AreTold below p w fronts) (x : IsRight below joined minimum p w k d Free) (n port s : ℕ) (j : JoiningView T) (r : ReadsAt p d n port s j) where
+module _ {T : Type 0} (times : Times T) (o : PartialOrderLaws times) (p : Dataflow) (q : IsDataflow p) (w : State T) (k : ℕ) (d : DeskView T) (fronts : List (List T)) (told : AreTold times p w fronts) (x : IsRight times p w k d Free) (n port s : ℕ) (j : JoiningView T) (r : ReadsAt p d n port s j) where
   abbrev works : Works T
   works = x.own.keeps.works
 
-  arranged : (l rr : ℕ) → node_of p n ≡ Join l rr → IsArrangedOn below joined minimum p d s (works.start s) (works.inserted s)
+  arranged : (l rr : ℕ) → node_of p n ≡ Join l rr → IsArrangedOn times p d s (works.start s) (works.inserted s)
   arranged l rr e =
       let less = source_smaller p.nodes q.plan n port s r.reads in
       let arrange = is_arrange (node_of p s) (key_width p.nodes (node_of p n)) (source_arranged p.nodes q.plan n port s r.within (ap is_linear e) r.reads) in
       x.own.laid.arranged s arrange.0 arrange.1 (let inside = r.within in omega (arith, less, inside)) arrange.2
 
   -- its hold is for what may come at its other port, and no frontier goes back
-  goes_on : (L : List T) → IsTrue (all_beyond below L (x.own.keeps.ports n (other_port port))) → IsTrue (all_beyond below L (front_of_port fronts n (other_port port)))
+  goes_on : (L : List T) → IsTrue (all_beyond times L (x.own.keeps.ports n (other_port port))) → IsTrue (all_beyond times L (front_of_port fronts n (other_port port)))
   goes_on L apart =
       let other = other_port port in
       let was = x.own.keeps.ports n other in
-      let is = port_frontier below p w n other in
+      let is = port_frontier times p w n other in
       all_beyond_later o L was (front_of_port fronts n other) apart
-      (all_beyond_later o was is (front_of_port fronts n other) (beyond_reached below o was is (x.own.keeping.ports n other)) (told_after below o p w fronts told n other r.within (other_few port) (or_left (is_join (node_of p n)) (is_reduction (node_of p n)) r.join)))
+      (all_beyond_later o was is (front_of_port fronts n other) (beyond_reached times o was is (x.own.keeping.ports n other)) (told_after times o p w fronts told n other r.within (other_few port) (or_left (is_join (node_of p n)) (is_reduction (node_of p n)) r.join)))
 
   -- its hold may move to where it has come
-  may_move : (l rr : ℕ) → node_of p n ≡ Join l rr → (all taken later : List (Insertion T)) → IsTakenBefore Free n port all taken → works.inserted s ≡ on_top later all → boundary_at port j ≡ reached (minimum ∷ []) taken
-      → (a : ArrangementState T) × (slice_get d.arrangements s ≡ Some (Some a)) × MayMove below minimum a (hold_at port j) (front_of_port fronts n (other_port port)) (boundary_at port j)
+  may_move : (l rr : ℕ) → node_of p n ≡ Join l rr → (all taken later : List (Insertion T)) → IsTakenBefore Free n port all taken → works.inserted s ≡ on_top later all → boundary_at port j ≡ reached (times.least ∷ []) taken
+      → (a : ArrangementState T) × (slice_get d.arrangements s ≡ Some (Some a)) × MayMove times a (hold_at port j) (front_of_port fronts n (other_port port)) (boundary_at port j)
   may_move l rr e all taken later before queued ends =
       let y = arranged l rr e in
       let h_at = x.own.holding.joins.held n port s j r in
@@ -102,24 +103,24 @@ module _ {T : Type 0} (below : T → T → Bool) (joined : T → T → T) (minim
         },
       )
 
-module _ {T : Type 0} (below : T → T → Bool) (joined : T → T → T) (minimum : T) (o : PartialOrderLaws below) (p : Dataflow) (q : IsDataflow p) (w : State T) (k : ℕ) (d : DeskView T) (fronts : List (List T)) (told : AreTold below p w fronts) (x : IsRight below joined minimum p w k d Free) (n s : ℕ) (j : JoiningView T) where
+module _ {T : Type 0} (times : Times T) (o : PartialOrderLaws times) (p : Dataflow) (q : IsDataflow p) (w : State T) (k : ℕ) (d : DeskView T) (fronts : List (List T)) (told : AreTold times p w fronts) (x : IsRight times p w k d Free) (n s : ℕ) (j : JoiningView T) where
   same_some : (a b : ℕ) → Some a ≡ Some b → a ≡ b
   same_some a b e = cc
 
-  at_port : (port l rr : ℕ) → node_of p n ≡ Join l rr → ReadsAt p d n port s j → (a : ArrangementState T) × (slice_get d.arrangements s ≡ Some (Some a)) × MayMove below minimum a (hold_at port j) (front_of_port fronts n (other_port port)) (boundary_at port j)
+  at_port : (port l rr : ℕ) → node_of p n ≡ Join l rr → ReadsAt p d n port s j → (a : ArrangementState T) × (slice_get d.arrangements s ≡ Some (Some a)) × MayMove times a (hold_at port j) (front_of_port fronts n (other_port port)) (boundary_at port j)
   at_port zero l rr e r =
       let lies = x.own.laid.joining n l rr r.within e in
       let is : lies.join ≡ j = one_entry d.joins n lies.join j lies.there r.there in
-      let here = subst (λ node. IsWorkingAt below p w k x.own.keeps.works n node) e (x.own.keeping.working n r.within) in
+      let here = subst (λ node. IsWorkingAt times p w k x.own.keeps.works n node) e (x.own.keeping.working n r.within) in
       let at : l ≡ s = same_some l s (sym (ap (λ node. slice_get (sources node) 0) e) ∙ r.reads) in
-      may_move below joined minimum o p q w k d fronts told x n 0 s j r l rr e (x.own.keeps.works.left n) lies.left here.1.later lies.at_left (subst (λ z. x.own.keeps.works.inserted z ≡ on_top here.1.later (x.own.keeps.works.left n)) at here.1.all)
+      may_move times o p q w k d fronts told x n 0 s j r l rr e (x.own.keeps.works.left n) lies.left here.1.later lies.at_left (subst (λ z. x.own.keeps.works.inserted z ≡ on_top here.1.later (x.own.keeps.works.left n)) at here.1.all)
       (ap (λ (z : JoiningView T). z.state.left) (sym is) ∙ lies.left_boundary)
   at_port (suc zero) l rr e r =
       let lies = x.own.laid.joining n l rr r.within e in
       let is : lies.join ≡ j = one_entry d.joins n lies.join j lies.there r.there in
-      let here = subst (λ node. IsWorkingAt below p w k x.own.keeps.works n node) e (x.own.keeping.working n r.within) in
+      let here = subst (λ node. IsWorkingAt times p w k x.own.keeps.works n node) e (x.own.keeping.working n r.within) in
       let at : rr ≡ s = same_some rr s (sym (ap (λ node. slice_get (sources node) 1) e) ∙ r.reads) in
-      may_move below joined minimum o p q w k d fronts told x n 1 s j r l rr e (x.own.keeps.works.right n) lies.right here.2.later lies.at_right (subst (λ z. x.own.keeps.works.inserted z ≡ on_top here.2.later (x.own.keeps.works.right n)) at here.2.all)
+      may_move times o p q w k d fronts told x n 1 s j r l rr e (x.own.keeps.works.right n) lies.right here.2.later lies.at_right (subst (λ z. x.own.keeps.works.inserted z ≡ on_top here.2.later (x.own.keeps.works.right n)) at here.2.all)
       (ap (λ (z : JoiningView T). z.state.right) (sym is) ∙ lies.right_boundary)
   at_port (suc (suc port)) l rr e r = absurd (none (sym (ap (λ node. slice_get (sources node) (suc (suc port))) e) ∙ r.reads))
     where
@@ -128,14 +129,14 @@ module _ {T : Type 0} (below : T → T → Bool) (joined : T → T → T) (minim
 
 -- ---- the whole call
 
-module _ {T : Type 0} (below : T → T → Bool) (joined : T → T → T) (minimum : T) (plan : List Node) (fronts : List (List T)) where
-  pub leads_on_same : (d : DeskView T) → LeadsOn below joined minimum plan fronts d d
+module _ {T : Type 0} (times : Times T) (plan : List Node) (fronts : List (List T)) where
+  pub leads_on_same : (d : DeskView T) → LeadsOn times plan fronts d d
   leads_on_same d p q nodes es legal k told x = x
 
-  pub leads_on_then : (d c b : DeskView T) → LeadsOn below joined minimum plan fronts d c → LeadsOn below joined minimum plan fronts c b → LeadsOn below joined minimum plan fronts d b
+  pub leads_on_then : (d c b : DeskView T) → LeadsOn times plan fronts d c → LeadsOn times plan fronts c b → LeadsOn times plan fronts d b
   leads_on_then d c b first second p q nodes es legal k told x = second p q nodes es legal k told (first p q nodes es legal k told x)
 
-  pub may_then : (d c : DeskView T) → LeadsOn below joined minimum plan fronts d c → MayTidy below joined minimum plan fronts d → MayTidy below joined minimum plan fronts c
+  pub may_then : (d c : DeskView T) → LeadsOn times plan fronts d c → MayTidy times plan fronts d → MayTidy times plan fronts c
   may_then d c leads may =
       let x = may.someones in
       record {
@@ -151,46 +152,46 @@ module _ {T : Type 0} (below : T → T → Bool) (joined : T → T → T) (minim
         told = may.told;
       }
 
-  pub large_on_before : (d c : DeskView T) → LeadsOn below joined minimum plan fronts d c → (cmp : T → T → Ordering) → IsTooLargeOn below joined minimum plan fronts cmp c → IsTooLargeOn below joined minimum plan fronts cmp d
+  pub large_on_before : (d c : DeskView T) → LeadsOn times plan fronts d c → (cmp : T → T → Ordering) → IsTooLargeOn times plan fronts cmp c → IsTooLargeOn times plan fronts cmp d
   large_on_before d c leads cmp large p q nodes es legal k told x = large p q nodes es legal k told (leads p q nodes es legal k told x)
 
-  module _ (o : PartialOrderLaws below) (d : DeskView T) (n port s : ℕ) (may : MayTidy below joined minimum plan fronts d) (reads : (j : JoiningView T) × ReadsAt (on_plan plan) d n port s j) where
-    pub there_to_follow : (j : JoiningView T) × (slice_get d.joins n ≡ Some (Some j)) × (a : ArrangementState T) × (slice_get d.arrangements s ≡ Some (Some a)) × MayMove below minimum a (hold_at port j) (front_of_port fronts n (other_port port)) (boundary_at port j)
+  module _ (o : PartialOrderLaws times) (d : DeskView T) (n port s : ℕ) (may : MayTidy times plan fronts d) (reads : (j : JoiningView T) × ReadsAt (on_plan plan) d n port s j) where
+    pub there_to_follow : (j : JoiningView T) × (slice_get d.joins n ≡ Some (Some j)) × (a : ArrangementState T) × (slice_get d.arrangements s ≡ Some (Some a)) × MayMove times a (hold_at port j) (front_of_port fronts n (other_port port)) (boundary_at port j)
     there_to_follow =
         let x = may.someones in
         let r = reads_in x.dataflow plan d n port s reads.0 x.nodes reads.1 in
         let join = is_a_join (node_of x.dataflow n) r.join in
-        let at = at_port below joined minimum o x.dataflow x.is (state_after below minimum x.dataflow x.events) x.worker d fronts may.told x.right n s reads.0 port join.0 join.1 join.2 r in
+        let at = at_port times o x.dataflow x.is (state_after times x.dataflow x.events) x.worker d fronts may.told x.right n s reads.0 port join.0 join.1 join.2 r in
         (reads.0, r.there, at.0, at.1, at.2)
 
-    module _ (a b : ArrangementState T) (own : slice_get d.arrangements s ≡ Some (Some a)) (moved : HasMoved below (hold_at port reads.0) (front_of_port fronts n (other_port port)) (boundary_at port reads.0) a b) where
-      leads_moved : LeadsOn below joined minimum plan fronts d (with_arrangement s b d)
+    module _ (a b : ArrangementState T) (own : slice_get d.arrangements s ≡ Some (Some a)) (moved : HasMoved times (hold_at port reads.0) (front_of_port fronts n (other_port port)) (boundary_at port reads.0) a b) where
+      leads_moved : LeadsOn times plan fronts d (with_arrangement s b d)
       leads_moved =
-          leads_with below joined minimum d s a b own moved.alike o plan fronts (λ p w nodes told holding.
+          leads_with times d s a b own moved.alike o plan fronts (λ p w nodes told holding.
           let r = reads_in p plan d n port s reads.0 nodes reads.1 in
-          holding_moved below o p d n port s reads.0 r (port_frontier below p w) holding a b own fronts moved (told_before below o p w fronts told n (other_port port) r.within (other_few port) (or_left (is_join (node_of p n)) (is_reduction (node_of p n)) r.join)))
+          holding_moved times o p d n port s reads.0 r (port_frontier times p w) holding a b own fronts moved (told_before times o p w fronts told n (other_port port) r.within (other_few port) (or_left (is_join (node_of p n)) (is_reduction (node_of p n)) r.join)))
 
       here_moved : IsFollowedAt plan fronts (with_arrangement s b d) n port
       here_moved =
           let x = may.someones in
-          now_followed below o x.dataflow d n port s reads.0 (reads_in x.dataflow plan d n port s reads.0 x.nodes reads.1) x.right.own.keeps.ports x.right.own.holding a b own fronts moved plan x.nodes
+          now_followed times o x.dataflow d n port s reads.0 (reads_in x.dataflow plan d n port s reads.0 x.nodes reads.1) x.right.own.keeps.ports x.right.own.holding a b own fronts moved plan x.nodes
 
       stays_moved : (m at : ℕ) → IsFollowedAt plan fronts d m at → IsFollowedAt plan fronts (with_arrangement s b d) m at
       stays_moved m at =
           let x = may.someones in
-          stays_followed below o x.dataflow d n port s reads.0 (reads_in x.dataflow plan d n port s reads.0 x.nodes reads.1) x.right.own.keeps.ports x.right.own.holding a b own fronts moved plan x.nodes m at
+          stays_followed times o x.dataflow d n port s reads.0 (reads_in x.dataflow plan d n port s reads.0 x.nodes reads.1) x.right.own.keeps.ports x.right.own.holding a b own fronts moved plan x.nodes m at
 
     -- a hold of this arrangement has moved, on another desk
     abbrev pub Moves : DeskView T → ArrangementState T → Type 0
-    Moves c a = (b : ArrangementState T) × (c ≡ with_arrangement s b d) × HasMoved below (hold_at port reads.0) (front_of_port fronts n (other_port port)) (boundary_at port reads.0) a b
+    Moves c a = (b : ArrangementState T) × (c ≡ with_arrangement s b d) × HasMoved times (hold_at port reads.0) (front_of_port fronts n (other_port port)) (boundary_at port reads.0) a b
 
     module _ (c : DeskView T) {A E : Type 0} where
-      pub leads_followed : (res : Result A E) → ((a : ArrangementState T) → slice_get d.arrangements s ≡ Some (Some a) → OnOk res (Moves c a)) → OnErr res (c ≡ d) → LeadsOn below joined minimum plan fronts d c
+      pub leads_followed : (res : Result A E) → ((a : ArrangementState T) → slice_get d.arrangements s ≡ Some (Some a) → OnOk res (Moves c a)) → OnErr res (c ≡ d) → LeadsOn times plan fronts d c
       leads_followed (Ok y) moved same =
           let there = there_to_follow in
           let m = moved there.2 there.3 in
-          subst (LeadsOn below joined minimum plan fronts d) (sym m.1) (leads_moved there.2 m.0 there.3 m.2)
-      leads_followed (Err e) moved same = subst (LeadsOn below joined minimum plan fronts d) (sym same) (leads_on_same d)
+          subst (LeadsOn times plan fronts d) (sym m.1) (leads_moved there.2 m.0 there.3 m.2)
+      leads_followed (Err e) moved same = subst (LeadsOn times plan fronts d) (sym same) (leads_on_same d)
 
       pub here_followed : (res : Result A E) → ((a : ArrangementState T) → slice_get d.arrangements s ≡ Some (Some a) → OnOk res (Moves c a)) → OnOk res (IsFollowedAt plan fronts c n port)
       here_followed (Ok y) moved =
@@ -208,7 +209,7 @@ module _ {T : Type 0} (below : T → T → Bool) (joined : T → T → T) (minim
 
   -- ---- both ports of a join
 
-  module _ (d : DeskView T) (n : ℕ) (within : n < length plan) (may : MayTidy below joined minimum plan fronts d) where
+  module _ (d : DeskView T) (n : ℕ) (within : n < length plan) (may : MayTidy times plan fronts d) where
     module _ (l r : ℕ) (e : node_at plan n ≡ Join l r) where
       join_there : (j : JoiningView T) × (slice_get d.joins n ≡ Some (Some j))
       join_there =

@@ -2,6 +2,7 @@
 use Rattle.std.proofs.Common.{◌≡◌, ◌≢◌, ℕ, Bool, true, false, eqb, List, [], ◌∷◌, Some, IsTrue, sym, refl, ap, ◌∙◌, subst, arith}
 use Rattle.std.specs.List.{slice_get}
 use Rattle.std.proofs.lemmas.Bool.{eqb-true, eqb-false}
+use Rattle.lattice.specs.Times.{Times}
 use Rattle.lattice.specs.Order.{PartialOrderLaws}
 use Rattle.lattice.specs.Frontiers.{all_beyond}
 use Rattle.lattice.proofs.FrontierLemmas.{all_beyond_later, beyond_itself}
@@ -16,33 +17,33 @@ use Rattle.operator.specs.Arrangements.{AreInTurn, ArrangementState, upper_of}
 use Rattle.operator.specs.Joins.{JoiningView}
 use Rattle.operator.specs.Reductions.{ReducingView, pending_of}
 use Rattle.operator.proofs.TurnLemmas.{firsts}
-use Rattle.operator_laws.specs.Joining.{on_top}
+use Rattle.operator_laws.specs.JoinNodes.{on_top}
 use Rattle.desk_laws.specs.Own.{AreHolding, AreSharing, DeskView, HasHold, IsMergedAt, IsSpineAt, KeepsApart, ReadsAt, Reduces, boundary_at, hold_at, other_port, waiting_in}
 use Rattle.desk_laws.proofs.MergedLemmas.{tidied_lem}
 use Rattle.desk.specs.Joinings.{IsReading}
 use Rattle.desk.specs.Openings.{on_plan}
-use Rattle.desk.specs.Tidying.{AreTold, HasMoved, IsAlike, IsFollowedAt, IsHeldFrom, LeadsOn, front_of_port}
+use Rattle.desk.specs.Upkeep.{AreTold, HasMoved, IsAlike, IsFollowedAt, IsHeldFrom, LeadsOn, front_of_port}
 use Rattle.desk.proofs.DeskLemmas.{with_arrangement}
 use Rattle.desk.proofs.PlaceLemmas.{get_own, get_set, one_entry}
 
 -- ---- how far a reader has come
 
-module _ {T : Type 0} {below : T → T → Bool} (o : PartialOrderLaws below) (start : List T) where
+module _ {T : Type 0} {times : Times T} (o : PartialOrderLaws times) (start : List T) where
   -- what comes later goes on from what was taken
-  pub reached_on : (later h : List (Insertion T)) → AreInTurn below start (on_top later h) → IsTrue (all_beyond below (reached start h) (reached start (on_top later h)))
+  pub reached_on : (later h : List (Insertion T)) → AreInTurn times start (on_top later h) → IsTrue (all_beyond times (reached start h) (reached start (on_top later h)))
   reached_on [] h all = beyond_itself o (reached start h)
   reached_on (i ∷ later) h all = all_beyond_later o (reached start h) i.upper (reached start (on_top later (i ∷ h))) (firsts o start later (i ∷ h) all).0.forward (reached_on later (i ∷ h) all)
 
   -- so a reader is not ahead of the spine
-  pub reading_behind : (minimum : T) (a : ArrangementState T) (inserted later taken : List (Insertion T)) (boundary : List T) → start ≡ minimum ∷ [] → IsReading below minimum a inserted later taken boundary → IsTrue (all_beyond below boundary (upper_of a.spine))
-  reading_behind minimum a inserted later taken boundary e r =
+  pub reading_behind : (a : ArrangementState T) (inserted later taken : List (Insertion T)) (boundary : List T) → start ≡ times.least ∷ [] → IsReading times a inserted later taken boundary → IsTrue (all_beyond times boundary (upper_of a.spine))
+  reading_behind a inserted later taken boundary e r =
       let ends : upper_of a.spine ≡ reached start (on_top later taken) = r.stands.upper ∙ ((λ i. reached ((r.start ∙ sym e) i) inserted) ∙ ap (reached start) r.all) in
-      let turn : AreInTurn below start (on_top later taken) = subst (AreInTurn below start) r.all (subst (λ F. AreInTurn below F inserted) (sym e) r.in_turn) in
-      subst (λ F. IsTrue (all_beyond below boundary F)) (sym ends) (subst (λ F. IsTrue (all_beyond below F (reached start (on_top later taken)))) (sym (r.ends ∙ ap (λ F. reached F taken) (sym e))) (reached_on later taken turn))
+      let turn : AreInTurn times start (on_top later taken) = subst (AreInTurn times start) r.all (subst (λ F. AreInTurn times F inserted) (sym e) r.in_turn) in
+      subst (λ F. IsTrue (all_beyond times boundary F)) (sym ends) (subst (λ F. IsTrue (all_beyond times F (reached start (on_top later taken)))) (sym (r.ends ∙ ap (λ F. reached F taken) (sym e))) (reached_on later taken turn))
 
 -- ---- another arrangement that stands for the same
 
-module _ {T : Type 0} (below : T → T → Bool) (joined : T → T → T) (minimum : T) (d : DeskView T) (n : ℕ) (a b : ArrangementState T) (own : slice_get d.arrangements n ≡ Some (Some a)) (like : IsAlike below a b) where
+module _ {T : Type 0} (times : Times T) (d : DeskView T) (n : ℕ) (a b : ArrangementState T) (own : slice_get d.arrangements n ≡ Some (Some a)) (like : IsAlike times a b) where
   abbrev c : DeskView T
   c = with_arrangement n b d
 
@@ -50,7 +51,7 @@ module _ {T : Type 0} (below : T → T → Bool) (joined : T → T → T) (minim
   there_now = get_own d.arrangements n (Some b) (Some a) own
 
   module _ (p : Dataflow) where
-    spine_on : (inserted : List (Insertion T)) → IsSpineAt below joined minimum p n inserted a → IsSpineAt below joined minimum p n inserted b
+    spine_on : (inserted : List (Insertion T)) → IsSpineAt times p n inserted a → IsSpineAt times p n inserted b
     spine_on inserted z = record {
       width = like.width ∙ z.width;
       start = like.start ∙ z.start;
@@ -59,10 +60,10 @@ module _ {T : Type 0} (below : T → T → Bool) (joined : T → T → T) (minim
       «open» = like.whole inserted z.«open»;
     }
 
-    pub merged_at : (m : ℕ) → IsMergedAt below joined minimum p m d c
+    pub merged_at : (m : ℕ) → IsMergedAt times p m d c
     merged_at m = by (eqb m n) refl
       where
-        by : (e : Bool) → eqb m n ≡ e → IsMergedAt below joined minimum p m d c
+        by : (e : Bool) → eqb m n ≡ e → IsMergedAt times p m d c
         by true e =
             let at = eqb-true m n e in
             let mine : slice_get d.arrangements m ≡ Some (Some a) = ap (slice_get d.arrangements) at ∙ own in
@@ -75,7 +76,7 @@ module _ {T : Type 0} (below : T → T → Bool) (joined : T → T → T) (minim
               arranged = λ start inserted y. record {
                 arrangement = b;
                 there = now;
-                spine = subst (λ k. IsSpineAt below joined minimum p k inserted b) (sym at) (spine_on inserted (subst (λ k. IsSpineAt below joined minimum p k inserted a) at (subst (IsSpineAt below joined minimum p m inserted) (one_entry d.arrangements m y.arrangement a y.there mine) y.spine)));
+                spine = subst (λ k. IsSpineAt times p k inserted b) (sym at) (spine_on inserted (subst (λ k. IsSpineAt times p k inserted a) at (subst (IsSpineAt times p m inserted) (one_entry d.arrangements m y.arrangement a y.there mine) y.spine)));
                 begins = y.begins;
               };
             }
@@ -89,13 +90,13 @@ module _ {T : Type 0} (below : T → T → Bool) (joined : T → T → T) (minim
               arranged = λ start inserted y. record { arrangement = y.arrangement; there = same ∙ y.there; spine = y.spine; begins = y.begins };
             }
 
-  -- the other desk is right for each worker that had the one and nothing in hand, if the readers have
-  -- their holds for what may still come
-  pub leads_with : PartialOrderLaws below → (plan : List Node) (fronts : List (List T))
-      → ((p : Dataflow) (w : State T) → p.nodes ≡ plan → AreTold below p w fronts → AreHolding below p d (port_frontier below p w) → AreHolding below p c (port_frontier below p w))
-      → LeadsOn below joined minimum plan fronts d c
+  -- the other desk is right for each worker that had the one and nothing in hand, if the readers
+  -- have their holds for what may still come
+  pub leads_with : PartialOrderLaws times → (plan : List Node) (fronts : List (List T))
+      → ((p : Dataflow) (w : State T) → p.nodes ≡ plan → AreTold times p w fronts → AreHolding times p d (port_frontier times p w) → AreHolding times p c (port_frontier times p w))
+      → LeadsOn times plan fronts d c
   leads_with o plan fronts stay p q nodes es legal k told x = record {
-    own = tidied_lem below joined minimum p d c (merged_at p) o (state_after below minimum p es) k (stay p (state_after below minimum p es) nodes told) x.own;
+    own = tidied_lem times p d c (merged_at p) o (state_after times p es) k (stay p (state_after times p es) nodes told) x.own;
     on_plan = record { places = x.on_plan.places; wide = x.on_plan.wide; joins = x.on_plan.joins; hand = x.on_plan.hand };
   }
 
@@ -115,12 +116,12 @@ pub reads_out : {T : Type 0} (p : Dataflow) (plan : List Node) (d : DeskView T) 
 reads_out p plan d n port source j e r =
     subst (λ nodes. ReadsAt (on_plan nodes) d n port source j) e (record { within = r.within; join = r.join; reads = r.reads; there = r.there })
 
-module _ {T : Type 0} (below : T → T → Bool) (o : PartialOrderLaws below) (p : Dataflow) (d : DeskView T) (n port s : ℕ) (j : JoiningView T) (reads : ReadsAt p d n port s j) (ports : ℕ → ℕ → List T) (holding : AreHolding below p d ports) (a b : ArrangementState T) (own : slice_get d.arrangements s ≡ Some (Some a))
-    (fronts : List (List T)) (moved : HasMoved below (hold_at port j) (front_of_port fronts n (other_port port)) (boundary_at port j) a b) where
+module _ {T : Type 0} (times : Times T) (o : PartialOrderLaws times) (p : Dataflow) (d : DeskView T) (n port s : ℕ) (j : JoiningView T) (reads : ReadsAt p d n port s j) (ports : ℕ → ℕ → List T) (holding : AreHolding times p d ports) (a b : ArrangementState T) (own : slice_get d.arrangements s ≡ Some (Some a))
+    (fronts : List (List T)) (moved : HasMoved times (hold_at port j) (front_of_port fronts n (other_port port)) (boundary_at port j) a b) where
   abbrev to : DeskView T
   to = with_arrangement s b d
 
-  abbrev sharing : AreSharing below p d ports
+  abbrev sharing : AreSharing times p d ports
   sharing = holding.joins
 
   abbrev new_hold : HoldState T
@@ -143,8 +144,8 @@ module _ {T : Type 0} (below : T → T → Bool) (o : PartialOrderLaws below) (p
       let same = sharing.apart m at n port s i j r reads e in
       (same.0, same.1, one_entry d.joins n i j (ap (slice_get d.joins) (sym same.0) ∙ r.there) reads.there)
 
-  step : IsTrue (all_beyond below (front_of_port fronts n (other_port port)) (ports n (other_port port))) → (m at source : ℕ) (i : JoiningView T) → ReadsAt p d m at source i → HasHold below d source (hold_at at i) (boundary_at at i) (ports m (other_port at)) → (e : Bool) → eqb source s ≡ e
-      → HasHold below to source (hold_at at i) (boundary_at at i) (ports m (other_port at))
+  step : IsTrue (all_beyond times (front_of_port fronts n (other_port port)) (ports n (other_port port))) → (m at source : ℕ) (i : JoiningView T) → ReadsAt p d m at source i → HasHold times d source (hold_at at i) (boundary_at at i) (ports m (other_port at)) → (e : Bool) → eqb source s ≡ e
+      → HasHold times to source (hold_at at i) (boundary_at at i) (ports m (other_port at))
   step later m at source i r h true e =
       let here = eqb-true source s e in
       let r_here = subst (λ z. ReadsAt p d m at z i) here r in
@@ -152,7 +153,7 @@ module _ {T : Type 0} (below : T → T → Bool) (o : PartialOrderLaws below) (p
       let there : slice_get to.arrangements source ≡ Some (Some b) = ap (slice_get to.arrangements) here ∙ b_there in
       by there is r_here (eqb (hold_at at i) (hold_at port j)) refl
     where
-      by : slice_get to.arrangements source ≡ Some (Some b) → h.arrangement ≡ a → ReadsAt p d m at s i → (f : Bool) → eqb (hold_at at i) (hold_at port j) ≡ f → HasHold below to source (hold_at at i) (boundary_at at i) (ports m (other_port at))
+      by : slice_get to.arrangements source ≡ Some (Some b) → h.arrangement ≡ a → ReadsAt p d m at s i → (f : Bool) → eqb (hold_at at i) (hold_at port j) ≡ f → HasHold times to source (hold_at at i) (boundary_at at i) (ports m (other_port at))
       by there is r_here true f =
           let same = eqb-true (hold_at at i) (hold_at port j) f in
           let who = alone m at i r_here same in
@@ -162,8 +163,8 @@ module _ {T : Type 0} (below : T → T → Bool) (o : PartialOrderLaws below) (p
             other = h.other;
             hold = new_hold;
             held = ap (slice_get b.holds) same ∙ moved_hold;
-            apart = subst (λ (z : ℕ × ℕ). IsTrue (all_beyond below (front_of_port fronts n (other_port port)) (ports z.0 (other_port z.1)))) (λ k. (sym who.0 k, sym who.1 k)) later;
-            behind = subst (λ F. IsTrue (all_beyond below (boundary_at port j) F)) (λ k. boundary_at (sym who.1 k) (sym who.2 k)) (beyond_itself o (boundary_at port j));
+            apart = subst (λ (z : ℕ × ℕ). IsTrue (all_beyond times (front_of_port fronts n (other_port port)) (ports z.0 (other_port z.1)))) (λ k. (sym who.0 k, sym who.1 k)) later;
+            behind = subst (λ F. IsTrue (all_beyond times (boundary_at port j) F)) (λ k. boundary_at (sym who.1 k) (sym who.2 k)) (beyond_itself o (boundary_at port j));
           }
       by there is r_here false f = record {
         arrangement = b;
@@ -185,7 +186,7 @@ module _ {T : Type 0} (below : T → T → Bool) (o : PartialOrderLaws below) (p
   }
 
   -- the hold that moved is not the arrangement's own one, which serves the reductions
-  serves : (source : ℕ) (ts : List T) → KeepsApart below d source 0 ts → (e : Bool) → eqb source s ≡ e → KeepsApart below to source 0 ts
+  serves : (source : ℕ) (ts : List T) → KeepsApart times d source 0 ts → (e : Bool) → eqb source s ≡ e → KeepsApart times to source 0 ts
   serves source ts h true e =
       let here = eqb-true source s e in
       let is : h.arrangement ≡ a = one_entry d.arrangements s h.arrangement a (ap (slice_get d.arrangements) (sym here) ∙ h.there) own in
@@ -205,8 +206,9 @@ module _ {T : Type 0} (below : T → T → Bool) (o : PartialOrderLaws below) (p
     apart = h.apart;
   }
 
-  -- all readers have their holds, if the one that moved is for what may come at the join's other port
-  pub holding_moved : IsTrue (all_beyond below (front_of_port fronts n (other_port port)) (ports n (other_port port))) → AreHolding below p to ports
+  -- all readers have their holds, if the one that moved is for what may come at the join's other
+  -- port
+  pub holding_moved : IsTrue (all_beyond times (front_of_port fronts n (other_port port)) (ports n (other_port port))) → AreHolding times p to ports
   holding_moved later = record {
     joins = record {
       held = λ m at source i r. let y = reads_back p d s b m at source i r in step later m at source i y (sharing.held m at source i y) (eqb source s) refl;

@@ -1,6 +1,7 @@
 -- What a join has taken at its ports, what it takes next, and what it makes of a bundle.
-use Rattle.std.specs.Prelude.{◌≡◌, ℕ, zero, suc, ◌+◌, ◌-◌, ◌*◌, ◌^◌, ◌≤◌, ◌⊎◌, Bool, List, [], ◌∷◌, Option, Some, set, slice_get, IsTrue}
+use Rattle.std.specs.Prelude.{◌≡◌, ℕ, zero, suc, ◌+◌, ◌-◌, ◌*◌, ◌^◌, ◌≤◌, ◌⊎◌, List, [], ◌∷◌, Option, Some, set, slice_get, IsTrue}
 use Rattle.std.specs.declared.cmp.Ordering.{Ordering}
+use Rattle.lattice.specs.Times.{Times}
 use Rattle.lattice.specs.Frontiers.{all_beyond}
 use Rattle.update.specs.Updates.{size, IsConsolidated}
 use Rattle.update.specs.declared.change.Update.{Update}
@@ -12,7 +13,7 @@ use Rattle.join.specs.Pairs.{pairs}
 use Rattle.join.specs.Sides.{all_rows_have}
 use Rattle.operator.specs.Arrangements.{ArrangementState, AreInTurn, IsOpen, times_from}
 use Rattle.operator.specs.Joins.{JoiningView, IsFitting}
-use Rattle.operator_laws.specs.Joining.{IsAnswer, on_top}
+use Rattle.operator_laws.specs.JoinNodes.{IsAnswer, on_top}
 use Rattle.desk_laws.specs.Own.{DeskView, boundary_at, other_port}
 
 -- ---- by port
@@ -29,26 +30,26 @@ module _ {T : Type 0} where
   taken_up_to (suc port) upper looked j = record j { state = record j.state { right = upper; looked = looked } }
 
   -- the pairs of what comes at a port with what was taken at the other one
-  abbrev pub pairs_at : (T → T → T) → ℕ → ℕ → List (Update T) → List (Update T) → List (Update T)
-  pairs_at joined zero key us others = pairs joined key us others
-  pairs_at joined (suc port) key us others = pairs joined key others us
+  abbrev pub pairs_at : Times T → ℕ → ℕ → List (Update T) → List (Update T) → List (Update T)
+  pairs_at times zero key us others = pairs times key us others
+  pairs_at times (suc port) key us others = pairs times key others us
 
-module _ {T : Type 0} (below : T → T → Bool) (minimum : T) where
+module _ {T : Type 0} (times : Times T) where
   -- ---- readers of an arrangement
 
-  -- of what was inserted in an arrangement a reader has taken the oldest insertions, up to a boundary,
-  -- and it has a hold that is no further
+  -- of what was inserted in an arrangement a reader has taken the oldest insertions, up to a
+  -- boundary, and it has a hold that is no further
   pub record IsReading (a : ArrangementState T) (inserted later taken : List (Insertion T)) (boundary : List T) : Type 0 where
-    pub stands : Stands below a.spine inserted
-    pub start : a.spine.list.start ≡ minimum ∷ []
-    pub in_turn : AreInTurn below (minimum ∷ []) inserted
-    pub «open» : IsOpen below a.spine inserted
+    pub stands : Stands times a.spine inserted
+    pub start : a.spine.list.start ≡ times.least ∷ []
+    pub in_turn : AreInTurn times (times.least ∷ []) inserted
+    pub «open» : IsOpen times a.spine inserted
     pub all : inserted ≡ on_top later taken
-    pub ends : boundary ≡ reached (minimum ∷ []) taken
+    pub ends : boundary ≡ reached (times.least ∷ []) taken
     pub number : ℕ
     pub hold : HoldState T
     pub held : slice_get a.holds number ≡ Some hold
-    pub behind : IsTrue (all_beyond below hold.physical boundary)
+    pub behind : IsTrue (all_beyond times hold.physical boundary)
 
   -- these updates are the insertion that begins at a reader's boundary
   pub record IsNextOf (a : ArrangementState T) (boundary : List T) (us : List (Update T)) : Type 0 where
@@ -67,14 +68,14 @@ module _ {T : Type 0} (below : T → T → Bool) (minimum : T) where
 
   -- ---- a bundle at a port of a join
 
-  -- a bundle that came at a port is the next that the join takes there, and the join may read what it
-  -- took at the other port. Its hold there keeps the bundle's times apart from later ones
+  -- a bundle that came at a port is the next that the join takes there, and the join may read what
+  -- it took at the other port. Its hold there keeps the bundle's times apart from later ones
   pub record IsNextAt (port : ℕ) (arrangements : List (Option (ArrangementState T))) (source other : ℕ) (j : JoiningView T) (us : List (Update T)) : Type 0 where
     pub arrangement : ArrangementState T
     pub there : slice_get arrangements source ≡ Some (Some arrangement)
     pub next : IsNextOf arrangement (boundary_at port j) us
     pub rows : IsTrue (all_rows_have (width_on port j) us)
-    pub times : IsTrue (times_from below minimum us)
+    pub begun : IsTrue (times_from times us)
     pub opposite : ArrangementState T
     pub opposite_there : slice_get arrangements other ≡ Some (Some opposite)
     pub opposite_width : opposite.width ≡ width_on (other_port port) j
@@ -82,30 +83,30 @@ module _ {T : Type 0} (below : T → T → Bool) (minimum : T) where
     pub later : List (Insertion T)
     pub taken : List (Insertion T)
     pub reading : IsReading opposite inserted later taken (boundary_at (other_port port) j)
-    pub apart : IsTrue (all_times_beyond below reading.hold.logical us)
+    pub apart : IsTrue (all_times_beyond times reading.hold.logical us)
 
-  -- a bundle that came at a port, or its pairs with all that the join took at the other port, are too
-  -- large for 64-bit numbers
+  -- a bundle that came at a port, or its pairs with all that the join took at the other port, are
+  -- too large for 64-bit numbers
   abbrev pub ArePairsLarge : ℕ → List (Option (ArrangementState T)) → ℕ → JoiningView T → List (Update T) → Type 0
   ArePairsLarge port arrangements other j us =
       (a : ArrangementState T) → slice_get arrangements other ≡ Some (Some a)
       → (inserted later taken : List (Insertion T)) → IsReading a inserted later taken (boundary_at (other_port port) j)
       → (2 ^ 63 ≤ size us) ⊎ (2 ^ 63 ≤ size us * size (all_updates taken))
 
-  module _ (joined : T → T → T) (cmp : T → T → Ordering) where
+  module _ (cmp : T → T → Ordering) where
     -- a join took a bundle at a port, up to where its batch ends, and these are its pairs
     pub record IsPaired (port : ℕ) (arrangements : List (Option (ArrangementState T))) (source other : ℕ) (j : JoiningView T) (us out : List (Update T)) (i : JoiningView T) : Type 0 where
       pub fitting : IsFitting j.state.key j.left_width j.right_width
       pub upper : List T
       pub looked : ℕ
       pub moved : i ≡ taken_up_to port upper looked j
-      pub forward : IsTrue (all_beyond below (boundary_at port j) upper)
+      pub forward : IsTrue (all_beyond times (boundary_at port j) upper)
       pub ends : (a : ArrangementState T) → slice_get arrangements source ≡ Some (Some a)
           → IsEndAfter a (boundary_at port j) upper
       pub answers : (a : ArrangementState T) → slice_get arrangements other ≡ Some (Some a)
           → (inserted later taken : List (Insertion T))
           → IsReading a inserted later taken (boundary_at (other_port port) j)
-          → IsAnswer below (pairs_at joined port j.state.key us (all_updates taken)) us (all_updates taken) out
+          → IsAnswer times (pairs_at times port j.state.key us (all_updates taken)) us (all_updates taken) out
       pub consolidated : IsConsolidated cmp out
       pub wide : IsTrue (all_rows_have (j.left_width + j.right_width - j.state.key) out)
 

@@ -4,4 +4,4 @@ pub mod Desks
 pub mod Openings
 pub mod Sealings
 pub mod Joinings
-pub mod Tidying
+pub mod Upkeep

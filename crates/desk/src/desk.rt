@@ -1,9 +1,9 @@
 //! A worker's desk: what it keeps at each node between two steps.
 //!
-//! An arrange node has an [`Arrangement`], a reduction a [`Reducing`], and a join a [`Joining`]. At each
-//! node that is neither arranged nor a reduction, updates may lie gathered that were not given yet. All
-//! joins that read an arrange node share its spine, and each has a hold of its own there, or two if it
-//! reads the node at both ports.
+//! An arrange node has an [`Arrangement`], a reduction a [`Reducing`], and a join a [`Joining`]. At
+//! each node that is neither arranged nor a reduction, updates may lie gathered that were not given
+//! yet. All joins that read an arrange node share its spine, and each has a hold of its own there,
+//! or two if it reads the node at both ports.
 
 use antichain::Antichain;
 use gathered::Gathered;
@@ -11,8 +11,8 @@ use lattice::Minimum;
 use operator::{Arrangement, Joining, Reducing};
 use std::marker::Model;
 
-/// What a worker keeps, by node. A contract sees what was gathered, the arrangements, the joins and the
-/// reductions, each as a list by node.
+/// What a worker keeps, by node. A contract sees what was gathered, the arrangements, the joins and
+/// the reductions, each as a list by node.
 #[derive(Drop)]
 pub struct Desk<T: Minimum> {
     pub(crate) gathered: Vec<Gathered<T>>,
@@ -36,5 +36,5 @@ impl<T: Minimum> Model for Desk<T> {
       reductions = d.reductions.items;
     } };
 
-    ghost invariant = { λ d. d.start ≡ T.least ∷ [] };
+    ghost invariant = { λ d. d.start ≡ T.times.least ∷ [] };
 }

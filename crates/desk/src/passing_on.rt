@@ -1,6 +1,6 @@
-//! A bundle at a linear node. If nothing lies gathered for the node, then what the node makes of the
-//! bundle is ready at once: the updates are overwritten where they are, and no list is copied. At a
-//! view they even stay in their form.
+//! A bundle at a linear node. If nothing lies gathered for the node, then what the node makes of
+//! the bundle is ready at once: the updates are overwritten where they are, and no list is copied.
+//! At a view they even stay in their form.
 //!
 //! Short bundles are gathered instead, as long as more of them wait, and given together. So is what
 //! comes to a node with two sources: there the same updates may come from both.
@@ -29,7 +29,7 @@ const MANY: usize = 64;
 impl<T: Minimum> Desk<T> {
     // Whether a bundle is in hand of which the output is to be ready at once.
     pub(crate) fn passes_on(&self, plan: &Plan, hand: &Hand<T>) -> bool
-        requires someones { IsSomeones T.below T.joined T.least plan.now self.now hand.now }
+        requires someones { IsSomeones T.times plan.now self.now hand.now }
         ensures { IsTrue result → IsPassedOn plan.now self.now hand.now }
     {
         let Hand::Taken { bundle, more } = hand else {
@@ -103,7 +103,8 @@ fn make_ready<T: Minimum>(hand: &mut Hand<T>)
     }
 }
 
-// What a linear node makes of the bundle in hand is ready. If it is refused, then nothing has changed.
+// What a linear node makes of the bundle in hand is ready. If it is refused, then nothing has
+// changed.
 pub(crate) fn pass_on<T: Minimum>(
     alloc: Global,
     plan: &Plan,

@@ -1,10 +1,10 @@
-//! A batch that was given goes into the spine of its arrange node, for all joins and reductions that
-//! read it. There is room for it since it was sealed, so nothing can be refused between the give and
-//! this.
+//! A batch that was given goes into the spine of its arrange node, for all joins and reductions
+//! that read it. There is room for it since it was sealed, so nothing can be refused between the
+//! give and this.
 //!
-//! Then the spine merges, across the boundaries that no reader asks for. A merge that is refused memory
-//! is given up, and begun again later. So a spine keeps up with what comes, although nobody tidies; what
-//! is left is that holds move ([`Desk::tidy`]).
+//! Then the spine merges, across the boundaries that no reader asks for. A merge that is refused
+//! memory is given up, and begun again later. So a spine keeps up with what comes, although nobody
+//! tidies; what is left is that holds move ([`Desk::tidy`]).
 ghost use Rattle.std.specs.Prelude.{◌≡◌, Some, set, slice_get};
 ghost use Rattle.histories.specs.Histories.Dataflows.{Dataflow};
 ghost use Rattle.operator.specs.Arrangements.{ArrangementState};
@@ -18,11 +18,11 @@ use lattice::Minimum;
 use operator::Arrangement;
 use plan::NodeId;
 
-// Inserts a batch into the spine of an arrangement, and lets the spine merge as much as keeps up with
-// it.
+// Inserts a batch into the spine of an arrangement, and lets the spine merge as much as keeps up
+// with it.
 fn insert_into<T: Minimum>(arrangement: &mut Arrangement<T>, batch: Batch<T>)
-    requires { MayInsert T.below T.least arrangement.old batch }
-    ensures { IsInserted T.below arrangement.old arrangement.new batch }
+    requires { MayInsert T.times arrangement.old batch }
+    ensures { IsInserted T.times arrangement.old arrangement.new batch }
 {
     let more = batch.len();
     arrangement.insert(batch);
@@ -36,10 +36,10 @@ fn insert_at<T: Minimum>(
     batch: Batch<T>,
 )
     requires { (a : ArrangementState T) × (slice_get arrangements.old.items node ≡ Some (Some a))
-        × MayInsert T.below T.least a batch }
+        × MayInsert T.times a batch }
     ensures { (a : ArrangementState T) → slice_get arrangements.old.items node ≡ Some (Some a)
         → (b : ArrangementState T) × (arrangements.new.items
-        ≡ set arrangements.old.items node (Some b)) × IsInserted T.below a b batch }
+        ≡ set arrangements.old.items node (Some b)) × IsInserted T.times a b batch }
 {
     match &mut arrangements[node.number()] {
         Some(arrangement) => insert_into(arrangement, batch),
@@ -54,9 +54,9 @@ impl<T: Minimum> Desk<T> {
     /// Cost: that of [`Arrangement::work`] for so many updates.
     pub fn put_away(&mut self, node: NodeId, batch: Batch<T>)
         requires next { (p : Dataflow)
-            × IsNextBatch T.below T.joined T.least p self.old node batch }
-        ensures away { (p : Dataflow) → IsNextBatch T.below T.joined T.least p self.old node batch
-            → IsPutAway T.below T.joined T.least p node batch self.old self.new }
+            × IsNextBatch T.times p self.old node batch }
+        ensures away { (p : Dataflow) → IsNextBatch T.times p self.old node batch
+            → IsPutAway T.times p node batch self.old self.new }
     {
         if batch.len() == 0 {
             return;

@@ -1,10 +1,11 @@
--- What a worker finds of what is pending at a reduction: the answers at the times that the node's input
--- frontier has passed.
-use Rattle.std.proofs.Common.{◌≡◌, ◌≢◌, ℕ, ◌<◌, Bool, cond, List, [], ◌++◌, length, Some, IsTrue, arith, sym, refl, ap, ◌∙◌, subst}
+-- What a worker finds of what is pending at a reduction: the answers at the times that the node's
+-- input frontier has passed.
+use Rattle.std.proofs.Common.{◌≡◌, ◌≢◌, ℕ, ◌<◌, cond, List, [], ◌++◌, length, Some, IsTrue, arith, sym, refl, ap, ◌∙◌, subst}
 use Rattle.std.specs.List.{slice_get, list_all}
 use Rattle.std.proofs.lemmas.Bool.{eq-eqb, true≢false}
 use Rattle.std.proofs.lemmas.List.{append-nil}
 use Rattle.std.proofs.lemmas.Option.{none-some, same_Some}
+use Rattle.lattice.specs.Times.{Times}
 use Rattle.lattice.specs.Order.{PartialOrderLaws, LatticeLaws}
 use Rattle.lattice.specs.Frontiers.{all_beyond}
 use Rattle.antichain.proofs.Lists.{all_at, all_from}
@@ -24,11 +25,11 @@ use Rattle.histories.specs.declared.event.Event.{Event}
 use Rattle.histories.specs.Histories.{IsLegal, state_after}
 use Rattle.histories.specs.Histories.Dataflows.{Dataflow, IsDataflow, node_of, node_output, source_of}
 use Rattle.histories.specs.Histories.NodeLaws.{received_at, was_passed}
-use Rattle.histories.specs.Histories.States.{State, emitted_by, times}
-use Rattle.operator_laws.specs.Arranging.{IsArranging}
-use Rattle.operator_laws.specs.Reducing.{IsFound}
-use Rattle.operator_laws.specs.Working.{Works, IsWorkingAt}
-use Rattle.operator_laws.proofs.WorkingLemmas.{has_all}
+use Rattle.histories.specs.Histories.States.{State, emitted_by, update_times}
+use Rattle.operator_laws.specs.ArrangeNodes.{IsArranging}
+use Rattle.operator_laws.specs.ReduceNodes.{IsFound}
+use Rattle.operator_laws.specs.Workers.{Works, IsWorkingAt}
+use Rattle.operator_laws.proofs.WorkerLemmas.{has_all}
 use Rattle.operator.specs.Arrangements.{ArrangementState}
 use Rattle.operator.specs.Reductions.{HasRoom, IsReduced, ReducingView, SumsToReceived, pending_of, state_key}
 use Rattle.desk_laws.specs.Own.{DeskView, IsArrangedOn, IsOfOneShape, IsOwn, IsReducedOn, IsSameAt, StayHolding}
@@ -41,28 +42,28 @@ pub is_arrange : (node : Node) (key : ℕ) → arranged_by node ≡ Some key →
 is_arrange (Arrange source columns) key e = (source, columns, refl)
 is_arrange other key e = absurd (none-some key e)
 
-module _ {T : Type 0} (below : T → T → Bool) (joined met : T → T → T) (minimum : T) (o : PartialOrderLaws below) (laws : LatticeLaws below joined met) (p : Dataflow) (q : IsDataflow p) (h : List (Event T)) (legal : IsLegal below minimum p h) (k : ℕ) (d c : DeskView T) (stay : StayHolding below p d c) (n : ℕ)
+module _ {T : Type 0} (times : Times T) (o : PartialOrderLaws times) (laws : LatticeLaws times) (p : Dataflow) (q : IsDataflow p) (h : List (Event T)) (legal : IsLegal times p h) (k : ℕ) (d c : DeskView T) (stay : StayHolding times p d c) (n : ℕ)
     (within : n < length p.nodes) (kind : Kind) (source : ℕ) (e : node_of p n ≡ Reduce kind source) (desks : (m : ℕ) → m ≢ n → IsSameAt m d c) (r s : ReducingView T) (there : slice_get d.reductions n ≡ Some (Some r)) (then : slice_get c.reductions n ≡ Some (Some s)) (shape : IsOfOneShape r s)
     (a : ArrangementState T) (read : slice_get d.arrangements source ≡ Some (Some a)) (upper : List T) (out : List (Update T))
-    (stands : (inserted : List (Insertion T)) (received emitted : List (Update T)) → Stands below a.spine inserted → SumsToReceived below upper (all_updates inserted) received → IsReduced below joined minimum r received emitted → IsReduced below joined minimum s received (out ++ emitted))
-    (settled : IsTrue (list_all (λ u. has_passed below upper u.time) out)) (later : IsTrue (all_beyond below upper (pending_of s)))
-    (out_beyond : (other : List T) → IsTrue (all_beyond below other (pending_of r)) → IsTrue (all_beyond below other (times out)))
-    (rest_beyond : (other : List T) → IsTrue (all_beyond below other (pending_of r)) → IsTrue (all_beyond below other (pending_of s)))
-    (x : IsOwn below joined minimum p (state_after below minimum p h) k d (Turned n upper)) where
+    (stands : (inserted : List (Insertion T)) (received emitted : List (Update T)) → Stands times a.spine inserted → SumsToReceived times upper (all_updates inserted) received → IsReduced times r received emitted → IsReduced times s received (out ++ emitted))
+    (settled : IsTrue (list_all (λ u. has_passed times upper u.time) out)) (later : IsTrue (all_beyond times upper (pending_of s)))
+    (out_beyond : (other : List T) → IsTrue (all_beyond times other (pending_of r)) → IsTrue (all_beyond times other (update_times out)))
+    (rest_beyond : (other : List T) → IsTrue (all_beyond times other (pending_of r)) → IsTrue (all_beyond times other (pending_of s)))
+    (x : IsOwn times p (state_after times p h) k d (Turned n upper)) where
   abbrev w : State T
-  w = state_after below minimum p h
+  w = state_after times p h
 
   abbrev works : Works T
   works = x.keeps.works
 
-  abbrev before : IsReducedOn below joined minimum p d (Turned n upper) x.keeps n kind source
-  before = (at_each below joined minimum p d (Turned n upper) x.keeps x.laid n within).reducing source kind e
+  abbrev before : IsReducedOn times p d (Turned n upper) x.keeps n kind source
+  before = (at_each times p d (Turned n upper) x.keeps x.laid n within).reducing source kind e
 
   same : before.reduction ≡ r
   same = same_Some before.reduction r (same_Some (Some before.reduction) (Some r) (sym before.there ∙ there))
 
-  old_reduced : IsReduced below joined minimum r before.taken (x.keeps.given n)
-  old_reduced = subst (λ z. IsReduced below joined minimum z before.taken (x.keeps.given n)) same before.reduced
+  old_reduced : IsReduced times r before.taken (x.keeps.given n)
+  old_reduced = subst (λ z. IsReduced times z before.taken (x.keeps.given n)) same before.reduced
 
   pending : works.pending n ≡ pending_of r
   pending = before.pending refl ∙ (append-nil (pending_of before.reduction) ∙ ap pending_of same)
@@ -83,23 +84,23 @@ module _ {T : Type 0} (below : T → T → Bool) (joined met : T → T → T) (m
   arrange : (from : ℕ) × (columns : ℕ) × (node_of p source ≡ Arrange from columns)
   arrange = is_arrange (node_of p source) (key_width p.nodes (node_of p n)) (source_arranged p.nodes q.plan n 0 source within (ap is_linear e) reads)
 
-  abbrev lies : IsArrangedOn below joined minimum p d source (works.start source) (works.inserted source)
-  lies = (at_each below joined minimum p d (Turned n upper) x.keeps x.laid source source_within).arranged arrange.0 arrange.1 arrange.2
+  abbrev lies : IsArrangedOn times p d source (works.start source) (works.inserted source)
+  lies = (at_each times p d (Turned n upper) x.keeps x.laid source source_within).arranged arrange.0 arrange.1 arrange.2
 
-  spine_stands : Stands below a.spine (works.inserted source)
-  spine_stands = subst (λ (z : ArrangementState T). Stands below z.spine (works.inserted source)) (same_Some lies.arrangement a (same_Some (Some lies.arrangement) (Some a) (sym lies.there ∙ read))) lies.spine.stands
+  spine_stands : Stands times a.spine (works.inserted source)
+  spine_stands = subst (λ (z : ArrangementState T). Stands times z.spine (works.inserted source)) (same_Some lies.arrangement a (same_Some (Some lies.arrangement) (Some a) (sym lies.there ∙ read))) lies.spine.stands
 
-  arranging : IsArranging below p w source k (works.start source) (works.inserted source) (works.waiting source)
-  arranging = subst (λ node. IsWorkingAt below p w k works source node) arrange.2 (x.keeping.working source source_within)
+  arranging : IsArranging times p w source k (works.start source) (works.inserted source) (works.waiting source)
+  arranging = subst (λ node. IsWorkingAt times p w k works source node) arrange.2 (x.keeping.working source source_within)
 
   -- at the times that the input frontier has passed, nothing is on its way to the reduction
-  sums : SumsToReceived below upper (all_updates (works.inserted source)) before.taken
+  sums : SumsToReceived times upper (all_updates (works.inserted source)) before.taken
   sums t f row =
-      ap (λ us. count_of (as_of below t us) row) (sym arranging.emitted)
-      ∙ (sym (has_all below o p q minimum h legal n 0 k source reads (ap arranged_by e) t (x.come.come t f) row)
-      ∙ ap (λ us. count_of (as_of below t us) row) received)
+      ap (λ us. count_of (as_of times t us) row) (sym arranging.emitted)
+      ∙ (sym (has_all times o p q h legal n 0 k source reads (ap arranged_by e) t (x.come.come t f) row)
+      ∙ ap (λ us. count_of (as_of times t us) row) received)
 
-  reduced : IsReduced below joined minimum s before.taken (out ++ x.keeps.given n)
+  reduced : IsReduced times s before.taken (out ++ x.keeps.given n)
   reduced = stands (works.inserted source) before.taken (x.keeps.given n) spine_stands sums old_reduced
 
   kind_there : s.state.reducer ≡ kind
@@ -114,31 +115,31 @@ module _ {T : Type 0} (below : T → T → Bool) (joined met : T → T → T) (m
   goes : s.state.key ≡ state_key s.state.reducer s.key s.width
   goes = shape.columns ∙ (subst (λ (z : ReducingView T). z.state.key ≡ state_key z.state.reducer z.key z.width) same before.goes ∙ (λ i. state_key (sym shape.reducer i) (sym shape.key i) (sym shape.width i)))
 
-  found : IsFound below p w n k (works.upper n) (works.pending n) upper out (pending_of s)
+  found : IsFound times p w n k (works.upper n) (works.pending n) upper out (pending_of s)
   found = record {
     law = λ t f.
-        subst (λ us. Alike (as_of below t (out ++ us)) (node_output p n (λ port. as_of below t (received_at w n k port)))) (sym given)
-        (law_at below joined met minimum o laws p w k n source kind e s before.taken (out ++ x.keeps.given n) room goes kind_there key_there reduced received t f);
-    apart = subst (λ us. AreApart below (out ++ us)) (sym given) reduced.apart;
+        subst (λ us. Alike (as_of times t (out ++ us)) (node_output p n (λ port. as_of times t (received_at w n k port)))) (sym given)
+        (law_at times o laws p w k n source kind e s before.taken (out ++ x.keeps.given n) room goes kind_there key_there reduced received t f);
+    apart = subst (λ us. AreApart times (out ++ us)) (sym given) reduced.apart;
     settled = settled;
-    was = all_from (λ u. was_passed below n k w.observed u.time) out (λ u m. x.come.was u.time (all_at (λ u. has_passed below upper u.time) out u settled m));
+    was = all_from (λ u. was_passed times n k w.observed u.time) out (λ u m. x.come.was u.time (all_at (λ u. has_passed times upper u.time) out u settled m));
     later = later;
     on = x.come.on source kind e;
     passed = x.come.come;
-    out_beyond = λ F b. out_beyond F (subst (λ ts. IsTrue (all_beyond below F ts)) pending b);
-    rest_beyond = λ F b. rest_beyond F (subst (λ ts. IsTrue (all_beyond below F ts)) pending b);
+    out_beyond = λ F b. out_beyond F (subst (λ ts. IsTrue (all_beyond times F ts)) pending b);
+    rest_beyond = λ F b. rest_beyond F (subst (λ ts. IsTrue (all_beyond times F ts)) pending b);
   }
 
   -- the answers are ready to be given, and the rest stays pending
-  pub found_reduce : IsOwn below joined minimum p w k c (Ready n out)
+  pub found_reduce : IsOwn times p w k c (Ready n out)
   found_reduce =
-      computed_with below joined minimum o p q w k n within d c (Turned n upper) (Ready n out) x refl refl (λ m ne. turned_idle m n upper) (λ m ne. ready_idle m n out ne) desks (λ z. absurd (true≢false (sym (ap is_reduction e) ∙ z))) (stay x.keeps.ports x.holding) works (λ m ne. same_keeps m x.keeps) x.keeping.working
+      computed_with times o p q w k n within d c (Turned n upper) (Ready n out) x refl refl (λ m ne. turned_idle m n upper) (λ m ne. ready_idle m n out ne) desks (λ z. absurd (true≢false (sym (ap is_reduction e) ∙ z))) (stay x.keeps.ports x.holding) works (λ m ne. same_keeps m x.keeps) x.keeping.working
       (record {
         waiting = λ z. absurd (true≢false (sym (ap is_reduction e) ∙ z));
         arranged = λ other key f. absurd (none-some key (sym (ap arranged_by e) ∙ ap arranged_by f));
         joining = λ a b f. absurd (true≢false (sym (ap is_reduction e) ∙ ap is_reduction f));
         reducing = λ other kind' f.
-            let one = (at_each below joined minimum p d (Turned n upper) x.keeps x.laid n within).reducing other kind' f in
+            let one = (at_each times p d (Turned n upper) x.keeps x.laid n within).reducing other kind' f in
             let is_r : one.reduction ≡ r = same_Some one.reduction r (same_Some (Some one.reduction) (Some r) (sym one.there ∙ there)) in
             record {
               reduction = s;
@@ -150,7 +151,7 @@ module _ {T : Type 0} (below : T → T → Bool) (joined met : T → T → T) (m
               goes = goes;
               taken = before.taken;
               received = before.received;
-              reduced = subst (λ us. IsReduced below joined minimum s before.taken (us ++ x.keeps.given n)) (sym (ap (λ b. cond b out []) (eq-eqb n n refl))) reduced;
+              reduced = subst (λ us. IsReduced times s before.taken (us ++ x.keeps.given n)) (sym (ap (λ b. cond b out []) (eq-eqb n n refl))) reduced;
               pending = λ z. absurd (true≢false (sym (eq-eqb n n refl) ∙ z));
             };
       })

@@ -10,12 +10,13 @@ use Rattle.batch.specs.Descriptions.{BatchState}
 use Rattle.trace.specs.Readings.{Insertion}
 use Rattle.histories.specs.declared.event.Bundle.{Bundle}
 use Rattle.histories.specs.Histories.Dataflows.{Dataflow, node_of}
-use Rattle.histories.specs.Histories.States.{times}
-use Rattle.operator_laws.specs.Working.{Works}
+use Rattle.histories.specs.Histories.States.{update_times}
+use Rattle.operator_laws.specs.Workers.{Works}
 use Rattle.operator.specs.Reductions.{pending_of, IsReduced}
 use Rattle.desk_laws.specs.Own.{DeskView, Keeps, IsArrangedOn, IsSpineAt, IsJoinedOn, IsReducedOn, IsSameAt, IsTakenBefore, IsLaid, gathered_in, in_hand_at, is_taken_at, is_ready_at, taken_at, ready_at, made_of, waiting_in, waits_on}
 use Rattle.desk_laws.specs.declared.hand.Hand.{Hand}
 use Rattle.desk_laws.specs.declared.hand.Hand.TheVariants.{Free, Taken, Kept, Turned, Ready, Sealed}
+use Rattle.lattice.specs.Times.{Times}
 
 module _ {T : Type 0} where
   -- what two workers keep at a node is the same
@@ -35,7 +36,7 @@ module _ {T : Type 0} where
     pub bundle : taken_at h m ≡ []
     pub ready : ready_at h m ≡ []
     pub not_ready : is_ready_at h m ≡ false
-    pub nothing : (joined : T → T → T) (p : Dataflow) (works : Works T) → in_hand_at joined p works h m ≡ []
+    pub nothing : (times : Times T) (p : Dataflow) (works : Works T) → in_hand_at times p works h m ≡ []
 
   pub same_desk : (m : ℕ) (d : DeskView T) → IsSameAt m d d
   same_desk m d = record { gathered = refl; arrangements = refl; joins = refl; reductions = refl }
@@ -44,13 +45,13 @@ module _ {T : Type 0} where
   same_keeps m keeps = record { waiting = refl; start = refl; inserted = refl; left = refl; right = refl; pending = refl; received = refl; given = refl }
 
   pub free_idle : (m : ℕ) → IsIdleAt m Free
-  free_idle m = record { taken = λ port. refl; bundle = refl; ready = refl; not_ready = refl; nothing = λ joined p works. refl }
+  free_idle m = record { taken = λ port. refl; bundle = refl; ready = refl; not_ready = refl; nothing = λ times p works. refl }
 
   pub kept_idle : (m node : ℕ) (more : Bool) → IsIdleAt m (Kept node more)
-  kept_idle m node more = record { taken = λ port. refl; bundle = refl; ready = refl; not_ready = refl; nothing = λ joined p works. refl }
+  kept_idle m node more = record { taken = λ port. refl; bundle = refl; ready = refl; not_ready = refl; nothing = λ times p works. refl }
 
   pub turned_idle : (m node : ℕ) (upper : List T) → IsIdleAt m (Turned node upper)
-  turned_idle m node upper = record { taken = λ port. refl; bundle = refl; ready = refl; not_ready = refl; nothing = λ joined p works. refl }
+  turned_idle m node upper = record { taken = λ port. refl; bundle = refl; ready = refl; not_ready = refl; nothing = λ times p works. refl }
 
   pub taken_idle : (m : ℕ) (bundle : Bundle T) (more : Bool) → m ≢ bundle.place.node → IsIdleAt m (Taken bundle more)
   taken_idle m bundle more ne =
@@ -60,29 +61,29 @@ module _ {T : Type 0} where
         bundle = ap (λ b. cond b bundle.updates []) not_here;
         ready = refl;
         not_ready = refl;
-        nothing = λ joined p works. ap (λ b. cond b (made_of joined p works bundle (node_of p m)) []) not_here;
+        nothing = λ times p works. ap (λ b. cond b (made_of times p works bundle (node_of p m)) []) not_here;
       }
 
   pub ready_idle : (m node : ℕ) (us : List (Update T)) → m ≢ node → IsIdleAt m (Ready node us)
   ready_idle m node us ne =
       let not_here = ap (λ b. cond b us []) (ne_eqb m node ne) in
-      record { taken = λ port. refl; bundle = refl; ready = not_here; not_ready = ne_eqb node m (λ e. ne (sym e)); nothing = λ joined p works. not_here }
+      record { taken = λ port. refl; bundle = refl; ready = not_here; not_ready = ne_eqb node m (λ e. ne (sym e)); nothing = λ times p works. not_here }
 
   pub sealed_idle : (m node : ℕ) (batch : BatchState T) → m ≢ node → IsIdleAt m (Sealed node batch)
   sealed_idle m node batch ne =
       let not_here = ap (λ b. cond b batch.updates []) (ne_eqb m node ne) in
-      record { taken = λ port. refl; bundle = refl; ready = not_here; not_ready = refl; nothing = λ joined p works. not_here }
+      record { taken = λ port. refl; bundle = refl; ready = not_here; not_ready = refl; nothing = λ times p works. not_here }
 
 -- at a node, what lies there and is in hand is what is kept
-pub record IsLaidAt {T : Type 0} (below : T → T → Bool) (joined : T → T → T) (minimum : T) (p : Dataflow) (d : DeskView T) (h : Hand T) (keeps : Keeps T) (n : ℕ) : Type 0 where
-  pub waiting : is_reduction (node_of p n) ≡ false → keeps.works.waiting n ≡ in_hand_at joined p keeps.works h n ++ waits_on d n (node_of p n)
-  pub arranged : (source key : ℕ) → node_of p n ≡ Arrange source key → IsArrangedOn below joined minimum p d n (keeps.works.start n) (keeps.works.inserted n)
-  pub joining : (l r : ℕ) → node_of p n ≡ Join l r → IsJoinedOn below joined minimum p d h keeps.works n l r
-  pub reducing : (source : ℕ) (kind : Kind) → node_of p n ≡ Reduce kind source → IsReducedOn below joined minimum p d h keeps n kind source
+pub record IsLaidAt {T : Type 0} (times : Times T) (p : Dataflow) (d : DeskView T) (h : Hand T) (keeps : Keeps T) (n : ℕ) : Type 0 where
+  pub waiting : is_reduction (node_of p n) ≡ false → keeps.works.waiting n ≡ in_hand_at times p keeps.works h n ++ waits_on d n (node_of p n)
+  pub arranged : (source key : ℕ) → node_of p n ≡ Arrange source key → IsArrangedOn times p d n (keeps.works.start n) (keeps.works.inserted n)
+  pub joining : (l r : ℕ) → node_of p n ≡ Join l r → IsJoinedOn times p d h keeps.works n l r
+  pub reducing : (source : ℕ) (kind : Kind) → node_of p n ≡ Reduce kind source → IsReducedOn times p d h keeps n kind source
 
-module _ {T : Type 0} (below : T → T → Bool) (joined : T → T → T) (minimum : T) (p : Dataflow) where
+module _ {T : Type 0} (times : Times T) (p : Dataflow) where
   -- node by node
-  pub at_each : (d : DeskView T) (h : Hand T) (keeps : Keeps T) → IsLaid below joined minimum p d h keeps → (n : ℕ) → n < length p.nodes → IsLaidAt below joined minimum p d h keeps n
+  pub at_each : (d : DeskView T) (h : Hand T) (keeps : Keeps T) → IsLaid times p d h keeps → (n : ℕ) → n < length p.nodes → IsLaidAt times p d h keeps n
   at_each d h keeps x n l = record {
     waiting = x.waiting n l;
     arranged = λ source key e. x.arranged n source key l e;
@@ -90,7 +91,7 @@ module _ {T : Type 0} (below : T → T → Bool) (joined : T → T → T) (minim
     reducing = λ source kind e. x.reducing n source kind l e;
   }
 
-  pub of_each : (d : DeskView T) (h : Hand T) (keeps : Keeps T) → ((n : ℕ) → n < length p.nodes → IsLaidAt below joined minimum p d h keeps n) → IsLaid below joined minimum p d h keeps
+  pub of_each : (d : DeskView T) (h : Hand T) (keeps : Keeps T) → ((n : ℕ) → n < length p.nodes → IsLaidAt times p d h keeps n) → IsLaid times p d h keeps
   of_each d h keeps x = record {
     waiting = λ n l. (x n l).waiting;
     arranged = λ n source key l e. (x n l).arranged source key e;
@@ -104,11 +105,11 @@ module _ {T : Type 0} (below : T → T → Bool) (joined : T → T → T) (minim
   waits_same m d c s other = ap gathered_in s.gathered
 
   module _ (m : ℕ) (d c : DeskView T) (desks : IsSameAt m d c) (keeps next : Keeps T) (same : AreSameAt m keeps next) where
-    pub arranged_same : IsArrangedOn below joined minimum p d m (keeps.works.start m) (keeps.works.inserted m) → IsArrangedOn below joined minimum p c m (next.works.start m) (next.works.inserted m)
+    pub arranged_same : IsArrangedOn times p d m (keeps.works.start m) (keeps.works.inserted m) → IsArrangedOn times p c m (next.works.start m) (next.works.inserted m)
     arranged_same x = record {
       arrangement = x.arrangement;
       there = desks.arrangements ∙ x.there;
-      spine = subst (λ is. IsSpineAt below joined minimum p m is x.arrangement) (sym same.inserted) x.spine;
+      spine = subst (λ is. IsSpineAt times p m is x.arrangement) (sym same.inserted) x.spine;
       begins = same.start ∙ x.begins;
     }
 
@@ -120,12 +121,12 @@ module _ {T : Type 0} (below : T → T → Bool) (joined : T → T → T) (minim
       }
 
       -- nothing comes from either hand there, and all is the same
-      pub laid_same : IsLaidAt below joined minimum p d h keeps m → IsLaidAt below joined minimum p c g next m
+      pub laid_same : IsLaidAt times p d h keeps m → IsLaidAt times p c g next m
       laid_same x = record {
         waiting = λ r.
             same.waiting
             ∙ (x.waiting r
-            ∙ ((λ i. (a.nothing joined p keeps.works ∙ sym (b.nothing joined p next.works)) i ++ sym (waits_same m d c desks (node_of p m)) i)));
+            ∙ ((λ i. (a.nothing times p keeps.works ∙ sym (b.nothing times p next.works)) i ++ sym (waits_same m d c desks (node_of p m)) i)));
         arranged = λ source key e. arranged_same (x.arranged source key e);
         joining = λ left right e.
             let j = x.joining left right e in
@@ -154,7 +155,7 @@ module _ {T : Type 0} (below : T → T → Bool) (joined : T → T → T) (minim
               goes = r.goes;
               taken = r.taken;
               received = same.received ∙ (r.received ∙ ap (λ us. us ++ r.taken) (a.bundle ∙ sym b.bundle));
-              reduced = subst (IsReduced below joined minimum r.reduction r.taken) (λ i. (a.ready ∙ sym b.ready) i ++ sym same.given i) r.reduced;
-              pending = λ _. same.pending ∙ (r.pending a.not_ready ∙ ap (λ us. pending_of r.reduction ++ times us) (a.bundle ∙ sym b.bundle));
+              reduced = subst (IsReduced times r.reduction r.taken) (λ i. (a.ready ∙ sym b.ready) i ++ sym same.given i) r.reduced;
+              pending = λ _. same.pending ∙ (r.pending a.not_ready ∙ ap (λ us. pending_of r.reduction ++ update_times us) (a.bundle ∙ sym b.bundle));
             };
       }

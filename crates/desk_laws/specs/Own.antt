@@ -1,9 +1,10 @@
--- What one worker keeps between two of its steps, with what it has in hand, and of which states that
--- is right. It falls into two halves. `IsKeeping` speaks of the machine's state: what the worker keeps
--- at its nodes is right for what it received and gave. `IsLaid` speaks of the desk and the hand: they
--- together are what the worker keeps. So what others do touches the first half alone, and what the
--- worker computes between two events touches the second.
+-- What one worker keeps between two of its steps, with what it has in hand, and of which states
+-- that is right. It falls into two halves. `IsKeeping` speaks of the machine's state: what the
+-- worker keeps at its nodes is right for what it received and gave. `IsLaid` speaks of the desk and
+-- the hand: they together are what the worker keeps. So what others do touches the first half
+-- alone, and what the worker computes between two events touches the second.
 use Rattle.std.specs.Prelude.{◌≡◌, ℕ, zero, suc, ◌<◌, Bool, true, false, ◌&&◌, eqb, if◌then◌else◌, List, [], ◌∷◌, ◌++◌, length, slice_get, Option, Some, None, IsTrue, ⊤}
+use Rattle.lattice.specs.Times.{Times}
 use Rattle.lattice.specs.Frontiers.{all_beyond}
 use Rattle.update.specs.declared.change.Update.{Update}
 use Rattle.plan.specs.Changes.{has_passed}
@@ -23,15 +24,15 @@ use Rattle.join.specs.Pairs.{pairs}
 use Rattle.histories.specs.declared.event.Bundle.{Bundle}
 use Rattle.histories.specs.Histories.Dataflows.{Dataflow, node_of, source_of}
 use Rattle.histories.specs.Histories.NodeLaws.{received_at, was_passed}
-use Rattle.histories.specs.Histories.States.{State, emitted_by, times}
+use Rattle.histories.specs.Histories.States.{State, emitted_by, update_times}
 use Rattle.histories.specs.Histories.Outstanding.{input_frontier, port_frontier}
 use Rattle.histories.specs.Histories.Promises.{NeverGoesBack}
 use Rattle.operator.specs.Arrangements.{ArrangementState, AreInTurn, IsOpen, rows_have, times_from, upper_of}
 use Rattle.operator.specs.Joins.{JoiningView}
 use Rattle.operator.specs.Reductions.{ReducingView, HasRoom, IsReduced, pending_of, state_key}
-use Rattle.operator_laws.specs.Joining.{on_top}
-use Rattle.operator_laws.specs.Reducing.{IsFound}
-use Rattle.operator_laws.specs.Working.{Works, IsWorking, first_works}
+use Rattle.operator_laws.specs.JoinNodes.{on_top}
+use Rattle.operator_laws.specs.ReduceNodes.{IsFound}
+use Rattle.operator_laws.specs.Workers.{Works, IsWorking, first_works}
 use Rattle.desk_laws.specs.Observed.{AreBeyondNewest}
 use Rattle.desk_laws.specs.declared.hand.Hand.{Hand}
 use Rattle.desk_laws.specs.declared.hand.Hand.TheVariants.{Free, Taken, Kept, Turned, Ready, Sealed}
@@ -75,8 +76,8 @@ module _ {T : Type 0} where
   is_ready_at (Ready node updates) n = eqb node n
   is_ready_at other n = false
 
-  -- with this in hand the worker gives all that the input frontier had passed when it took there. Of
-  -- what a bundle made it may hold back more
+  -- with this in hand the worker gives all that the input frontier had passed when it took there.
+  -- Of what a bundle made it may hold back more
   abbrev pub gives_passed : Hand T → Bool
   gives_passed (Turned node upper) = true
   gives_passed (Ready node updates) = true
@@ -105,7 +106,7 @@ module _ {T : Type 0} where
   -- the times of what lies on the desk for a node, to be held there
   abbrev pub due_on : DeskView T → ℕ → Node → List T
   due_on d n (Reduce kind source) = due_in (slice_get d.reductions n)
-  due_on d n other = times (waits_on d n other)
+  due_on d n other = update_times (waits_on d n other)
 
   -- the updates of the bundle in hand, at its node
   abbrev pub taken_at : Hand T → ℕ → List (Update T)
@@ -118,11 +119,12 @@ module _ {T : Type 0} where
   ready_at (Sealed node batch) n = if eqb n node then batch.updates else []
   ready_at other n = []
 
-  module _ (joined : T → T → T) (p : Dataflow) (works : Works T) where
-    -- what a bundle makes at its node: at a join the pairs with all that was taken at the other port
+  module _ (times : Times T) (p : Dataflow) (works : Works T) where
+    -- what a bundle makes at its node: at a join the pairs with all that was taken at the other
+    -- port
     abbrev pub made_of_pairs : ℕ → ℕ → List (Update T) → List (Update T)
-    made_of_pairs n zero us = pairs joined (key_width p.nodes (node_of p n)) us (all_updates (works.right n))
-    made_of_pairs n (suc port) us = pairs joined (key_width p.nodes (node_of p n)) (all_updates (works.left n)) us
+    made_of_pairs n zero us = pairs times (key_width p.nodes (node_of p n)) us (all_updates (works.right n))
+    made_of_pairs n (suc port) us = pairs times (key_width p.nodes (node_of p n)) (all_updates (works.left n)) us
 
     abbrev pub made_of : Bundle T → Node → List (Update T)
     made_of bundle (Join l r) = made_of_pairs bundle.place.node bundle.place.port bundle.updates
@@ -180,50 +182,50 @@ module _ {T : Type 0} where
     pub node : node_of p n ≡ Reduce kind source
     pub there : slice_get d.reductions n ≡ Some (Some r)
 
-  -- the arrangement of the source has a hold of this number. It keeps the updates of these times apart
-  -- from later ones
-  pub record KeepsApart (below : T → T → Bool) (d : DeskView T) (source number : ℕ) (ts : List T) : Type 0 where
+  -- the arrangement of the source has a hold of this number. It keeps the updates of these times
+  -- apart from later ones
+  pub record KeepsApart (times : Times T) (d : DeskView T) (source number : ℕ) (ts : List T) : Type 0 where
     pub arrangement : ArrangementState T
     pub there : slice_get d.arrangements source ≡ Some (Some arrangement)
     pub hold : HoldState T
     pub held : slice_get arrangement.holds number ≡ Some hold
-    pub apart : IsTrue (all_beyond below hold.logical ts)
+    pub apart : IsTrue (all_beyond times hold.logical ts)
 
-  -- the same, for a reader that has taken all up to the boundary. The hold is none that the arrangement
-  -- has for itself, and it may lag behind
-  pub record HasHold (below : T → T → Bool) (d : DeskView T) (source number : ℕ) (boundary ts : List T) : Type 0 where
+  -- the same, for a reader that has taken all up to the boundary. The hold is none that the
+  -- arrangement has for itself, and it may lag behind
+  pub record HasHold (times : Times T) (d : DeskView T) (source number : ℕ) (boundary ts : List T) : Type 0 where
     pub arrangement : ArrangementState T
     pub there : slice_get d.arrangements source ≡ Some (Some arrangement)
     pub other : 0 < number
     pub hold : HoldState T
     pub held : slice_get arrangement.holds number ≡ Some hold
-    pub apart : IsTrue (all_beyond below hold.logical ts)
-    pub behind : IsTrue (all_beyond below hold.physical boundary)
+    pub apart : IsTrue (all_beyond times hold.logical ts)
+    pub behind : IsTrue (all_beyond times hold.physical boundary)
 
-  -- each join has a hold at the arrangements of both its sources, no further than it has taken there,
-  -- for what may come at its other port. No two have one hold
-  pub record AreSharing (below : T → T → Bool) (p : Dataflow) (d : DeskView T) (ports : ℕ → ℕ → List T) : Type 0 where
+  -- each join has a hold at the arrangements of both its sources, no further than it has taken
+  -- there, for what may come at its other port. No two have one hold
+  pub record AreSharing (times : Times T) (p : Dataflow) (d : DeskView T) (ports : ℕ → ℕ → List T) : Type 0 where
     pub held : (n port source : ℕ) (j : JoiningView T) → ReadsAt p d n port source j
-        → HasHold below d source (hold_at port j) (boundary_at port j) (ports n (other_port port))
+        → HasHold times d source (hold_at port j) (boundary_at port j) (ports n (other_port port))
     pub apart : (n port m other source : ℕ) (i j : JoiningView T) → ReadsAt p d n port source i → ReadsAt p d m other source j
         → hold_at port i ≡ hold_at other j → (n ≡ m) × (port ≡ other)
 
-  -- so it is, and the hold that an arrangement has for itself serves the reductions that read it, for
-  -- what is pending there and what may come
-  pub record AreHolding (below : T → T → Bool) (p : Dataflow) (d : DeskView T) (ports : ℕ → ℕ → List T) : Type 0 where
-    pub joins : AreSharing below p d ports
-    pub pending : (n source : ℕ) (r : ReducingView T) → Reduces p d n source r → KeepsApart below d source 0 (pending_of r)
-    pub come : (n source : ℕ) (r : ReducingView T) → Reduces p d n source r → KeepsApart below d source 0 (ports n 0)
+  -- so it is, and the hold that an arrangement has for itself serves the reductions that read it,
+  -- for what is pending there and what may come
+  pub record AreHolding (times : Times T) (p : Dataflow) (d : DeskView T) (ports : ℕ → ℕ → List T) : Type 0 where
+    pub joins : AreSharing times p d ports
+    pub pending : (n source : ℕ) (r : ReducingView T) → Reduces p d n source r → KeepsApart times d source 0 (pending_of r)
+    pub come : (n source : ℕ) (r : ReducingView T) → Reduces p d n source r → KeepsApart times d source 0 (ports n 0)
 
-  -- whatever the ports' frontiers have reached: if the readers have their holds on the one desk, then
-  -- they have them on the other
-  abbrev pub StayHolding : (T → T → Bool) → Dataflow → DeskView T → DeskView T → Type 0
-  StayHolding below p d c = (ports : ℕ → ℕ → List T) → AreHolding below p d ports → AreHolding below p c ports
+  -- whatever the ports' frontiers have reached: if the readers have their holds on the one desk,
+  -- then they have them on the other
+  abbrev pub StayHolding : Times T → Dataflow → DeskView T → DeskView T → Type 0
+  StayHolding times p d c = (ports : ℕ → ℕ → List T) → AreHolding times p d ports → AreHolding times p c ports
 
   -- the same, if these times came at a port beyond what its frontier had reached
-  abbrev pub StayHoldingWith : (T → T → Bool) → Dataflow → DeskView T → DeskView T → ℕ → ℕ → List T → Type 0
-  StayHoldingWith below p d c n port ts = (ports : ℕ → ℕ → List T) → IsTrue (all_beyond below (ports n port) ts)
-      → AreHolding below p d ports → AreHolding below p c ports
+  abbrev pub StayHoldingWith : Times T → Dataflow → DeskView T → DeskView T → ℕ → ℕ → List T → Type 0
+  StayHoldingWith times p d c n port ts = (ports : ℕ → ℕ → List T) → IsTrue (all_beyond times (ports n port) ts)
+      → AreHolding times p d ports → AreHolding times p c ports
 
 -- ---- what lies on the desk and is in hand is what the worker keeps
 
@@ -233,24 +235,24 @@ pub record IsTakenBefore {T : Type 0} (h : Hand T) (n port : ℕ) (all taken : L
   pub newest : (bundle : Bundle T) (more : Bool) → h ≡ Taken bundle more → IsTrue (is_taken_at h n port)
       → (i : Insertion T) × (all ≡ i ∷ taken) × (i.updates ≡ bundle.updates)
 
-module _ {T : Type 0} (below : T → T → Bool) (joined : T → T → T) (minimum : T) where
-  -- what worker k keeps is right for the state: at every node, at a reduction all that it received and
-  -- gave, and how far the ports' frontiers have come
+module _ {T : Type 0} (times : Times T) where
+  -- what worker k keeps is right for the state: at every node, at a reduction all that it received
+  -- and gave, and how far the ports' frontiers have come
   pub record IsKeeping (p : Dataflow) (w : State T) (k : ℕ) (keeps : Keeps T) : Type 0 where
-    pub working : IsWorking below p w k keeps.works
+    pub working : IsWorking times p w k keeps.works
     pub received : (n source : ℕ) (kind : Kind) → n < length p.nodes → node_of p n ≡ Reduce kind source
         → received_at w n k 0 ≡ keeps.received n
     pub given : (n source : ℕ) (kind : Kind) → n < length p.nodes → node_of p n ≡ Reduce kind source
         → emitted_by n k w.emitted ≡ keeps.given n
-    pub ports : (n port : ℕ) → NeverGoesBack below (keeps.ports n port) (port_frontier below p w n port)
+    pub ports : (n port : ℕ) → NeverGoesBack times (keeps.ports n port) (port_frontier times p w n port)
 
   -- the arrangement of a node has a spine that stands for these insertions
   pub record IsSpineAt (p : Dataflow) (n : ℕ) (inserted : List (Insertion T)) (a : ArrangementState T) : Type 0 where
     pub width : a.width ≡ width_of p.nodes n
-    pub start : a.spine.list.start ≡ minimum ∷ []
-    pub stands : Stands below a.spine inserted
-    pub in_turn : AreInTurn below (minimum ∷ []) inserted
-    pub «open» : IsOpen below a.spine inserted
+    pub start : a.spine.list.start ≡ times.least ∷ []
+    pub stands : Stands times a.spine inserted
+    pub in_turn : AreInTurn times (times.least ∷ []) inserted
+    pub «open» : IsOpen times a.spine inserted
 
   module _ (p : Dataflow) (d : DeskView T) where
     -- there is an arrangement at an arrange node, and it stands for what was inserted
@@ -258,7 +260,7 @@ module _ {T : Type 0} (below : T → T → Bool) (joined : T → T → T) (minim
       pub arrangement : ArrangementState T
       pub there : slice_get d.arrangements n ≡ Some (Some arrangement)
       pub spine : IsSpineAt p n inserted arrangement
-      pub begins : start ≡ minimum ∷ []
+      pub begins : start ≡ times.least ∷ []
 
     -- there is a join, which has taken all up to its boundaries but for the bundle in hand
     pub record IsJoinedOn (h : Hand T) (works : Works T) (n l r : ℕ) : Type 0 where
@@ -271,11 +273,11 @@ module _ {T : Type 0} (below : T → T → Bool) (joined : T → T → T) (minim
       pub right : List (Insertion T)
       pub at_left : IsTakenBefore h n 0 (works.left n) left
       pub at_right : IsTakenBefore h n 1 (works.right n) right
-      pub left_boundary : join.state.left ≡ reached (minimum ∷ []) left
-      pub right_boundary : join.state.right ≡ reached (minimum ∷ []) right
+      pub left_boundary : join.state.left ≡ reached (times.least ∷ []) left
+      pub right_boundary : join.state.right ≡ reached (times.least ∷ []) right
 
-    -- there is a reduction, which stands for all that was received but for the bundle in hand, and for
-    -- all that was given and what is ready to be given
+    -- there is a reduction, which stands for all that was received but for the bundle in hand, and
+    -- for all that was given and what is ready to be given
     pub record IsReducedOn (h : Hand T) (keeps : Keeps T) (n : ℕ) (kind : Kind) (source : ℕ) : Type 0 where
       pub reduction : ReducingView T
       pub there : slice_get d.reductions n ≡ Some (Some reduction)
@@ -286,21 +288,21 @@ module _ {T : Type 0} (below : T → T → Bool) (joined : T → T → T) (minim
       pub goes : reduction.state.key ≡ state_key reduction.state.reducer reduction.key reduction.width
       pub taken : List (Update T)
       pub received : keeps.received n ≡ taken_at h n ++ taken
-      pub reduced : IsReduced below joined minimum reduction taken (ready_at h n ++ keeps.given n)
-      pub pending : is_ready_at h n ≡ false → keeps.works.pending n ≡ pending_of reduction ++ times (taken_at h n)
+      pub reduced : IsReduced times reduction taken (ready_at h n ++ keeps.given n)
+      pub pending : is_ready_at h n ≡ false → keeps.works.pending n ≡ pending_of reduction ++ update_times (taken_at h n)
 
   -- what lies on the desk and what is in hand are what the worker keeps
   pub record IsLaid (p : Dataflow) (d : DeskView T) (h : Hand T) (keeps : Keeps T) : Type 0 where
     pub waiting : (n : ℕ) → n < length p.nodes → is_reduction (node_of p n) ≡ false
-        → keeps.works.waiting n ≡ in_hand_at joined p keeps.works h n ++ waits_on d n (node_of p n)
+        → keeps.works.waiting n ≡ in_hand_at times p keeps.works h n ++ waits_on d n (node_of p n)
     pub arranged : (n source key : ℕ) → n < length p.nodes → node_of p n ≡ Arrange source key
         → IsArrangedOn p d n (keeps.works.start n) (keeps.works.inserted n)
     pub joining : (n l r : ℕ) → n < length p.nodes → node_of p n ≡ Join l r → IsJoinedOn p d h keeps.works n l r
     pub reducing : (n source : ℕ) (kind : Kind) → n < length p.nodes → node_of p n ≡ Reduce kind source
         → IsReducedOn p d h keeps n kind source
 
-  -- the desk has the same at a node, but that its arrangement was merged: it stands for what it stood
-  -- for before, and the same waits
+  -- the desk has the same at a node, but that its arrangement was merged: it stands for what it
+  -- stood for before, and the same waits
   pub record IsMergedAt (p : Dataflow) (n : ℕ) (d c : DeskView T) : Type 0 where
     pub gathered : slice_get c.gathered n ≡ slice_get d.gathered n
     pub joins : slice_get c.joins n ≡ slice_get d.joins n
@@ -314,23 +316,23 @@ module _ {T : Type 0} (below : T → T → Bool) (joined : T → T → T) (minim
   IsNextBoundary p d source boundary upper =
       (start : List T) (inserted later taken : List (Insertion T)) (next : Insertion T)
       → IsArrangedOn p d source start inserted → inserted ≡ on_top later (next ∷ taken)
-      → boundary ≡ reached (minimum ∷ []) taken → upper ≡ next.upper
+      → boundary ≡ reached (times.least ∷ []) taken → upper ≡ next.upper
 
-  -- a batch in hand goes on from the spine of its arrange node, which has room for it, and ends where
-  -- the rest on the desk begins
+  -- a batch in hand goes on from the spine of its arrange node, which has room for it, and ends
+  -- where the rest on the desk begins
   pub record IsNextBatch (p : Dataflow) (d : DeskView T) (n : ℕ) (batch : BatchState T) : Type 0 where
     pub arrangement : ArrangementState T
     pub there : slice_get d.arrangements n ≡ Some (Some arrangement)
     pub source : ℕ
     pub key : ℕ
     pub node : node_of p n ≡ Arrange source key
-    pub forward : IsTrue (all_beyond below (upper_of arrangement.spine) batch.description.upper)
-    pub between : IsTrue (all_between below (upper_of arrangement.spine) batch.description.upper batch.updates)
-    pub rest : IsTrue (all_beyond below batch.description.upper (times (waits_on d n (node_of p n))))
+    pub forward : IsTrue (all_beyond times (upper_of arrangement.spine) batch.description.upper)
+    pub between : IsTrue (all_between times (upper_of arrangement.spine) batch.description.upper batch.updates)
+    pub rest : IsTrue (all_beyond times batch.description.upper (update_times (waits_on d n (node_of p n))))
     pub room : IsTrue arrangement.spine.list.reserved
     pub continues : Continues arrangement.spine.list.worker arrangement.spine.list.node (upper_of arrangement.spine) batch
     pub rows : IsTrue (rows_have arrangement.width batch.updates)
-    pub times_are : IsTrue (times_from below minimum batch.updates)
+    pub times_are : IsTrue (times_from times batch.updates)
 
   -- what the piece in hand says of the desk: beside what is ready at another node than a reduction
   -- nothing waits there
@@ -339,38 +341,38 @@ module _ {T : Type 0} (below : T → T → Bool) (joined : T → T → T) (minim
   IsHandOn p d (Sealed node batch) = IsNextBatch p d node batch
   IsHandOn p d other = ⊤
 
-  -- what is ready at a reduction was found of what is pending, and the rest is pending on the desk. It
-  -- was found up to a frontier that is not behind the one that the worker found there last
+  -- what is ready at a reduction was found of what is pending, and the rest is pending on the desk.
+  -- It was found up to a frontier that is not behind the one that the worker found there last
   pub record IsFoundOn (p : Dataflow) (w : State T) (k : ℕ) (d : DeskView T) (keeps : Keeps T) (n : ℕ) (out : List (Update T)) : Type 0 where
     pub reduction : ReducingView T
     pub there : slice_get d.reductions n ≡ Some (Some reduction)
     pub frontier : List T
-    pub found : IsFound below p w n k (keeps.works.upper n) (keeps.works.pending n) frontier out (pending_of reduction)
-    pub newest : AreBeyondNewest below n k w.observed frontier
+    pub found : IsFound times p w n k (keeps.works.upper n) (keeps.works.pending n) frontier out (pending_of reduction)
+    pub newest : AreBeyondNewest times n k w.observed frontier
 
-  -- the node's input frontier has come so far, and had come so far at some take of the worker there.
-  -- At its newest take there it had come no further.
-  -- At an arrange node it is not behind where the last insertion ended, and at a reduction not behind
-  -- the frontier up to which was answered before
+  -- the node's input frontier has come so far, and had come so far at some take of the worker
+  -- there. At its newest take there it had come no further.
+  -- At an arrange node it is not behind where the last insertion ended, and at a reduction not
+  -- behind the frontier up to which was answered before
   pub record HasTurned (p : Dataflow) (w : State T) (k n : ℕ) (answered ended upper : List T) : Type 0 where
-    pub come : NeverGoesBack below upper (input_frontier below p w n)
-    pub was : (t : T) → IsTrue (has_passed below upper t) → IsTrue (was_passed below n k w.observed t)
-    pub newest : AreBeyondNewest below n k w.observed upper
-    pub after : (source key : ℕ) → node_of p n ≡ Arrange source key → NeverGoesBack below ended upper
-    pub on : (source : ℕ) (kind : Kind) → node_of p n ≡ Reduce kind source → NeverGoesBack below answered upper
+    pub come : NeverGoesBack times upper (input_frontier times p w n)
+    pub was : (t : T) → IsTrue (has_passed times upper t) → IsTrue (was_passed times n k w.observed t)
+    pub newest : AreBeyondNewest times n k w.observed upper
+    pub after : (source key : ℕ) → node_of p n ≡ Arrange source key → NeverGoesBack times ended upper
+    pub on : (source : ℕ) (kind : Kind) → node_of p n ≡ Reduce kind source → NeverGoesBack times answered upper
 
   -- the same, from what the worker keeps at the node
   abbrev pub HasTurnedTo : Dataflow → State T → ℕ → Keeps T → ℕ → List T → Type 0
   HasTurnedTo p w k keeps n upper =
       HasTurned p w k n (keeps.works.upper n) (reached (keeps.works.start n) (keeps.works.inserted n)) upper
 
-  -- what the piece in hand says of the state: how far an input frontier has come, or had come when the
-  -- bundle was taken, or what was found
+  -- what the piece in hand says of the state: how far an input frontier has come, or had come when
+  -- the bundle was taken, or what was found
   abbrev pub HasCome : Dataflow → State T → ℕ → DeskView T → Keeps T → Hand T → Type 0
   HasCome p w k d keeps (Turned node upper) = HasTurnedTo p w k keeps node upper
   HasCome p w k d keeps (Sealed node batch) = HasTurnedTo p w k keeps node batch.description.upper
   HasCome p w k d keeps (Taken bundle more) =
-      IsTrue (all_beyond below (keeps.ports bundle.place.node bundle.place.port) (times bundle.updates))
+      IsTrue (all_beyond times (keeps.ports bundle.place.node bundle.place.port) (update_times bundle.updates))
   HasCome p w k d keeps (Ready node updates) = (source : ℕ) (kind : Kind) → node_of p node ≡ Reduce kind source
       → IsFoundOn p w k d keeps node updates
   HasCome p w k d keeps other = ⊤
@@ -384,4 +386,4 @@ module _ {T : Type 0} (below : T → T → Bool) (joined : T → T → T) (minim
     pub hand : w.hand k ≡ hand_node h
     pub come : HasCome p w k d keeps h
     pub on : IsHandOn p d h
-    pub holding : AreHolding below p d keeps.ports
+    pub holding : AreHolding times p d keeps.ports

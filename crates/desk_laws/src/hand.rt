@@ -1,5 +1,5 @@
-//! What a worker has in hand between two of its steps. It keeps it through every refusal, so nothing
-//! that it took is lost, and nothing is done twice.
+//! What a worker has in hand between two of its steps. It keeps it through every refusal, so
+//! nothing that it took is lost, and nothing is done twice.
 use crate::output::Output;
 use batch::Batch;
 use lattice::Minimum;

@@ -1,8 +1,8 @@
-//! What a worker has ready to be given. Most nodes make a list. A reduction makes columns, and a list of
-//! columns asks for memory. That may be refused after the reduction has answered, and then its answer
-//! would be lost. So an output has either form, and it is made a list before it is given.
+//! What a worker has ready to be given. Most nodes make a list. A reduction makes columns, and a
+//! list of columns asks for memory. That may be refused after the reduction has answered, and then
+//! its answer would be lost. So an output has either form, and it is made a list before it is
+//! given.
 ghost use Rattle.std.specs.Prelude.{◌≡◌, IfErr, IfOk};
-ghost use Rattle.update.specs.declared.refusal.Refusal.TheVariants.{OutOfMemory};
 
 use columns::{Columns, UpdateList};
 use lattice::Lattice;
@@ -36,7 +36,8 @@ impl<T> Model for Output<T> {
 }
 
 impl<T: Lattice> Output<T> {
-    /// The output as a list that can be given. If memory was refused, the output comes back as it was.
+    /// The output as a list that can be given. If memory was refused, the output comes back as it
+    /// was.
     ///
     /// Cost: constant.
     pub fn into_list(self, alloc: Global) -> Result<UpdateList<T>, Output<T>>

@@ -1,4 +1,4 @@
 pub mod Decimals
 pub mod Digits
-pub mod Naming
+pub mod Names
 pub mod Values

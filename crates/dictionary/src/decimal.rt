@@ -171,8 +171,8 @@ fn push_whole(text: &mut String, number: u64) -> Result<(), AllocError>
     write!(text, "{number}")
 }
 
-/// Adds the amount's text: a minus sign if it is negative, the whole units, and a point with exactly
-/// `places` digits if there are any.
+/// Adds the amount's text: a minus sign if it is negative, the whole units, and a point with
+/// exactly `places` digits if there are any.
 #[tactic(auto, unfolding(crate::specs::Decimals::amount_text))]
 pub fn write_amount(text: &mut String, amount: i64, places: Places) -> Result<(), AllocError>
     ensures { OnOk result

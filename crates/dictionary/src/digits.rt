@@ -20,7 +20,8 @@ fn is_whole(bytes: &[u8]) -> bool
     !bytes.is_empty() && are_digits(bytes)
 }
 
-/// The number that the digits spell, if they are digits alone and it fits in 64 bits. Takes no memory.
+/// The number that the digits spell, if they are digits alone and it fits in 64 bits. Takes no
+/// memory.
 pub(crate) fn number(digits: &[u8]) -> Option<u64>
     ensures { result ≡ whole_of digits.now }
 {
@@ -33,8 +34,8 @@ pub(crate) fn number(digits: &[u8]) -> Option<u64>
     }
 }
 
-/// The whole number that the text spells: digits alone, leading zeros included, and below 2 to the 64.
-/// Takes no memory.
+/// The whole number that the text spells: digits alone, leading zeros included, and below 2 to the
+/// 64. Takes no memory.
 pub fn whole(text: &str) -> Option<u64>
     ensures { result ≡ whole_of text.now }
 {

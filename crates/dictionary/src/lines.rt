@@ -1,8 +1,8 @@
 //! On which line of a file a record of CSV begins.
 //!
-//! The reader of the kit counts lines as it meets them: after a carriage return it is one line late,
-//! and empty lines before a record are not its own. So the line is counted here, from the byte at
-//! which the reader began to look for the record.
+//! The reader of the kit counts lines as it meets them: after a carriage return it is one line
+//! late, and empty lines before a record are not its own. So the line is counted here, from the
+//! byte at which the reader began to look for the record.
 ghost use Rattle.std.specs.Prelude.{◌≤◌, ◌+◌, length};
 
 use csv::ByteRecord;
@@ -15,8 +15,8 @@ pub fn without_mark(bytes: &[u8]) -> &[u8] {
     }
 }
 
-// The index of the first byte that does not end a line, from this one on; that of the end if there is
-// none.
+// The index of the first byte that does not end a line, from this one on; that of the end if there
+// is none.
 fn first_of_record(bytes: &[u8], from: usize) -> usize
     requires { from ≤ length bytes.now }
     ensures { result ≤ length bytes.now }
@@ -38,8 +38,8 @@ fn newlines(bytes: &[u8]) -> usize
     bytes.iter().filter(|byte| **byte == b'\n').count()
 }
 
-/// The line, from 1, on which a record begins that was looked for from this byte on. Empty lines before
-/// it are passed over. A byte beyond the end stands for the end. Takes no memory.
+/// The line, from 1, on which a record begins that was looked for from this byte on. Empty lines
+/// before it are passed over. A byte beyond the end stands for the end. Takes no memory.
 ///
 /// Cost: linear in the bytes.
 pub fn line_at(bytes: &[u8], from: u64) -> u64

@@ -1,6 +1,6 @@
 //! Names and their numbers.
 ghost use Rattle.std.specs.Prelude.{◌≡◌, ◌<◌, ◌^◌, ◌++◌, ◌∷◌, [], ◌==◌, length, Some, None, IfOk, IfSome, OnOk, OnErr, option_map, slice_get};
-ghost use Rattle.dictionary.specs.Naming.{number_in, with_name};
+ghost use Rattle.dictionary.specs.Names.{number_in, with_name};
 
 use indexmap::IndexSet;
 use std::alloc::{AllocError, Global};

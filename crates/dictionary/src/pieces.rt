@@ -43,8 +43,8 @@ fn with_sign_of(sign: i64, number: u64) -> i64
     }
 }
 
-/// The amount as pieces that one change takes. They sum to it: so many times the full piece, and the
-/// rest.
+/// The amount as pieces that one change takes. They sum to it: so many times the full piece, and
+/// the rest.
 pub fn split(amount: i64) -> Pieces
     ensures sum { result.full *ℤ pos result.times +ℤ result.rest ≡ amount }
     ensures full { unsigned_abs result.full ≡ 2_147_483_647 }

@@ -64,8 +64,8 @@ fn write_name(text: &mut String, number: i64, names: &Names) -> Result<(), Alloc
     write!(text, "{number}")
 }
 
-/// Adds the text of the number in this kind. A code without a name, and a day that is not in the years
-/// 0000 to 9999, are written as plain numbers.
+/// Adds the text of the number in this kind. A code without a name, and a day that is not in the
+/// years 0000 to 9999, are written as plain numbers.
 pub fn write_value(
     text: &mut String,
     kind: Kind,

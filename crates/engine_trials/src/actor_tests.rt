@@ -4,8 +4,8 @@
 ghost use Rattle.std.specs.Prelude.{◌≡◌, ◌∷◌, [], ℕ, None, IfOk};
 ghost use Rattle.plan.specs.declared.node.Node.TheVariants.{Input, Output};
 ghost use Rattle.hub.specs.Known.{Known};
-ghost use Rattle.shared_board.specs.declared.event.Doing.{Doing};
-ghost use Rattle.shared_board.specs.Tenures.{IsActor, IsFirst, Terms, state_left, terms_for, terms_in};
+ghost use Rattle.shared_board.specs.declared.event.BoardEvent.{BoardEvent};
+ghost use Rattle.shared_board.specs.Tenures.{IsActor, IsFirst, Opening, state_left, opening_for, opening_in};
 
 use antichain::Antichain;
 use lattice::{Bitime, Minimum};
@@ -38,7 +38,7 @@ fn viewed(alloc: Global) -> Result<Plan, Refusal>
 struct Client<T: Minimum> {
     actor: Actor<T, Boards<T>>,
     ghost number: { actor.number ≡ 1 },
-    ghost knows: { terms_in actor.seen ≡ terms_for (Input 1 ∷ Output 0 ∷ []) 1 1 },
+    ghost knows: { opening_in actor.seen ≡ opening_for (Input 1 ∷ Output 0 ∷ []) 1 1 },
 }
 
 impl<T: Minimum> Client<T> {
@@ -86,9 +86,9 @@ impl<T: Minimum> Client<T> {
 
 // A worker that has done nothing but look has nothing in hand. The function does nothing.
 fn looks_take_nothing_in_hand<T: Minimum>()
-    ensures first { (t : Terms) (k : ℕ) (a : Known (Doing T)) → IsFirst t k a
-        → IsActor T.below T.least a
-        → (state_left T.below T.least a).hand a.number ≡ None }
+    ensures first { (t : Opening) (k : ℕ) (a : Known (BoardEvent T)) → IsFirst t k a
+        → IsActor T.times a
+        → (state_left T.times a).hand a.number ≡ None }
 {
     others_change_nothing_of_a_worker::<T>();
 }
@@ -103,16 +103,16 @@ impl<T: Minimum> Model for Idle<T> {
     ghost use Rattle.std.specs.Prelude.{◌≡◌, ◌∷◌, [], None};
     ghost use Rattle.plan.specs.declared.node.Node.TheVariants.{Input, Output};
     ghost use Rattle.hub.specs.Known.{Known};
-    ghost use Rattle.shared_board.specs.declared.event.Doing.{Doing};
-    ghost use Rattle.shared_board.specs.Tenures.{state_left, terms_for, terms_in};
+    ghost use Rattle.shared_board.specs.declared.event.BoardEvent.{BoardEvent};
+    ghost use Rattle.shared_board.specs.Tenures.{state_left, opening_for, opening_in};
 
-    ghost Value = { Known (Doing T) };
+    ghost Value = { Known (BoardEvent T) };
 
     ghost view = { λ w. w.actor };
 
     ghost invariant = { λ w. (w.actor.number ≡ 0)
-        × (terms_in w.actor.seen ≡ terms_for (Input 1 ∷ Output 0 ∷ []) 1 1)
-        × ((state_left T.below T.least w.actor).hand w.actor.number ≡ None) };
+        × (opening_in w.actor.seen ≡ opening_for (Input 1 ∷ Output 0 ∷ []) 1 1)
+        × ((state_left T.times w.actor).hand w.actor.number ≡ None) };
 }
 
 impl<T: Minimum> Idle<T> {
@@ -210,8 +210,8 @@ fn actors_take_memory(rt: HostRuntime) -> Result<(), Fail> {
     Ok(())
 }
 
-// What the worker gets that asks for the piece of a number after the client has fed changes at these
-// times. Nobody else is at the board then.
+// What the worker gets that asks for the piece of a number after the client has fed changes at
+// these times. Nobody else is at the board then.
 fn is_tried<T: Minimum, R: Wait + Abort>(
     rt: &R,
     alloc: Global,

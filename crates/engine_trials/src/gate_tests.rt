@@ -1,5 +1,5 @@
-//! Two workers of a script meet at a gate: neither goes on before the other has taken a piece too. So
-//! they run at once, and not one after another, and it is they who find the answer.
+//! Two workers of a script meet at a gate: neither goes on before the other has taken a piece too.
+//! So they run at once, and not one after another, and it is they who find the answer.
 use grammar::parse;
 use script::{MemoryOut, run_script};
 use session::Gate;

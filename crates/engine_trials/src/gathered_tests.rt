@@ -1,5 +1,5 @@
-//! What lies gathered at a node: its least times are held, and what comes from two sources cancels once
-//! it is given.
+//! What lies gathered at a node: its least times are held, and what comes from two sources cancels
+//! once it is given.
 use columns::UpdateList;
 use gathered::Gathered;
 use lattice::Bitime;

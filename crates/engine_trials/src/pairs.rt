@@ -1,9 +1,9 @@
 //! A worker and a client of one board, as all runs with one worker have them.
-ghost use Rattle.std.specs.Prelude.{◌≡◌, ℕ, IfOk, IfErr, OnOk, Some, length, slice_get};
+ghost use Rattle.std.specs.Prelude.{◌≡◌, ℕ, IfOk, OnOk, Some, length, slice_get};
+ghost use Rattle.update.specs.Refusals.{OnlyMemory};
 ghost use Rattle.hub.specs.Known.{Known};
-ghost use Rattle.shared_board.specs.declared.event.Doing.{Doing};
-ghost use Rattle.update.specs.declared.refusal.Refusal.TheVariants.{OutOfMemory};
-ghost use Rattle.shared_board.specs.Tenures.{IsFirst, terms_for};
+ghost use Rattle.shared_board.specs.declared.event.BoardEvent.{BoardEvent};
+ghost use Rattle.shared_board.specs.Tenures.{IsFirst, opening_for};
 
 use lattice::{Bitime, Minimum};
 use plan::Plan;
@@ -33,10 +33,10 @@ fn open_into<T: Minimum, P: BoardProtocol<T>, R: Wait>(
     actors: &mut Vec<Actor<T, P>>,
 ) -> Result<(), Refusal>
     ensures count { OnOk result (length actors.new.items ≡ 2) }
-    ensures each { OnOk result ((k : ℕ) (a : Known (Doing T))
+    ensures each { OnOk result ((k : ℕ) (a : Known (BoardEvent T))
         → slice_get actors.new.items k ≡ Some a
-        → IsFirst (terms_for plan.now 1 1) k a) }
-    ensures refused { IfErr result (λ refusal. refusal ≡ OutOfMemory) }
+        → IsFirst (opening_for plan.now 1 1) k a) }
+    ensures refused { OnlyMemory result }
 {
     *actors = open(rt, alloc, plan, 1, 1)?;
     Ok(())
@@ -45,9 +45,9 @@ fn open_into<T: Minimum, P: BoardProtocol<T>, R: Wait>(
 /// The worker and the client of a new board of this plan: actors 0 and 1, each of which has looked
 /// once. Refused only with `OutOfMemory`. Cost: that of [`shared_board::open`].
 pub fn worker_and_client<R: Wait>(rt: &R, alloc: Global, plan: &Plan) -> Result<Players, Refusal>
-    ensures worker { IfOk result (λ both. IsFirst (terms_for plan.now 1 1) 0 both.worker) }
-    ensures client { IfOk result (λ both. IsFirst (terms_for plan.now 1 1) 1 both.client) }
-    ensures refused { IfErr result (λ refusal. refusal ≡ OutOfMemory) }
+    ensures worker { IfOk result (λ both. IsFirst (opening_for plan.now 1 1) 0 both.worker) }
+    ensures client { IfOk result (λ both. IsFirst (opening_for plan.now 1 1) 1 both.client) }
+    ensures refused { OnlyMemory result }
 {
     let mut actors: Vec<BoardActor> = Vec::new(alloc);
     open_into(rt, alloc, plan, &mut actors)?;

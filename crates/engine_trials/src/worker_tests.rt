@@ -62,8 +62,8 @@ fn is_done<R: Wait>(
     unreachable!()
 }
 
-// Feeds the row 7 and closes the input. Then the worker goes on until there is no piece. The answers
-// are whether the client found all quiet before, and whether both find it after.
+// Feeds the row 7 and closes the input. Then the worker goes on until there is no piece. The
+// answers are whether the client found all quiet before, and whether both find it after.
 fn is_carried<R: Wait>(rt: &R, alloc: Global) -> Result<(bool, bool), Refusal> {
     let plan = least_rows(alloc)?;
     let Players { worker, mut client } = worker_and_client(rt, alloc, &plan)?;

@@ -1,7 +1,7 @@
 -- Writing texts one after another, of which only the first is known.
-use Rattle.std.proofs.Common.{◌≡◌, ℕ, ◌+◌, List, [], ◌++◌, Result, Ok, Err, refl, sym, ◌∙◌, ap, subst, append_assoc, arith}
+use Rattle.std.proofs.Common.{◌≡◌, ℕ, List, [], ◌++◌, sym, ◌∙◌, ap, subst, append_assoc, arith}
 use Rattle.std.proofs.lemmas.List.{append-nil}
-use Rattle.output.specs.Outs.{Wrote, Broke}
+use Rattle.output.specs.Outs.{Wrote}
 use Rattle.output.proofs.OutLemmas.{AtOnce, InTurn, wrote_in_turn}
 use Rattle.explain.specs.Explanations.{WroteSome, TookSome}
 

@@ -24,8 +24,8 @@ impl Date {
         Some(Date { year, month, day })
     }
 
-    /// The number of its day, counted from 0 at 1970-01-01; `None` before that and if there is no such
-    /// day.
+    /// The number of its day, counted from 0 at 1970-01-01; `None` before that and if there is no
+    /// such day.
     pub(crate) fn day_number(self) -> Option<u64> {
         let Date { year, month, day } = self;
         if year < 1970 || year > 9999 || month < 1 || month > 12 || day < 1 || day > 31 {

@@ -1,7 +1,9 @@
-//! A line of the file, as it is shown below what is told about it, with a mark below the part at fault.
+//! A line of the file, as it is shown below what is told about it, with a mark below the part at
+//! fault.
 //!
-//! Each character is shown in one column, so that the mark stands right: what does not take exactly one,
-//! as a tab, is shown as `?`. Of a long line 80 columns are shown, among them the first marked ones.
+//! Each character is shown in one column, so that the mark stands right: what does not take exactly
+//! one, as a tab, is shown as `?`. Of a long line 80 columns are shown, among them the first marked
+//! ones.
 use crate::marks::{Span, word_span};
 use std::alloc::{AllocError, Global};
 use std::str;
@@ -50,8 +52,8 @@ fn shown_byte(byte: u8) -> char {
     }
 }
 
-/// The part of the line that is marked: the word with this index, or else the first byte that is not
-/// UTF-8, or else the whole line.
+/// The part of the line that is marked: the word with this index, or else the first byte that is
+/// not UTF-8, or else the whole line.
 pub(crate) fn span_at(line: &[u8], index: Option<usize>) -> Span {
     match (text_of(line), index) {
         (Some(text), Some(index)) => match word_span(text, index) {

@@ -15,8 +15,8 @@ use grammar::{Fault, Script, parse};
 use output::{Out, OutputBuffer, PrintFault};
 use std::alloc::Global;
 
-// Tells about a file whose first fault this is. How it begins is known before the lines are gone over,
-// so it is what the text begins with.
+// Tells about a file whose first fault this is. How it begins is known before the lines are gone
+// over, so it is what the text begins with.
 fn tell_faults<W: Out>(
     alloc: Global,
     bytes: &[u8],
@@ -102,17 +102,17 @@ fn finish<W: Out>(
     Ok(())
 }
 
-/// Writes what is wrong with a command file, line by line and in words: all of its faults, or if it has
-/// none its warnings. The last line counts both.
+/// Writes what is wrong with a command file, line by line and in words: all of its faults, or if it
+/// has none its warnings. The last line counts both.
 ///
-/// The faults after the first are those that [`grammar::Reader`] finds: a faulty line declares nothing,
-/// so one mistake may have several faults.
+/// The faults after the first are those that [`grammar::Reader`] finds: a faulty line declares
+/// nothing, so one mistake may have several faults.
 ///
-/// If the result is Ok, all of the text was taken. After an Err, a part of it was: `OutOfMemory` if an
-/// allocation was refused, and `Write` if a call of the output failed.
+/// If the result is Ok, all of the text was taken. After an Err, a part of it was: `OutOfMemory` if
+/// an allocation was refused, and `Write` if a call of the output failed.
 ///
-/// Cost: linear in the bytes; a fault costs its line, and a name that is not found all names. A warning
-/// about a `read` costs the plan for each input.
+/// Cost: linear in the bytes; a fault costs its line, and a name that is not found all names. A
+/// warning about a `read` costs the plan for each input.
 pub fn explain<W: Out>(alloc: Global, bytes: &[u8], out: &mut W) -> Result<Found, PrintFault>
     ensures first { IfOk result (λ found. IsFirstOf found.fault (script_of bytes.now)) }
     ensures counted { IfOk result (λ found. (found.faults ≡ 0) ↔ (found.fault ≡ None)) }

@@ -1,4 +1,5 @@
-//! What is told about faults. The file is read past each of them, and a faulty line declares nothing.
+//! What is told about faults. The file is read past each of them, and a faulty line declares
+//! nothing.
 ghost use Rattle.std.specs.Prelude.{◌≡◌};
 
 use crate::case::{Case, LostNames};
@@ -61,7 +62,8 @@ impl<'a> FaultTeller<'a> {
         self.later.saturating_add(1)
     }
 
-    // What the fault means. Its head is added too, unless it is the first, whose head is there already.
+    // What the fault means. Its head is added too, unless it is the first, whose head is there
+    // already.
     fn push_head(
         &mut self,
         alloc: Global,

@@ -4,7 +4,8 @@ use grammar::Fault;
 /// What was found in a command file.
 #[derive(Clone, Copy, Debug, PartialEq, Eq)]
 pub struct Found {
-    /// The first fault, which is also the one that [`grammar::parse`] finds; `None` if there is none.
+    /// The first fault, which is also the one that [`grammar::parse`] finds; `None` if there is
+    /// none.
     pub fault: Option<Fault>,
     /// How many lines are at fault, one past the last included if there is no `start`.
     pub faults: u64,

@@ -85,8 +85,8 @@ fn is_no_number(words: &[&str], index: usize) -> bool {
     }
 }
 
-// Where a line says its width: an `input` line by a word, a `map` by its ninth item, and any other node
-// by its kind.
+// Where a line says its width: an `input` line by a word, a `map` by its ninth item, and any other
+// node by its kind.
 fn width_place(words: &[&str]) -> usize {
     if word(words, 0) == "input" {
         2

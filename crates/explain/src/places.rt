@@ -1,4 +1,5 @@
-//! What each word of a line stands for. The first word decides it, and for a `node` line the third one.
+//! What each word of a line stands for. The first word decides it, and for a `node` line the third
+//! one.
 
 /// What is due at a place of a line.
 #[derive(Clone, Copy, PartialEq, Eq)]

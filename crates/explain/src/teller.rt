@@ -1,9 +1,9 @@
 //! Goes over the lines of a file, and writes what is told about each of them.
 //!
-//! What is told about a line is an owned text, which waits in a buffer until a piece is large enough. So
-//! what is written is a beginning that the caller gives, and then text of which the contracts say only
-//! that nothing but it is taken.
-ghost use Rattle.std.specs.Prelude.{◌≡◌, ℕ, List, ◌++◌, IfErr, OnOk};
+//! What is told about a line is an owned text, which waits in a buffer until a piece is large
+//! enough. So what is written is a beginning that the caller gives, and then text of which the
+//! contracts say only that nothing but it is taken.
+ghost use Rattle.std.specs.Prelude.{ℕ, List, ◌++◌, IfErr, OnOk};
 ghost use Rattle.output.specs.Outs.{Wrote, Broke};
 ghost use Rattle.explain.specs.Explanations.{WroteSome, TookSome};
 ghost use Rattle.output.specs.Faults.{failures};

@@ -1,5 +1,5 @@
 //! Each code once, with the word that is marked.
-use crate::telling::{Example, check_all, check_told};
+use crate::expectations::{Example, check_all, check_told};
 use std::test::Fail;
 
 const NAMES: [Example; 3] = [

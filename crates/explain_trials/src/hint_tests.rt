@@ -1,5 +1,5 @@
 //! Each hint once.
-use crate::telling::{Example, check_all, check_told};
+use crate::expectations::{Example, check_all, check_told};
 use std::test::Fail;
 
 const NAMES: [Example; 4] = [
@@ -88,8 +88,8 @@ fn names_have_hints(rt: HostRuntime) -> Result<(), Fail> {
     Ok(check_all(&rt, rt.alloc(), &NAMES)?)
 }
 
-// 2024 is a leap year. Its first of March is the day 19783: 54 years of 365 days, 13 leap days before
-// 2024, and 60 days of 2024.
+// 2024 is a leap year. Its first of March is the day 19783: 54 years of 365 days, 13 leap days
+// before 2024, and 60 days of 2024.
 const DATES: [Example; 3] = [
     Example {
         file: "\

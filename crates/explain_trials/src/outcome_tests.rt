@@ -1,7 +1,7 @@
 //! What is returned: the first fault and the counts, or why the text was not written.
 ghost use Rattle.std.specs.Prelude.{⊤};
 
-use crate::telling::check_told;
+use crate::expectations::check_told;
 use explain::{Found, explain};
 use grammar::Fault;
 use output::{MemoryOut, Out, OutFault, PrintFault};

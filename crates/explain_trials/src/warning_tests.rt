@@ -1,5 +1,5 @@
 //! Each warning once. The codes are those with which a run refuses the lines.
-use crate::telling::{Example, check_all};
+use crate::expectations::{Example, check_all};
 use std::test::Fail;
 
 const CHANGES: [Example; 2] = [

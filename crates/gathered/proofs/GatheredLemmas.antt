@@ -9,11 +9,11 @@ use Rattle.update.proofs.ConsolidatedLemmas.{summed_size, summed_size_is}
 use Rattle.plan.specs.declared.node.Node.{Node}
 use Rattle.plan.specs.declared.node.Node.TheVariants.{Filter, Map, Negate}
 use Rattle.linear.specs.Applied.{linear_output, mapped_update, negated_update}
-use Rattle.histories.specs.Histories.States.{times}
+use Rattle.histories.specs.Histories.States.{update_times}
 
 module _ {T : Type 0} where
   -- a node that is no filter makes one update of each, at its time
-  pub times_kept : (node : Node) → ((source : ℕ) (test : Test) → node ≡ Filter source test → ⊥) → (us : List (Update T)) → times (linear_output node us) ≡ times us
+  pub times_kept : (node : Node) → ((source : ℕ) (test : Test) → node ≡ Filter source test → ⊥) → (us : List (Update T)) → update_times (linear_output node us) ≡ update_times us
   times_kept (Map source items) apart us = map-map (λ (u : Update T). u.time) (mapped_update items) us
   times_kept (Filter source test) apart us = absurd (apart source test refl)
   times_kept (Negate source) apart us = map-map (λ (u : Update T). u.time) negated_update us

@@ -63,16 +63,16 @@ change_spelled k command (name ∷ v ∷ s ∷ diff ∷ row) e =
 advance_spelled : (k : ParseState) (command : Command) (words : List (List ℕ)) → advance_line k words ≡ Ok command → IsSpelled k (codes "advance" ∷ words) command
 unfolding advance_line
 advance_spelled k command [] e = absurd cc
-advance_spelled k command (name ∷ times) e =
-    let g = guard_ok (ltb 0 (length times) && eqb (length times % 2) 0) (input k name >>= λ name. wholes times >>= λ times. Ok (Input (Advance name (pairs_of times)))) WrongWordCount command e in
-    let a = bind_ok (input k name) (λ name. wholes times >>= λ times. Ok (Input (Advance name (pairs_of times)))) command g.1 in
-    let b = bind_ok (wholes times) (λ times. Ok (Input (Advance a.0 (pairs_of times)))) command a.2 in
+advance_spelled k command (name ∷ ts) e =
+    let g = guard_ok (ltb 0 (length ts) && eqb (length ts % 2) 0) (input k name >>= λ name. wholes ts >>= λ ts. Ok (Input (Advance name (pairs_of ts)))) WrongWordCount command e in
+    let a = bind_ok (input k name) (λ name. wholes ts >>= λ ts. Ok (Input (Advance name (pairs_of ts)))) command g.1 in
+    let b = bind_ok (wholes ts) (λ ts. Ok (Input (Advance a.0 (pairs_of ts)))) command a.2 in
     let about = input_ok k name a.0 a.1 in
-    let even : length times % 2 ≡ 0 = eqb-true _ _ (and-right (ltb 0 (length times)) (eqb (length times % 2) 0) g.0) in
-    let text = wholes_ok times b.0 b.1 in
-    let same : length times ≡ length b.0 = ap length text ∙ length-map b.0 decimal in
-    spelled_as k (Input (Advance a.0 (pairs_of b.0))) command (codes "advance" ∷ name ∷ times) b.2
-    (two name times _ _ about.name_is (text ∙ pairs_text b.0 (sym (ap (λ (n : ℕ). n % 2) same) ∙ even)))
+    let even : length ts % 2 ≡ 0 = eqb-true _ _ (and-right (ltb 0 (length ts)) (eqb (length ts % 2) 0) g.0) in
+    let text = wholes_ok ts b.0 b.1 in
+    let same : length ts ≡ length b.0 = ap length text ∙ length-map b.0 decimal in
+    spelled_as k (Input (Advance a.0 (pairs_of b.0))) command (codes "advance" ∷ name ∷ ts) b.2
+    (two name ts _ _ about.name_is (text ∙ pairs_text b.0 (sym (ap (λ (n : ℕ). n % 2) same) ∙ even)))
     about.passes
   where
     two : (a : List ℕ) (r : List (List ℕ)) (a' : List ℕ) (r' : List (List ℕ)) → a ≡ a' → r ≡ r' → (codes "advance" ∷ a ∷ r) ≡ (codes "advance" ∷ a' ∷ r')
@@ -81,16 +81,16 @@ advance_spelled k command (name ∷ times) e =
 allow_spelled : (k : ParseState) (command : Command) (words : List (List ℕ)) → allow_line k words ≡ Ok command → IsSpelled k (codes "allow" ∷ words) command
 unfolding allow_line
 allow_spelled k command [] e = absurd cc
-allow_spelled k command (name ∷ times) e =
-    let g = guard_ok (ltb 0 (length times) && eqb (length times % 2) 0) (view k name >>= λ name. wholes times >>= λ times. Ok (Allow name (pairs_of times))) WrongWordCount command e in
-    let a = bind_ok (view k name) (λ name. wholes times >>= λ times. Ok (Allow name (pairs_of times))) command g.1 in
-    let b = bind_ok (wholes times) (λ times. Ok (Allow a.0 (pairs_of times))) command a.2 in
+allow_spelled k command (name ∷ ts) e =
+    let g = guard_ok (ltb 0 (length ts) && eqb (length ts % 2) 0) (view k name >>= λ name. wholes ts >>= λ ts. Ok (Allow name (pairs_of ts))) WrongWordCount command e in
+    let a = bind_ok (view k name) (λ name. wholes ts >>= λ ts. Ok (Allow name (pairs_of ts))) command g.1 in
+    let b = bind_ok (wholes ts) (λ ts. Ok (Allow a.0 (pairs_of ts))) command a.2 in
     let about = view_ok k name a.0 a.1 in
-    let even : length times % 2 ≡ 0 = eqb-true _ _ (and-right (ltb 0 (length times)) (eqb (length times % 2) 0) g.0) in
-    let text = wholes_ok times b.0 b.1 in
-    let same : length times ≡ length b.0 = ap length text ∙ length-map b.0 decimal in
-    spelled_as k (Allow a.0 (pairs_of b.0)) command (codes "allow" ∷ name ∷ times) b.2
-    (two name times _ _ about.name_is (text ∙ pairs_text b.0 (sym (ap (λ (n : ℕ). n % 2) same) ∙ even)))
+    let even : length ts % 2 ≡ 0 = eqb-true _ _ (and-right (ltb 0 (length ts)) (eqb (length ts % 2) 0) g.0) in
+    let text = wholes_ok ts b.0 b.1 in
+    let same : length ts ≡ length b.0 = ap length text ∙ length-map b.0 decimal in
+    spelled_as k (Allow a.0 (pairs_of b.0)) command (codes "allow" ∷ name ∷ ts) b.2
+    (two name ts _ _ about.name_is (text ∙ pairs_text b.0 (sym (ap (λ (n : ℕ). n % 2) same) ∙ even)))
     about.passes
   where
     two : (a : List ℕ) (r : List (List ℕ)) (a' : List ℕ) (r' : List (List ℕ)) → a ≡ a' → r ≡ r' → (codes "allow" ∷ a ∷ r) ≡ (codes "allow" ∷ a' ∷ r')

@@ -33,7 +33,7 @@ within_more test p more n h =
 
 about_more : (p more : List Node) (command : Command) → IsAbout p command → IsAbout (p ++ more) command
 about_more p more (command.Input change) h = within_more is_input p more (changed_input change) h
-about_more p more (command.Allow view times) h = within_more is_output p more view h
+about_more p more (command.Allow view ts) h = within_more is_output p more view h
 about_more p more (command.View question) h = within_more is_output p more (asked_view question) h
 
 -- what holds of the parse state after each line
@@ -117,9 +117,9 @@ started_words k next words s d =
 
 is_command : (names : List (List ℕ)) (command : Command) → is_skipped (command_words names command) ≡ false
 is_command names (command.Input (Change input time diff row)) = refl
-is_command names (command.Input (Advance input times)) = refl
+is_command names (command.Input (Advance input ts)) = refl
 is_command names (command.Input (Close input)) = refl
-is_command names (command.Allow view times) = refl
+is_command names (command.Allow view ts) = refl
 is_command names (command.View (Read view time)) = refl
 is_command names (command.View (Changes view)) = refl
 is_command names (command.View (Frontier view)) = refl

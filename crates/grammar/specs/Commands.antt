@@ -20,7 +20,7 @@ is_view_of p n = nat_lt n (length p) && is_output (node_at p n)
 -- the input that a command changes
 abbrev pub changed_input : InputCommand → ℕ
 changed_input (Change input time diff row) = input
-changed_input (Advance input times) = input
+changed_input (Advance input ts) = input
 changed_input (Close input) = input
 
 -- the view that a command asks about
@@ -32,11 +32,11 @@ asked_view (Frontier view) = view
 -- the command changes an input of the plan, or is about a view of the plan
 abbrev pub IsAbout : List Node → Command → Type 0
 IsAbout p (command.Input change) = IsTrue (is_input_of p (changed_input change))
-IsAbout p (command.Allow view times) = IsTrue (is_view_of p view)
+IsAbout p (command.Allow view ts) = IsTrue (is_view_of p view)
 IsAbout p (command.View question) = IsTrue (is_view_of p (asked_view question))
 
 -- the command asks about a view
 abbrev pub IsQuestion : Command → Type 0
 IsQuestion (command.Input change) = ⊥
-IsQuestion (command.Allow view times) = ⊥
+IsQuestion (command.Allow view ts) = ⊥
 IsQuestion (command.View question) = Unit {0}

@@ -36,10 +36,10 @@ change_line k _ = Err WrongWordCount
 
 -- advance INPUT V S .., with one pair or more
 unfoldable pub advance_line : ParseState → List (List ℕ) → Result Command Refusal
-advance_line k (name ∷ times) = if nat_lt 0 (length times) && (length times % 2 == 0) then (do
+advance_line k (name ∷ ts) = if nat_lt 0 (length ts) && (length ts % 2 == 0) then (do
   name ← input k name
-  times ← wholes times
-  Ok (Input (Advance name (pairs_of times)))) else Err WrongWordCount
+  ts ← wholes ts
+  Ok (Input (Advance name (pairs_of ts)))) else Err WrongWordCount
 advance_line k _ = Err WrongWordCount
 
 -- close INPUT
@@ -51,10 +51,10 @@ close_line k _ = Err WrongWordCount
 
 -- allow VIEW V S .., with one pair or more
 unfoldable pub allow_line : ParseState → List (List ℕ) → Result Command Refusal
-allow_line k (name ∷ times) = if nat_lt 0 (length times) && (length times % 2 == 0) then (do
+allow_line k (name ∷ ts) = if nat_lt 0 (length ts) && (length ts % 2 == 0) then (do
   name ← view k name
-  times ← wholes times
-  Ok (Allow name (pairs_of times))) else Err WrongWordCount
+  ts ← wholes ts
+  Ok (Allow name (pairs_of ts))) else Err WrongWordCount
 allow_line k _ = Err WrongWordCount
 
 -- read VIEW V S

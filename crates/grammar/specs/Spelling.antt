@@ -57,8 +57,8 @@ abbrev pub input_command_words : List (List ℕ) → InputCommand → List (List
 input_command_words names (Change input time diff row) =
     codes "change" ∷ name_at names input ∷ time_words time
     ++ signed_decimal diff ∷ map signed_decimal row
-input_command_words names (Advance input times) =
-    codes "advance" ∷ name_at names input ∷ flat_map time_words times
+input_command_words names (Advance input ts) =
+    codes "advance" ∷ name_at names input ∷ flat_map time_words ts
 input_command_words names (Close input) = codes "close" ∷ name_at names input ∷ []
 
 -- the words of the line of a command that asks about a view
@@ -70,8 +70,8 @@ view_command_words names (Frontier view) = codes "frontier" ∷ name_at names vi
 -- the words of a command's line
 abbrev pub command_words : List (List ℕ) → Command → List (List ℕ)
 command_words names (command.Input change) = input_command_words names change
-command_words names (command.Allow view times) =
-    codes "allow" ∷ name_at names view ∷ flat_map time_words times
+command_words names (command.Allow view ts) =
+    codes "allow" ∷ name_at names view ∷ flat_map time_words ts
 command_words names (command.View question) = view_command_words names question
 
 -- the line is skipped, and changes nothing

@@ -1,8 +1,8 @@
-//! The commands of a script. A command changes an input, gives up a part of a view's past, or asks about
-//! a view. Those about inputs and those that ask are two types, so that a function that takes one of
-//! them has no arm for the other. Names are already resolved: a command names a node by its number, and
-//! each [`Script`](crate::Script) promises that this node is an input, or a view if the command is about
-//! one.
+//! The commands of a script. A command changes an input, gives up a part of a view's past, or asks
+//! about a view. Those about inputs and those that ask are two types, so that a function that takes
+//! one of them has no arm for the other. Names are already resolved: a command names a node by its
+//! number, and each [`Script`](crate::Script) promises that this node is an input, or a view if the
+//! command is about one.
 use lattice::Bitime;
 use plan::NodeId;
 use row::Row;
@@ -46,8 +46,8 @@ pub enum ViewCommand {
 pub enum Command {
     /// A command that changes an input.
     Input(InputCommand),
-    /// Gives up a part of a view's past: from then on it may be read only at or after one of these times.
-    /// There is at least one. It prints nothing if it is accepted.
+    /// Gives up a part of a view's past: from then on it may be read only at or after one of these
+    /// times. There is at least one. It prints nothing if it is accepted.
     Allow { view: NodeId, times: Times<Bitime> },
     /// A command that asks about a view.
     View(ViewCommand),

@@ -2,8 +2,8 @@
 //!
 //! A file is a list of lines, and a line is a list of words. The meaning of a line depends only on
 //! the lines before it, so each file has one reading. [`parse`] returns its [`Script`] or its one
-//! [`Fault`]: the first faulty line, and the first test that fails there. A [`Reader`] goes on after a
-//! fault, to find the later ones. Names are resolved here
+//! [`Fault`]: the first faulty line, and the first test that fails there. A [`Reader`] goes on
+//! after a fault, to find the later ones. Names are resolved here
 //! and never again. The plan of a script keeps all rules of plans, and every command names an input
 //! of that plan, or a view if the command asks about one.
 //!

@@ -19,8 +19,8 @@ fn are_name_bytes(word: &[u8]) -> bool
 // The greatest length of a name, in bytes.
 const MAX_NAME: usize = 32;
 
-/// Whether the word has the form of a name: 1 to 32 letters, digits and underscores, a letter first. Takes
-/// no memory.
+/// Whether the word has the form of a name: 1 to 32 letters, digits and underscores, a letter
+/// first. Takes no memory.
 pub fn is_name(word: &str) -> bool
     ensures { result ≡ is_name word.now }
 {

@@ -1,6 +1,6 @@
 //! A command file that is read on past its faults. [`parse`](crate::parse) ends at the first faulty
-//! line, which is right for a program. A person wants to see all of them, so a reader takes the lines
-//! one by one, and after a faulty line the next one.
+//! line, which is right for a program. A person wants to see all of them, so a reader takes the
+//! lines one by one, and after a faulty line the next one.
 ghost use Rattle.std.specs.Prelude.{◌≡◌, ◌<◌, Ok, length};
 ghost use Rattle.grammar.specs.Lines.{line_of};
 ghost use Rattle.grammar.specs.ParseStates.{number_of_name};
@@ -39,11 +39,11 @@ impl Reader {
         }
     }
 
-    /// Takes line `number`, as [`parse`](crate::parse) does. The words of the line are left in `words`, a list that is
-    /// lent for that; a line that is too long or not UTF-8 leaves none.
+    /// Takes line `number`, as [`parse`](crate::parse) does. The words of the line are left in
+    /// `words`, a list that is lent for that; a line that is too long or not UTF-8 leaves none.
     ///
-    /// The codes of a fault are those of [`parse`](crate::parse). A faulty line adds nothing, unless memory ran out
-    /// (code 1). Cost: linear in the line.
+    /// The codes of a fault are those of [`parse`](crate::parse). A faulty line adds nothing,
+    /// unless memory ran out (code 1). Cost: linear in the line.
     pub fn take<'a>(
         &mut self,
         alloc: Global,

@@ -44,8 +44,8 @@ pub(crate) fn text(line: &[u8]) -> Result<&str, LineError>
     }
 }
 
-// Reads the words of a line into a list, in the place of what was there: the pieces between the spaces
-// that are not empty.
+// Reads the words of a line into a list, in the place of what was there: the pieces between the
+// spaces that are not empty.
 pub(crate) fn read_words<'a>(words: &mut Vec<&'a str>, line: &'a str) -> Result<(), AllocError>
     ensures { OnOk result (map (λ w. w.now) words.new.items ≡ words_of line.now) }
 {

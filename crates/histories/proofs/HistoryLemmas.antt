@@ -18,7 +18,7 @@ pub mod QuietLemmas
 pub mod PortLemmas
 pub mod PlaceLemmas
 pub mod MeetsLemmas
-pub mod CuttingLemmas
+pub mod CutLemmas
 pub mod ActorLemmas
 pub mod ExampleLemmas
 pub mod WitnessLemmas

@@ -16,6 +16,7 @@ pub mod Cuts
 pub mod Exchanges
 use Rattle.std.specs.Prelude.{◌≡◌, ℕ, zero, suc, ◌<◌, ◌≤◌, ◌≢◌, Bool, not, ◌&&◌, eqb, if◌then◌else◌, List, [], ◌∷◌, ◌++◌, map, length, Some, None, IsTrue, Contains, ⊤, pos, unsigned_abs, slice_get, ℤ}
 use Rattle.std.specs.List.{filter, flat_map}
+use Rattle.lattice.specs.Times.{Times}
 use Rattle.lattice.specs.Frontiers.{is_beyond, all_beyond}
 use Rattle.update.specs.declared.change.Update.{Update}
 use Rattle.update.specs.Bags.{total_by}
@@ -32,7 +33,7 @@ use Rattle.histories.specs.declared.event.OpenTime.{OpenTime}
 use Rattle.histories.specs.declared.event.Event.{Event}
 use Rattle.histories.specs.declared.event.Event.TheVariants.{Feed, Advance, Allow, Look, Take, TakeHeld, Give}
 use Rattle.histories.specs.Histories.Dataflows.{Dataflow, node_of}
-use Rattle.histories.specs.Histories.States.{State, times, same_place, updates_at, queue, emitted_at, fed_to, held_at, open_at}
+use Rattle.histories.specs.Histories.States.{State, update_times, same_place, updates_at, queue, emitted_at, fed_to, held_at, open_at}
 use Rattle.histories.specs.Histories.Shares.{home, share, are_filled, are_stamped}
 use Rattle.histories.specs.Histories.Outstanding.{frontier, input_frontier, port_frontier}
 use Rattle.histories.specs.Histories.NodeLaws.{NodeLaw, LoadRule}
@@ -85,13 +86,13 @@ may_be_allowed p v = is_output (node_of p v)
 abbrev pub alone : {T : Type 0} → Dataflow → Fed T → Bundle T
 alone p f = record { place = home p f; updates = f.update ∷ []; stamp = f.update.time ∷ [] }
 
-module _ {T : Type 0} (below : T → T → Bool) (p : Dataflow) where
+module _ {T : Type 0} (times : Times T) (p : Dataflow) where
   -- the state after a worker took a node's piece in hand. The node's input frontier at that moment
   -- is recorded
   abbrev pub turn_state : State T → ℕ → ℕ → State T
   turn_state w n k = record w {
     hand = with_at w.hand k (Some n);
-    observed = record { node = n; worker = k; frontier = input_frontier below p w n } ∷ w.observed;
+    observed = record { node = n; worker = k; frontier = input_frontier times p w n } ∷ w.observed;
   }
 
   -- the state after a bundle was received: it is no longer in flight, and its stamp is held from
@@ -135,21 +136,21 @@ module _ {T : Type 0} (below : T → T → Bool) (p : Dataflow) where
     pub width : length f.update.row ≡ width_of p.nodes f.input
     pub some : f.update.diff ≢ pos 0
     pub small : unsigned_abs f.update.diff ≤ 2147483647
-    pub not_passed : IsTrue (is_beyond below (open_at f.input w.open_times) f.update.time)
+    pub not_passed : IsTrue (is_beyond times (open_at f.input w.open_times) f.update.time)
     pub room : length (fed_to f.input w.fed) < 1048576
 
   -- a client may move an input's frontier to these times: each is beyond the old frontier
   pub record IsAdvance (w : State T) (actor i : ℕ) (ts : List T) : Type 0 where
     pub client : p.workers ≤ actor
     pub input : IsInput p i
-    pub onward : IsTrue (all_beyond below (open_at i w.open_times) ts)
+    pub onward : IsTrue (all_beyond times (open_at i w.open_times) ts)
 
   -- a client may move a view's since to these times: each is beyond the old since
   pub record IsAllow (w : State T) (actor v : ℕ) (ts : List T) : Type 0 where
     pub client : p.workers ≤ actor
     pub within : v < length p.nodes
     pub view : IsTrue (may_be_allowed p v)
-    pub onward : IsTrue (all_beyond below (w.since v) ts)
+    pub onward : IsTrue (all_beyond times (w.since v) ts)
 
   -- a worker with nothing in hand may take a bundle that waits: the first of its place, or any at
   -- an arrange node
@@ -167,7 +168,7 @@ module _ {T : Type 0} (below : T → T → Bool) (p : Dataflow) where
     pub free : w.hand k ≡ None
     pub held : T
     pub holds : Contains (held_at n k w.held) held
-    pub passed : IsTrue (has_passed below (input_frontier below p w n) held)
+    pub passed : IsTrue (has_passed times (input_frontier times p w n) held)
 
   -- a worker may give at the node that it has in hand. All that it gives, and all that it then
   -- holds, is beyond the times that it held there. The node law and the load rule hold after it.
@@ -177,13 +178,13 @@ module _ {T : Type 0} (below : T → T → Bool) (p : Dataflow) where
   pub record IsGive (w : State T) (g : Emission T) (ts : List T) (sent : List (Bundle T)) : Type 0 where
     pub worker : g.worker < p.workers
     pub in_hand : w.hand g.worker ≡ Some g.node
-    pub onward : IsTrue (all_beyond below (held_at g.node g.worker w.held) (times g.updates ++ ts))
-    pub law : NodeLaw below p (give_state w g ts sent) g.node g.worker
-    pub load : LoadRule below p (give_state w g ts sent) g.node g.worker
+    pub onward : IsTrue (all_beyond times (held_at g.node g.worker w.held) (update_times g.updates ++ ts))
+    pub law : NodeLaw times p (give_state w g ts sent) g.node g.worker
+    pub load : LoadRule times p (give_state w g ts sent) g.node g.worker
     pub whole : (site : Site) (f : Update T → ℤ)
         → total_by f (updates_at site sent) ≡ total_by f (share p site g)
     pub filled : IsTrue (are_filled sent)
-    pub stamped : IsTrue (are_stamped below (held_at g.node g.worker w.held) sent)
+    pub stamped : IsTrue (are_stamped times (held_at g.node g.worker w.held) sent)
 
   -- the event is allowed in this state
   abbrev pub IsAllowed : State T → Event T → Type 0
@@ -199,7 +200,7 @@ module _ {T : Type 0} (below : T → T → Bool) (p : Dataflow) where
 abbrev pub dataflow_after : {T : Type 0} → Dataflow → List (Event T) → Dataflow
 dataflow_after opened h = opened
 
-module _ {T : Type 0} (below : T → T → Bool) (minimum : T) (opened : Dataflow) where
+module _ {T : Type 0} (times : Times T) (opened : Dataflow) where
   -- the state before the first event: nothing has come, and each input's frontier and each view's
   -- since is the least time
   abbrev pub initial_state : State T
@@ -209,32 +210,32 @@ module _ {T : Type 0} (below : T → T → Bool) (minimum : T) (opened : Dataflo
     received = [];
     emitted = [];
     held = [];
-    open_times = flat_map (λ i. open_entries i (minimum ∷ [])) (numbers_where is_input opened.nodes);
+    open_times = flat_map (λ i. open_entries i (times.least ∷ [])) (numbers_where is_input opened.nodes);
     hand = λ _. None;
-    since = λ _. minimum ∷ [];
+    since = λ _. times.least ∷ [];
     observed = [];
   }
 
   -- the state after a history
   abbrev pub state_after : List (Event T) → State T
   state_after [] = initial_state
-  state_after (e ∷ h) = next_state below (dataflow_after opened h) (state_after h) e
+  state_after (e ∷ h) = next_state times (dataflow_after opened h) (state_after h) e
 
   -- the history is legal: each event was allowed in the state before it
   abbrev pub IsLegal : List (Event T) → Type 0
   IsLegal [] = ⊤
-  IsLegal (e ∷ h) = IsAllowed below (dataflow_after opened h) (state_after h) e × IsLegal h
+  IsLegal (e ∷ h) = IsAllowed times (dataflow_after opened h) (state_after h) e × IsLegal h
 
   -- the frontiers of a node after a history
   abbrev pub frontier_after : List (Event T) → ℕ → List T
-  frontier_after h n = frontier below (dataflow_after opened h) (state_after h) n
+  frontier_after h n = frontier times (dataflow_after opened h) (state_after h) n
 
   abbrev pub input_frontier_after : List (Event T) → ℕ → List T
-  input_frontier_after h n = input_frontier below (dataflow_after opened h) (state_after h) n
+  input_frontier_after h n = input_frontier times (dataflow_after opened h) (state_after h) n
 
   abbrev pub port_frontier_after : List (Event T) → ℕ → ℕ → List T
   port_frontier_after h n port =
-      port_frontier below (dataflow_after opened h) (state_after h) n port
+      port_frontier times (dataflow_after opened h) (state_after h) n port
 
   -- what was given at a node, on all workers, after a history
   abbrev pub emitted_after : List (Event T) → ℕ → List (Update T)

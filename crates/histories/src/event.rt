@@ -76,8 +76,8 @@ impl<X> Remembered<X> {
     }
 }
 
-/// An emission as an event remembers it, for clauses alone. It has no updates of its own, since these
-/// are on their way. A contract sees the emission.
+/// An emission as an event remembers it, for clauses alone. It has no updates of its own, since
+/// these are on their way. A contract sees the emission.
 #[derive(Drop)]
 pub struct RememberedEmission<T> {
     node: NodeId,

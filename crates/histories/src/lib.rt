@@ -8,8 +8,8 @@
 //! examples that the definitions allow what an engine has to do ([`premises_can_be_met`],
 //! [`definitions_fit_examples`] and others).
 //!
-//! A crate that knows no board can be read by a sceptic alone: what is promised stands here, and the
-//! code that keeps the promise stands above.
+//! A crate that knows no board can be read by a sceptic alone: what is promised stands here, and
+//! the code that keeps the promise stands above.
 #![tactic(auto)]
 
 mod event;

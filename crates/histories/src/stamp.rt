@@ -1,8 +1,8 @@
 //! Stamps: the frontiers of the times of updates. A sender finds the stamp of a bundle once, and it
 //! travels with the bundle.
-ghost use Rattle.std.specs.Prelude.{◌≡◌, IfErr, IfOk, OnOk, not};
+ghost use Rattle.std.specs.Prelude.{◌≡◌, IfOk, OnOk, not};
 ghost use Rattle.std.specs.List.{filter};
-ghost use Rattle.update.specs.declared.refusal.Refusal.TheVariants.{OutOfMemory};
+ghost use Rattle.update.specs.Refusals.{OnlyMemory};
 ghost use Rattle.histories.specs.Histories.Outstanding.{stamp, with_time};
 
 use antichain::is_beyond;
@@ -16,8 +16,8 @@ use update::Refusal;
 /// Cost: each time is compared with the elements of the stamp so far.
 #[tactic(auto, unfolding(crate::specs::Histories::Outstanding::stamp))]
 pub fn stamp_of<T: Minimum>(alloc: Global, updates: &UpdateList<T>) -> Result<Vec<T>, Refusal>
-    ensures stamp { IfOk result (λ front. front.items ≡ stamp T.below updates.now) }
-    ensures refused { IfErr result (λ refusal. refusal ≡ OutOfMemory) }
+    ensures stamp { IfOk result (λ front. front.items ≡ stamp T.times updates.now) }
+    ensures refused { OnlyMemory result }
 {
     let mut stamp = Vec::new(alloc);
     for i in 0..updates.len() {
@@ -31,8 +31,8 @@ pub fn stamp_of<T: Minimum>(alloc: Global, updates: &UpdateList<T>) -> Result<Ve
 ///
 /// Cost: linear in the elements.
 pub fn insert<T: Minimum>(front: &mut Vec<T>, t: T) -> Result<(), Refusal>
-    ensures with { OnOk result (front.new.items ≡ with_time T.below front.old.items t) }
-    ensures refused { IfErr result (λ refusal. refusal ≡ OutOfMemory) }
+    ensures with { OnOk result (front.new.items ≡ with_time T.times front.old.items t) }
+    ensures refused { OnlyMemory result }
 {
     if is_beyond(front, &t) {
         return Ok(());
@@ -44,7 +44,7 @@ pub fn insert<T: Minimum>(front: &mut Vec<T>, t: T) -> Result<(), Refusal>
 
 // Removes the elements of a frontier that are beyond a new time.
 fn leave<T: Minimum>(front: &mut Vec<T>, t: T)
-    ensures left { front.new.items ≡ filter (λ f. not (T.below t f)) front.old.items }
+    ensures left { front.new.items ≡ filter (λ f. not (T.times.below t f)) front.old.items }
 {
     front.retain(|f| !t.less_equal(f));
 }

@@ -18,7 +18,7 @@ ghost use Rattle.histories.specs.Histories.Readings.{IsQuiet, is_from_start};
 ghost use Rattle.histories.specs.Histories.Cuts.{cut};
 ghost use Rattle.histories.specs.Histories.Witnesses.{seven_comes, seven_goes, bundle_of, given_at_node, counting, listing, copying, changes_of_listing, came_twice, came_at_input, waits_at_count, held_at_count, open_from, HasFrontiers, joining, doubling, linear_row};
 ghost use Rattle.histories.specs.Histories.Exchanges.{exchange, sevens_counted, second_bundle, taken_in_order, two_wait, two_wait_at_arrange};
-ghost use Rattle.lattice.specs.Bitimes.{bitime_below, bitime_cmp};
+ghost use Rattle.lattice.specs.Bitimes.{bitime_times, bitime_cmp};
 
 /// The examples, by clause:
 ///
@@ -44,18 +44,18 @@ ghost use Rattle.lattice.specs.Bitimes.{bitime_below, bitime_cmp};
 pub fn definitions_fit_examples()
     ensures dataflows { IsDataflow counting × IsDataflow listing × IsDataflow copying }
     ensures plans { IsPlan joining × IsPlan doubling × IsPlan linear_row }
-    ensures distinct { IsAllowed bitime_below listing came_twice
+    ensures distinct { IsAllowed bitime_times listing came_twice
         (Give (given_at_node 2 (seven_comes 0 3 ∷ seven_comes 3 0 ∷ seven_goes 3 3 ∷ [])) []
-        (cut bitime_below listing
+        (cut bitime_times listing
         (given_at_node 2 (seven_comes 0 3 ∷ seven_comes 3 0 ∷ seven_goes 3 3 ∷ [])))) }
-    ensures cut_in_two { IsAllowed bitime_below copying
+    ensures cut_in_two { IsAllowed bitime_times copying
         (came_at_input (seven_comes 0 3 ∷ seven_comes 3 0 ∷ seven_goes 3 3 ∷ []))
         (Give (given_at_node 0 (seven_comes 0 3 ∷ seven_comes 3 0 ∷ seven_goes 3 3 ∷ [])) []
         (bundle_of (place 1 0 1) (seven_comes 0 3 ∷ seven_goes 3 3 ∷ [])
         ∷ bundle_of (place 1 0 1) (seven_comes 3 0 ∷ []) ∷ [])) }
-    ensures allow { IsLegal bitime_below (make_pair 0 0) counting
+    ensures allow { IsLegal bitime_times counting
         (Allow 2 3 (make_pair 4 4 ∷ []) ∷ []) }
-    ensures allowed { (state_after bitime_below (make_pair 0 0) counting
+    ensures allowed { (state_after bitime_times counting
         (Allow 2 3 (make_pair 4 4 ∷ []) ∷ [])).since 3 ≡ make_pair 4 4 ∷ [] }
     ensures in_flight { HasFrontiers waits_at_count (make_pair 10 1 ∷ make_pair 0 2 ∷ [])
         (make_pair 10 1 ∷ make_pair 0 2 ∷ []) }
@@ -63,10 +63,10 @@ pub fn definitions_fit_examples()
         (make_pair 10 1 ∷ make_pair 0 2 ∷ []) }
     ensures gone { HasFrontiers (open_from (make_pair 0 2)) (make_pair 0 2 ∷ [])
         (make_pair 0 2 ∷ []) }
-    ensures quiet { IsQuiet bitime_below counting (held_at_count 10 3) }
-    ensures stamp { stamp bitime_below (seven_comes 0 3 ∷ seven_comes 3 3 ∷ seven_comes 3 0 ∷ [])
+    ensures quiet { IsQuiet bitime_times counting (held_at_count 10 3) }
+    ensures stamp { stamp bitime_times (seven_comes 0 3 ∷ seven_comes 3 3 ∷ seven_comes 3 0 ∷ [])
         ≡ make_pair 0 3 ∷ make_pair 3 0 ∷ [] }
-    ensures stamp_of_one { stamp bitime_below (seven_comes 10 1 ∷ seven_goes 10 1 ∷ [])
+    ensures stamp_of_one { stamp bitime_times (seven_comes 10 1 ∷ seven_goes 10 1 ∷ [])
         ≡ make_pair 10 1 ∷ [] }
     ensures home { home (record counting { workers = 4 })
         (change_to 0 (record (seven_comes 10 1) { row = pos 5 ∷ negsuc 6 ∷ [] })) ≡ place 0 0 2 }
@@ -75,9 +75,9 @@ pub fn definitions_fit_examples()
         ≡ 4611686018427387904 ∷ 9223372036854775808 ∷ [] }
     ensures linear { map (bound_by linear_row (λ n. 0) (λ input. 4)) (0 ∷ 1 ∷ 2 ∷ 3 ∷ 4 ∷ [])
         ≡ 4 ∷ 4 ∷ 4 ∷ 4 ∷ 8 ∷ [] }
-    ensures from_start { map (is_from_start bitime_below (make_pair 0 0))
+    ensures from_start { map (is_from_start bitime_times)
         ((make_pair 0 0 ∷ []) ∷ (make_pair 0 0 ∷ make_pair 3 3 ∷ []) ∷ []) ≡ true ∷ true ∷ [] }
-    ensures given_up { map (is_from_start bitime_below (make_pair 0 0))
+    ensures given_up { map (is_from_start bitime_times)
         ([] ∷ (make_pair 4 4 ∷ []) ∷ (make_pair 0 3 ∷ make_pair 3 0 ∷ []) ∷ [])
         ≡ false ∷ false ∷ false ∷ [] }
 {}
@@ -86,8 +86,8 @@ pub fn definitions_fit_examples()
 /// is 3. The row comes out at both times, and one of the two is taken back at (3, 3). So the bound
 /// is larger than the two changes, and the view of the distinct has the same bound.
 pub fn own_bounds_are_met()
-    ensures distinct { IsBound bitime_below bitime_cmp listing.nodes changes_of_listing 2 3 }
-    ensures view { IsBound bitime_below bitime_cmp listing.nodes changes_of_listing 3 3 }
+    ensures distinct { IsBound bitime_times bitime_cmp listing.nodes changes_of_listing 2 3 }
+    ensures view { IsBound bitime_times bitime_cmp listing.nodes changes_of_listing 3 3 }
 {}
 
 /// The bundles of a place are a queue, first in, first out:
@@ -96,10 +96,10 @@ pub fn own_bounds_are_met()
 /// - `overtaken`: it may not take the second one first.
 /// - `at_arrange`: at an arrange node it may.
 pub fn bundles_wait_in_order()
-    ensures in_order { IsLegal bitime_below (make_pair 0 0) copying taken_in_order }
-    ensures overtaken { (number : ℕ) → IsLegal bitime_below (make_pair 0 0) copying
+    ensures in_order { IsLegal bitime_times copying taken_in_order }
+    ensures overtaken { (number : ℕ) → IsLegal bitime_times copying
         (Take number second_bundle ∷ two_wait) → ⊥ }
-    ensures at_arrange { IsAllowed bitime_below listing two_wait_at_arrange
+    ensures at_arrange { IsAllowed bitime_times listing two_wait_at_arrange
         (Take 1 (bundle_of (place 1 0 1) (seven_comes 3 0 ∷ []))) }
 {}
 
@@ -110,9 +110,9 @@ pub fn bundles_wait_in_order()
 /// - `captured`: the view captured these counts.
 /// - `frontier`: and its frontier is {(4, 4)}.
 pub fn two_workers_can_exchange()
-    ensures legal { IsLegal bitime_below (make_pair 0 0) counting exchange }
-    ensures captured { emitted_after bitime_below (make_pair 0 0) counting exchange 3
+    ensures legal { IsLegal bitime_times counting exchange }
+    ensures captured { emitted_after bitime_times counting exchange 3
         ≡ sevens_counted }
-    ensures frontier { frontier_after bitime_below (make_pair 0 0) counting exchange 3
+    ensures frontier { frontier_after bitime_times counting exchange 3
         ≡ make_pair 4 4 ∷ [] }
 {}

@@ -89,9 +89,9 @@ impl ChangeWriter {
         Ok(())
     }
 
-    /// Writes the change, in pieces if its difference is too large for one. If it is 0, the change is
-    /// left out and counted. `false` if there would be more changes than a table takes; nothing is
-    /// written then.
+    /// Writes the change, in pieces if its difference is too large for one. If it is 0, the change
+    /// is left out and counted. `false` if there would be more changes than a table takes; nothing
+    /// is written then.
     pub(crate) fn put<W: Out>(
         &mut self,
         out: &mut W,

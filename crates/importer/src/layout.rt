@@ -1,5 +1,4 @@
 //! Where the columns of a schema stand in the records of a CSV file.
-ghost use Rattle.std.specs.Prelude.{◌≡◌, IfOk, length};
 
 use crate::excerpt::Excerpt;
 use crate::fault::ImportFault;
@@ -33,7 +32,8 @@ fn place(alloc: Global, titles: &ByteRecord, title: &str, line: u64) -> Result<u
     Ok(at)
 }
 
-/// The place of each column in the records, in the order of the schema. Each title stands exactly once.
+/// The place of each column in the records, in the order of the schema. Each title stands exactly
+/// once.
 ///
 /// Cost: the columns times the titles.
 pub(crate) fn places(

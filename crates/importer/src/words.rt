@@ -1,5 +1,5 @@
-//! The words of a schema's line. Words are separated by spaces. A word that begins with a quote ends
-//! before the next one, and may hold spaces.
+//! The words of a schema's line. Words are separated by spaces. A word that begins with a quote
+//! ends before the next one, and may hold spaces.
 ghost use Rattle.std.specs.Prelude.{◌<◌, ◌≤◌, IfOk, length};
 
 use crate::schema_fault::SchemaProblem;

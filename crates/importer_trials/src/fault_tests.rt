@@ -79,8 +79,8 @@ fn records(rt: HostRuntime) -> Result<(), Fail> {
         b"Date,Account,Amount\n1970-01-01,Bank,1\n1970-01-01,Bank\n",
         "line 3: 2 fields, but there are 3 titles",
     )?;
-    // 1048576 changes are taken: that many pieces of 21474836.47 are 22517998126366.72, and this is a cent
-    // more.
+    // 1048576 changes are taken: that many pieces of 21474836.47 are 22517998126366.72, and this is
+    // a cent more.
     expect(
         &rt,
         alloc,

@@ -14,8 +14,9 @@ ask read balances 2026-11-30 0\n\
 shows balances account code\n\
 shows balances balance decimal 2\n";
 
-// A title that the schema does not name, a quoted field with a comma, and amounts of each sign. The day
-// number of 2026-11-30 is 20787: 56 years of 365 days and 14 leap days are 20454 days, and 333 more.
+// A title that the schema does not name, a quoted field with a comma, and amounts of each sign. The
+// day number of 2026-11-30 is 20787: 56 years of 365 days and 14 leap days are 20454 days, and 333
+// more.
 #[test]
 fn a_small_ledger(rt: HostRuntime) -> Result<(), Fail> {
     let made = imported(
@@ -62,8 +63,8 @@ column D9 row decimal 9\n\
 column Day row date\n\
 column Name row code\n";
 
-// Each kind, with columns in another order than the schema's, a byte order mark, and lines that end in a
-// carriage return and a newline.
+// Each kind, with columns in another order than the schema's, a byte order mark, and lines that end
+// in a carriage return and a newline.
 #[test]
 fn each_kind(rt: HostRuntime) -> Result<(), Fail> {
     let made = imported(
@@ -92,8 +93,8 @@ close t\n"
 
 const LARGE: &str = "table t\ncolumn A weight decimal 2\ncolumn K row whole\n";
 
-// An amount above the limit comes in pieces of one sign that sum to it, and one of 0 is left out. Without
-// a column for a time, it is 0.
+// An amount above the limit comes in pieces of one sign that sum to it, and one of 0 is left out.
+// Without a column for a time, it is 0.
 #[test]
 fn large_amounts_and_zeros(rt: HostRuntime) -> Result<(), Fail> {
     let made = imported(
@@ -120,8 +121,8 @@ close t\n"
     Ok(())
 }
 
-// Without a column for the weight it is 1, and a name that comes again has its number again. Two columns
-// of names have one numbering.
+// Without a column for the weight it is 1, and a name that comes again has its number again. Two
+// columns of names have one numbering.
 #[test]
 fn names_have_one_numbering(rt: HostRuntime) -> Result<(), Fail> {
     let made = imported(

@@ -1,5 +1,5 @@
-//! Tests of imports and of shown answers, by public calls alone. Each expected text is worked out by
-//! hand from `docs/IMPORT.md`.
+//! Tests of imports and of shown answers, by public calls alone. Each expected text is worked out
+//! by hand from `docs/IMPORT.md`.
 #![tactic(auto)]
 
 #[cfg(test)]

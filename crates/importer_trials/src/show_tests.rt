@@ -11,8 +11,8 @@ column,balances,balance,decimal 2\n\
 name,0,\"Rent, \"\"office\"\"\"\n\
 name,1,Bank\n";
 
-// Each answer: rows with names, a code that has no name, a view of which nothing is known, no rows, and a
-// refused line. 2932897 is the day after 9999-12-31, and -719529 the one before 0000-01-01.
+// Each answer: rows with names, a code that has no name, a view of which nothing is known, no rows,
+// and a refused line. 2932897 is the day after 9999-12-31, and -719529 the one before 0000-01-01.
 #[test]
 fn each_answer(rt: HostRuntime) -> Result<(), Fail> {
     let text = shown(

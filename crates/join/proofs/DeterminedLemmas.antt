@@ -5,6 +5,7 @@ use Rattle.std.specs.Prelude.{ℤ, pos, ◌+ℤ◌, neg_ℤ}
 use Rattle.std.specs.List.{filter}
 use Rattle.std.proofs.lemmas.Int.{ints}
 use Rattle.std.proofs.lemmas.Bool.{and_parts, and_from, and_right, not_from_true}
+use Rattle.lattice.specs.Times.{Times}
 use Rattle.lattice.specs.Order.{PartialOrderLaws}
 use Rattle.antichain.proofs.Lists.{Among}
 use Rattle.update.specs.Bags.{Alike, same_row}
@@ -14,17 +15,17 @@ use Rattle.update.proofs.SumLemmas.{total_by-same, total_by-negate, total_by-app
 use Rattle.update.proofs.UniqueLemmas.{passes_or_none, filter_fewer, same_totals, ties, meets, meets_row, meets_time}
 use Rattle.plan.proofs.CountLemmas.{row_itself, when_zero, total_by-when}
 
-module _ {T : Type 0} {below : T → T → Bool} (o : PartialOrderLaws below) where
+module _ {T : Type 0} {times : Times T} (o : PartialOrderLaws times) where
   -- the total of what passes a test at one row and time is the total there, or 0
   total_one : (p : List ℤ → T → Bool) (u : Update T) (us : List (Update T))
-      → total_where (λ r s. p r s && (same_row r u.row && ties below s u.time)) us ≡ cond (p u.row u.time) (total_at below u.row u.time us) (pos 0)
+      → total_where (λ r s. p r s && (same_row r u.row && ties times s u.time)) us ≡ cond (p u.row u.time) (total_at times u.row u.time us) (pos 0)
   total_one p u us =
       total_by-same
-      (λ v. cond (p v.row v.time && meets below u v) v.diff (pos 0))
-      (λ v. cond (p u.row u.time) (cond (meets below u v) v.diff (pos 0)) (pos 0))
+      (λ v. cond (p v.row v.time && meets times u v) v.diff (pos 0))
+      (λ v. cond (p u.row u.time) (cond (meets times u v) v.diff (pos 0)) (pos 0))
       us
-      (λ v. at v (meets below u v) refl)
-      ∙ total_by-when (p u.row u.time) (λ v. cond (meets below u v) v.diff (pos 0)) us
+      (λ v. at v (meets times u v) refl)
+      ∙ total_by-when (p u.row u.time) (λ v. cond (meets times u v) v.diff (pos 0)) us
     where
       none : (b : Bool) (d : ℤ) → cond (b && false) d (pos 0) ≡ cond b (pos 0) (pos 0)
       none true d = refl
@@ -34,7 +35,7 @@ module _ {T : Type 0} {below : T → T → Bool} (o : PartialOrderLaws below) wh
       some true d = refl
       some false d = refl
 
-      at : (v : Update T) (b : Bool) → meets below u v ≡ b → cond (p v.row v.time && b) v.diff (pos 0) ≡ cond (p u.row u.time) (cond b v.diff (pos 0)) (pos 0)
+      at : (v : Update T) (b : Bool) → meets times u v ≡ b → cond (p v.row v.time && b) v.diff (pos 0) ≡ cond (p u.row u.time) (cond b v.diff (pos 0)) (pos 0)
       at v true h =
           let row = meets_row o u v h in
           let time = meets_time o u v h in
@@ -43,7 +44,7 @@ module _ {T : Type 0} {below : T → T → Bool} (o : PartialOrderLaws below) wh
 
   -- if the total of each row at each time is 0, then so is the total of what passes a test; n
   -- bounds the number of updates that pass, and each step removes those of one row and time
-  nothing_passes : (us : List (Update T)) → ((row : List ℤ) (t : T) → total_at below row t us ≡ pos 0)
+  nothing_passes : (us : List (Update T)) → ((row : List ℤ) (t : T) → total_at times row t us ≡ pos 0)
       → (n : ℕ) (p : List ℤ → T → Bool) → length (filter (λ u. p u.row u.time) us) < n → total_where p us ≡ pos 0
   nothing_passes us z zero p l = absurd (omega arith)
   nothing_passes us z (suc n) p l =
@@ -54,19 +55,19 @@ module _ {T : Type 0} {below : T → T → Bool} (o : PartialOrderLaws below) wh
     where
       -- what passes at other rows or times than y's
       others : Update T → List ℤ → T → Bool
-      others y r s = p r s && not (same_row r y.row && ties below s y.time)
+      others y r s = p r s && not (same_row r y.row && ties times s y.time)
 
       some : (y : Update T) → Among y us → IsTrue (p y.row y.time)
           → (length (filter (λ u. others y u.row u.time) us) < n → total_where (others y) us ≡ pos 0)
           → total_where p us ≡ pos 0
       some y m h ih =
-          let itself : IsTrue (meets below y y) =
-          and_from (same_row y.row y.row) (ties below y.time y.time) (row_itself y.row) (and_from (below y.time y.time) (below y.time y.time) (o.reflexive y.time) (o.reflexive y.time)) in
-          let own : others y y.row y.time ≡ false = and_right (p y.row y.time) (not (meets below y y)) (not_from_true (meets below y y) itself) in
-          let fewer = filter_fewer (λ u. others y u.row u.time) (λ u. p u.row u.time) (λ u k. (and_parts (p u.row u.time) (not (meets below y u)) k).0) us y m own h in
+          let itself : IsTrue (meets times y y) =
+          and_from (same_row y.row y.row) (ties times y.time y.time) (row_itself y.row) (and_from (times.below y.time y.time) (times.below y.time y.time) (o.reflexive y.time) (o.reflexive y.time)) in
+          let own : others y y.row y.time ≡ false = and_right (p y.row y.time) (not (meets times y y)) (not_from_true (meets times y y) itself) in
+          let fewer = filter_fewer (λ u. others y u.row u.time) (λ u. p u.row u.time) (λ u k. (and_parts (p u.row u.time) (not (meets times y u)) k).0) us y m own h in
           let rest = ih (omega arith) in
           let here = total_one p y us ∙ (ap (λ d. cond (p y.row y.time) d (pos 0)) (z y.row y.time) ∙ when_zero (p y.row y.time)) in
-          let split = sum_where-split (λ (u : Update T). u.diff) (λ u. p u.row u.time) (meets below y) us in
+          let split = sum_where-split (λ (u : Update T). u.diff) (λ u. p u.row u.time) (meets times y) us in
           omega (arith, ints)
 
   -- the update that cancels an update
@@ -88,14 +89,14 @@ module _ {T : Type 0} {below : T → T → Bool} (o : PartialOrderLaws below) wh
       negative false d = refl
 
   -- lists that sum to alike bags at every time have the same total for every test of row and time
-  pub totals_from_sums : (us vs : List (Update T)) → ((t : T) → Alike (as_of below t us) (as_of below t vs)) → (p : List ℤ → T → Bool) → total_where p us ≡ total_where p vs
+  pub totals_from_sums : (us vs : List (Update T)) → ((t : T) → Alike (as_of times t us) (as_of times t vs)) → (p : List ℤ → T → Bool) → total_where p us ≡ total_where p vs
   totals_from_sums us vs same p =
       let none = nothing_passes (us ++ map against vs) zeros (suc (length (filter (λ u. p u.row u.time) (us ++ map against vs)))) p (omega arith) in
       let difference = total_against p us vs in
       omega (arith, ints)
     where
-      zeros : (row : List ℤ) (t : T) → total_at below row t (us ++ map against vs) ≡ pos 0
+      zeros : (row : List ℤ) (t : T) → total_at times row t (us ++ map against vs) ≡ pos 0
       zeros row t =
-          let difference = total_against (λ r s. same_row r row && ties below s t) us vs in
+          let difference = total_against (λ r s. same_row r row && ties times s t) us vs in
           let equal = same_totals o (λ _. true) us vs (λ s u h k. refl) (λ u h. same u) row t refl in
           omega (arith, ints)

@@ -6,11 +6,11 @@ use Rattle.lattice.proofs.FrontierLemmas.{all_more}
 use Rattle.antichain.proofs.Lists.{all_at, all_from, filter_has, filter_takes}
 use Rattle.update.specs.Bags.{same_row}
 use Rattle.update.specs.declared.change.Update.{Update}
-use Rattle.join.specs.declared.forming.Side.{Side}
-use Rattle.join.specs.declared.forming.Side.TheVariants.{Left, Right}
+use Rattle.join.specs.declared.formed.Side.{Side}
+use Rattle.join.specs.declared.formed.Side.TheVariants.{Left, Right}
 use Rattle.join.specs.Pairs.{is_keyed, fits, pairs_fit}
-use Rattle.join.specs.Forming.{formed_fits, formed_fit}
-use Rattle.join.proofs.StandingLemmas.{piece_passes}
+use Rattle.join.specs.FormedPairs.{formed_fits, formed_fit}
+use Rattle.join.proofs.StandLemmas.{piece_passes}
 use Rattle.join.proofs.TurnedLemmas.{row_turned}
 
 module _ {X : Type 0} (q f : X → Bool) (xs : List X) where

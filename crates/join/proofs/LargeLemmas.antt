@@ -12,6 +12,7 @@ use Rattle.update.specs.declared.refusal.Refusal.{Refusal}
 use Rattle.update.specs.declared.refusal.Refusal.TheVariants.{OutOfMemory, Overflow}
 use Rattle.update.specs.Refusals.{IsMemoryOrOverflow, code_of}
 use Rattle.update.proofs.ConsolidatedLemmas.{summed_size, summed_size_is}
+use Rattle.lattice.specs.Times.{Times}
 
 -- a number that does not fit in 64 bits has an absolute value of 2^63 or more
 not_fits : (x : ℤ) → (FitsSigned w64 x → ⊥) → 2 ^ 63 ≤ unsigned_abs x
@@ -29,9 +30,9 @@ module _ {T : Type 0} where
       ]
 
   -- a list with too large a total is large
-  pub large_size : (below : T → T → Bool) (us : List (Update T)) → HasLargeTotal below us → 2 ^ 63 ≤ size us
-  large_size below us h =
-      let q = λ (r : List ℤ) (s : T). same_row r h.0 && (below s h.1 && below h.1 s) in
+  pub large_size : (times : Times T) (us : List (Update T)) → HasLargeTotal times us → 2 ^ 63 ≤ size us
+  large_size times us h =
+      let q = λ (r : List ℤ) (s : T). same_row r h.0 && (times.below s h.1 && times.below h.1 s) in
       let large = not_fits (total_where q us) h.2 in
       let within = total_within q us in
       let same = summed_size_is us in

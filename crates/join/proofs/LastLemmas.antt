@@ -12,9 +12,9 @@ use Rattle.update.specs.Groups.{is_same, group_sum}
 use Rattle.update.specs.declared.change.Update.{Update}
 use Rattle.update.proofs.ConsolidatedLemmas.{summed_size_is}
 use Rattle.update.proofs.GroupLemmas.{same_passes}
-use Rattle.join.specs.Forming.{StandsIn}
-use Rattle.join.proofs.FormingLemmas.{at_some}
-use Rattle.join.proofs.StandingLemmas.{stands_behind}
+use Rattle.join.specs.FormedPairs.{StandsIn}
+use Rattle.join.proofs.FormedLemmas.{at_some}
+use Rattle.join.proofs.StandLemmas.{stands_behind}
 
 -- arithmetic: the part of two differences in a total
 sum_of : (b c : Bool) (n d m : ℤ) → b ≡ c → m ≡ n +ℤ d → cond b m (pos 0) +ℤ pos 0 ≡ cond b n (pos 0) +ℤ (cond c d (pos 0) +ℤ pos 0)

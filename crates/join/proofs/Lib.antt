@@ -2,10 +2,10 @@
 pub mod PairLemmas
 pub mod TotalLemmas
 pub mod VisibleLemmas
-pub mod FormingLemmas
+pub mod FormedLemmas
 pub mod LargeLemmas
 pub mod OrderLemmas
-pub mod StandingLemmas
+pub mod StandLemmas
 pub mod PartLemmas
 pub mod TurnedLemmas
 pub mod FitLemmas

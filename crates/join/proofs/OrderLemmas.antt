@@ -17,7 +17,7 @@ use Rattle.batch.specs.Batches.{by_row_then_time, at_key, AllBefore, NoneBefore,
 use Rattle.batch.proofs.KeyLemmas.{parted, keeps_upto}
 use Rattle.batch.proofs.SeekLemmas.{found_is_filter, front_left_out}
 use Rattle.join.specs.Pairs.{is_keyed, is_wide}
-use Rattle.join.proofs.FormingLemmas.{at_some, passes_at}
+use Rattle.join.proofs.FormedLemmas.{at_some, passes_at}
 
 pub rows_total : IsTotalOrder (slice_cmp int_cmp)
 rows_total = lists_total int_cmp_total

@@ -16,6 +16,7 @@ use Rattle.std.proofs.lemmas.List.Elements.{filter_passes}
 use Rattle.std.proofs.lemmas.List.Folds.{list_all-append}
 use Rattle.std.proofs.lemmas.List.Sorted.{IsPermutation-sym}
 use Rattle.std.proofs.lemmas.List.Sums.{list_all-from_AllPass}
+use Rattle.lattice.specs.Times.{Times}
 use Rattle.lattice.proofs.FrontierLemmas.{all_more}
 use Rattle.antichain.proofs.Lists.{all_at, all_from}
 use Rattle.update.specs.declared.change.Update.{Update}
@@ -24,15 +25,15 @@ use Rattle.columns.specs.Runs.{row_starts, run_place}
 use Rattle.columns.proofs.PlaceLemmas.{run_place_end, run_place_within, run_place_onward, run_place_up, parts_joined}
 use Rattle.batch.specs.Batches.{by_row_then_time, at_key, AllBefore, NoneBefore, NoneAfter, AllAfter}
 use Rattle.batch.proofs.SeekLemmas.{range_long}
-use Rattle.join.specs.declared.forming.Side.{Side}
-use Rattle.join.specs.declared.forming.Side.TheVariants.{Left, Right}
+use Rattle.join.specs.declared.formed.Side.{Side}
+use Rattle.join.specs.declared.formed.Side.TheVariants.{Left, Right}
 use Rattle.join.specs.Pairs.{is_keyed, is_wide}
 use Rattle.join.specs.Parts.{ArePartOf}
-use Rattle.join.specs.Forming.{turned, formed_pair, formed_fits, formed_fit, formed_with, formed_each, formed_all, updates_in, StandsIn, HasLargeDiff, HasLargePartWith}
-use Rattle.join.proofs.FormingLemmas.{passes_at, some_at, at_some, some_is, some_element, range_more, image_at}
+use Rattle.join.specs.FormedPairs.{turned, formed_pair, formed_fits, formed_fit, formed_with, formed_each, formed_all, updates_in, StandsIn, HasLargeDiff, HasLargePartWith}
+use Rattle.join.proofs.FormedLemmas.{passes_at, some_at, at_some, some_is, some_element, range_more, image_at}
 use Rattle.join.proofs.OrderLemmas.{rows_total, keys_rise, front_grows, front_stays, found_is}
 use Rattle.join.proofs.PartLemmas.{part_moved, part_front, part_back, part_of_part, pieces_part, large_so_far, large_with_more}
-use Rattle.join.proofs.StandingLemmas.{stands_itself, stands_before, stands_behind, stands_in_turn, moved_stands}
+use Rattle.join.proofs.StandLemmas.{stands_itself, stands_before, stands_behind, stands_in_turn, moved_stands}
 use Rattle.join.proofs.TurnedLemmas.{by_columns}
 
 -- ---- parts of a list
@@ -137,26 +138,26 @@ table_turned f xs ys =
     (subst (λ l. IsPermutation (flat_map (λ x. map (f x) l) xs) (flat_map (λ y. map (λ x. f x y) (filter (λ _. true) xs)) ys)) (filter_all ys)
     (by_columns (λ _ _. true) (λ _ _. true) (λ _ _. refl) f xs ys))
 
-module _ {T : Type 0} (joined : T → T → T) (k : ℕ) where
-  each_moves : (side : Side) (us vs : List (Update T)) → IsPermutation (formed_each side joined k us vs) (formed_each (turned side) joined k vs us)
-  each_moves Left us vs = table_turned (formed_pair Left joined k) us vs
-  each_moves Right us vs = table_turned (formed_pair Right joined k) us vs
+module _ {T : Type 0} (times : Times T) (k : ℕ) where
+  each_moves : (side : Side) (us vs : List (Update T)) → IsPermutation (formed_each side times k us vs) (formed_each (turned side) times k vs us)
+  each_moves Left us vs = table_turned (formed_pair Left times k) us vs
+  each_moves Right us vs = table_turned (formed_pair Right times k) us vs
 
   -- the pairs that the other run's updates form stand in for those of the one's
-  pub each_turned : (side : Side) (us vs : List (Update T)) → StandsIn (formed_each (turned side) joined k vs us) (formed_each side joined k us vs)
-  each_turned side us vs = moved_stands (formed_each side joined k us vs) (formed_each (turned side) joined k vs us) (each_moves side us vs)
+  pub each_turned : (side : Side) (us vs : List (Update T)) → StandsIn (formed_each (turned side) times k vs us) (formed_each side times k us vs)
+  each_turned side us vs = moved_stands (formed_each side times k us vs) (formed_each (turned side) times k vs us) (each_moves side us vs)
 
   -- what stands in for the pairs of one run stands in for those of the other
-  pub turned_stands : (side : Side) (us vs old new : List (Update T)) → StandsIn new (old ++ formed_each (turned side) joined k vs us) → StandsIn new (old ++ formed_each side joined k us vs)
+  pub turned_stands : (side : Side) (us vs old new : List (Update T)) → StandsIn new (old ++ formed_each (turned side) times k vs us) → StandsIn new (old ++ formed_each side times k us vs)
   turned_stands side us vs old new a =
-      stands_in_turn new (old ++ formed_each (turned side) joined k vs us) (old ++ formed_each side joined k us vs) a
-      (stands_behind (formed_each (turned side) joined k vs us) (formed_each side joined k us vs) old (each_turned side us vs))
+      stands_in_turn new (old ++ formed_each (turned side) times k vs us) (old ++ formed_each side times k us vs) a
+      (stands_behind (formed_each (turned side) times k vs us) (formed_each side times k us vs) old (each_turned side us vs))
 
   -- and they are a part of those
-  pub turned_part : (side : Side) (us vs : List (Update T)) → ArePartOf (formed_each (turned side) joined k vs us) (formed_each side joined k us vs)
+  pub turned_part : (side : Side) (us vs : List (Update T)) → ArePartOf (formed_each (turned side) times k vs us) (formed_each side times k us vs)
   turned_part side us vs =
-      let ps = formed_each side joined k us vs in
-      let qs = formed_each (turned side) joined k vs us in
+      let ps = formed_each side times k us vs in
+      let qs = formed_each (turned side) times k vs us in
       part_moved qs ps (IsPermutation-sym ps qs (each_moves side us vs))
 
   fits_other : (side : Side) (u v : Update T) → IsTrue (formed_fits side k u v) → IsTrue (formed_fits (turned side) k v u)
@@ -171,33 +172,33 @@ module _ {T : Type 0} (joined : T → T → T) (k : ℕ) where
       (λ u n. fits_other side u v (all_at (formed_fits side k u) vs v (all_at (λ u. list_all (formed_fits side k u) vs) us u all n) m)))
 
   -- there are as many pairs as the product of both lengths
-  pub each_long : (side : Side) (us vs : List (Update T)) → length (formed_each side joined k us vs) ≡ length us * length vs
+  pub each_long : (side : Side) (us vs : List (Update T)) → length (formed_each side times k us vs) ≡ length us * length vs
   each_long side [] vs = omega arith
   each_long side (u ∷ us) vs =
       let rest = each_long side us vs in
-      let here = length-append (map (formed_pair side joined k u) vs) (formed_each side joined k us vs) in
-      let one = length-map vs (formed_pair side joined k u) in
+      let here = length-append (map (formed_pair side times k u) vs) (formed_each side times k us vs) in
+      let one = length-map vs (formed_pair side times k u) in
       omega (arith, rest, here, one)
 
   -- with nothing there are no pairs
-  each_none : (side : Side) (us : List (Update T)) → formed_each side joined k us [] ≡ []
+  each_none : (side : Side) (us : List (Update T)) → formed_each side times k us [] ≡ []
   each_none side [] = refl
   each_none side (u ∷ us) = each_none side us
 
   -- so what is listed stands in for itself with the pairs
-  pub none_stands : (side : Side) (us vs old : List (Update T)) → vs ≡ [] → StandsIn old (old ++ formed_each side joined k us vs)
+  pub none_stands : (side : Side) (us vs old : List (Update T)) → vs ≡ [] → StandsIn old (old ++ formed_each side times k us vs)
   none_stands side us vs old e =
-      subst (λ ps. StandsIn old (old ++ ps)) (sym (ap (formed_each side joined k us) e ∙ each_none side us))
+      subst (λ ps. StandsIn old (old ++ ps)) (sym (ap (formed_each side times k us) e ∙ each_none side us))
       (subst (StandsIn old) (sym (append-nil old)) (stands_itself old))
 
   -- the updates of one key form their pairs with the run of that key
-  pub all_is_each : (side : Side) (key : List ℤ) (us vs : List (Update T)) → IsTrue (list_all (is_keyed k key) us) → formed_all side joined k us vs ≡ formed_each side joined k us (filter (is_keyed k key) vs)
+  pub all_is_each : (side : Side) (key : List ℤ) (us vs : List (Update T)) → IsTrue (list_all (is_keyed k key) us) → formed_all side times k us vs ≡ formed_each side times k us (filter (is_keyed k key) vs)
   all_is_each side key [] vs all = refl
   all_is_each side key (u ∷ us) vs all =
       let parts = and_parts _ _ all in
       let same = row_same (take k u.row) key parts.0 in
       let rest = all_is_each side key us vs parts.1 in
-      (λ i. map (formed_pair side joined k u) (filter (is_keyed k (same i)) vs) ++ rest i)
+      (λ i. map (formed_pair side times k u) (filter (is_keyed k (same i)) vs) ++ rest i)
 
   -- if the rows of all their pairs fit, then they fit with each row of that run
   pub keyed_fit : (side : Side) (key : List ℤ) (us vs : List (Update T)) → IsTrue (list_all (is_keyed k key) us) → IsTrue (formed_fit side k us vs) → IsTrue (list_all (λ u. list_all (formed_fits side k u) (filter (is_keyed k key) vs)) us)
@@ -213,12 +214,12 @@ module _ {T : Type 0} (joined : T → T → T) (k : ℕ) where
 
   module _ (side : Side) (us vs : List (Update T)) (a i : ℕ) (g : a ≤ i) (u : Update T) (e : IsSomeAnd (slice_get us i) (λ w. u ≡ w)) where
     abbrev ones : Update T → List (Update T)
-    ones w = map (formed_pair side joined k w) vs
+    ones w = map (formed_pair side times k w) vs
 
     abbrev so_far : List (Update T)
-    so_far = formed_each side joined k (slice_range us a i) vs
+    so_far = formed_each side times k (slice_range us a i) vs
 
-    each_grown : i < length us → formed_each side joined k (slice_range us a (i + 1)) vs ≡ so_far ++ ones u
+    each_grown : i < length us → formed_each side times k (slice_range us a (i + 1)) vs ≡ so_far ++ ones u
     each_grown h =
         let is : get_or us i u ≡ u = sym (at_some (λ w. u ≡ w) us i e u) in
         ap (flat_map ones) (range_more us a i u g h ∙ ap (λ w. slice_range us a i ++ w ∷ []) is)
@@ -227,24 +228,24 @@ module _ {T : Type 0} (joined : T → T → T) (k : ℕ) where
 
     -- what stands in for the pairs so far, with those of one more update, stands in for the pairs
     -- with that update
-    pub each_more : (old before new : List (Update T)) → i < length us → StandsIn before (old ++ so_far) → StandsIn new (before ++ ones u) → StandsIn new (old ++ formed_each side joined k (slice_range us a (i + 1)) vs)
+    pub each_more : (old before new : List (Update T)) → i < length us → StandsIn before (old ++ so_far) → StandsIn new (before ++ ones u) → StandsIn new (old ++ formed_each side times k (slice_range us a (i + 1)) vs)
     each_more old before new h s t =
         subst (StandsIn new)
         (append_assoc old so_far (ones u) ∙ ap (λ ys. old ++ ys) (sym (each_grown h)))
         (stands_in_turn new (before ++ ones u) ((old ++ so_far) ++ ones u) t (stands_before before (old ++ so_far) (ones u) s))
 
     -- the pairs so far with those of one more update are a part of all pairs
-    pub each_part : (b : ℕ) → i < b → b ≤ length us → ArePartOf (formed_each side joined k (slice_range us a (i + 1)) vs) (formed_each side joined k (slice_range us a b) vs)
+    pub each_part : (b : ℕ) → i < b → b ≤ length us → ArePartOf (formed_each side times k (slice_range us a (i + 1)) vs) (formed_each side times k (slice_range us a b) vs)
     each_part b h l =
         subst (λ ws. ArePartOf (flat_map ones ws) (flat_map ones (slice_range us a b)))
         (part_begins us a (i + 1) b (omega (arith, g)) (omega (arith, h)))
         (pieces_part ones (i + 1 - a) (slice_range us a b))
 
     -- and so are those of the one update
-    pub one_part : (b : ℕ) → i < b → b ≤ length us → ArePartOf (ones u) (formed_each side joined k (slice_range us a b) vs)
+    pub one_part : (b : ℕ) → i < b → b ≤ length us → ArePartOf (ones u) (formed_each side times k (slice_range us a b) vs)
     one_part b h l =
-        let grown = formed_each side joined k (slice_range us a (i + 1)) vs in
-        part_of_part (ones u) grown (formed_each side joined k (slice_range us a b) vs)
+        let grown = formed_each side times k (slice_range us a (i + 1)) vs in
+        part_of_part (ones u) grown (formed_each side times k (slice_range us a b) vs)
         (subst (ArePartOf (ones u)) (sym (each_grown (omega (arith, h, l)))) (part_back so_far (ones u)))
         (each_part b h l)
 
@@ -252,15 +253,15 @@ module _ {T : Type 0} (joined : T → T → T) (k : ℕ) where
 
   module _ (side : Side) (us vs : List (Update T)) (a b c : ℕ) (g : a ≤ b) (h : b ≤ c) where
     abbrev each_in : ℕ → ℕ → List (Update T)
-    each_in from to = formed_each side joined k (slice_range us from to) vs
+    each_in from to = formed_each side times k (slice_range us from to) vs
 
     each_joined : each_in a c ≡ each_in a b ++ each_in b c
     each_joined =
-        ap (λ ws. formed_each side joined k ws vs) (sym (parts_joined us a b c g h))
-        ∙ flat_map-append (λ u. map (formed_pair side joined k u) vs) (slice_range us a b) (slice_range us b c)
+        ap (λ ws. formed_each side times k ws vs) (sym (parts_joined us a b c g h))
+        ∙ flat_map-append (λ u. map (formed_pair side times k u) vs) (slice_range us a b) (slice_range us b c)
 
-    -- what stands in for the pairs so far, with those of the next part, stands in for the pairs with
-    -- that part
+    -- what stands in for the pairs so far, with those of the next part, stands in for the pairs
+    -- with that part
     pub parts_more : (old before new : List (Update T)) → StandsIn before (old ++ each_in a b) → StandsIn new (before ++ each_in b c) → StandsIn new (old ++ each_in a c)
     parts_more old before new s t =
         subst (StandsIn new)
@@ -268,20 +269,20 @@ module _ {T : Type 0} (joined : T → T → T) (k : ℕ) where
         (stands_in_turn new (before ++ each_in b c) ((old ++ each_in a b) ++ each_in b c) t (stands_before before (old ++ each_in a b) (each_in b c) s))
 
     -- if they have too large a part, then all pairs have
-    parts_large : (below : T → T → Bool) (old before : List (Update T)) → StandsIn before (old ++ each_in a b) → HasLargePartWith below before (each_in b c) → HasLargePartWith below old (each_in a c)
-    parts_large below old before s large =
-        subst (HasLargePartWith below old) (sym each_joined)
-        (large_so_far below old (each_in a b) before (each_in b c) s large)
+    parts_large : (old before : List (Update T)) → StandsIn before (old ++ each_in a b) → HasLargePartWith times before (each_in b c) → HasLargePartWith times old (each_in a c)
+    parts_large old before s large =
+        subst (HasLargePartWith times old) (sym each_joined)
+        (large_so_far times old (each_in a b) before (each_in b c) s large)
 
   module _ (side : Side) (us vs : List (Update T)) (start run from to : ℕ) (g : start ≤ run) (e : from ≡ run_place us run) (f : to ≡ run_place us (run + 1)) where
     abbrev each_of : ℕ → ℕ → List (Update T)
-    each_of i j = formed_each side joined k (updates_in us i j) vs
+    each_of i j = formed_each side times k (updates_in us i j) vs
 
     abbrev each_here : List (Update T)
-    each_here = formed_each side joined k (slice_range us from to) vs
+    each_here = formed_each side times k (slice_range us from to) vs
 
     here_is : each_here ≡ each_of run (run + 1)
-    here_is i = formed_each side joined k (slice_range us (e i) (f i)) vs
+    here_is i = formed_each side times k (slice_range us (e i) (f i)) vs
 
     first_up : run_place us start ≤ run_place us run
     first_up = run_place_up us start run g
@@ -295,12 +296,12 @@ module _ {T : Type 0} (joined : T → T → T) (k : ℕ) where
         parts_more side us vs (run_place us start) (run_place us run) (run_place us (run + 1)) first_up next_up old before new s
         (subst (λ ps. StandsIn new (before ++ ps)) here_is t)
 
-    pub run_large : (below : T → T → Bool) (end : ℕ) → run < end → (old before : List (Update T)) → StandsIn before (old ++ each_of start run) → HasLargePartWith below before each_here → HasLargePartWith below old (each_of start end)
-    run_large below end h old before s large =
+    pub run_large : (end : ℕ) → run < end → (old before : List (Update T)) → StandsIn before (old ++ each_of start run) → HasLargePartWith times before each_here → HasLargePartWith times old (each_of start end)
+    run_large end h old before s large =
         let last = run_place_up us (run + 1) end (omega (arith, h)) in
         let upto = run_place_up us start (run + 1) (omega (arith, g)) in
-        let grown = parts_large side us vs (run_place us start) (run_place us run) (run_place us (run + 1)) first_up next_up below old before s (subst (HasLargePartWith below before) here_is large) in
-        large_with_more below old (each_of start (run + 1)) (each_of start end)
+        let grown = parts_large side us vs (run_place us start) (run_place us run) (run_place us (run + 1)) first_up next_up old before s (subst (HasLargePartWith times before) here_is large) in
+        large_with_more times old (each_of start (run + 1)) (each_of start end)
         (subst (ArePartOf (each_of start (run + 1))) (sym (each_joined side us vs (run_place us start) (run_place us (run + 1)) (run_place us end) upto last)) (part_front (each_of start (run + 1)) (each_of (run + 1) end)))
         grown
 
@@ -496,12 +497,12 @@ module _ {T : Type 0} (cmp : T → T → Ordering) (k : ℕ) (us vs : List (Upda
 
 -- ---- one run of the batch after the other
 
-module _ {T : Type 0} (side : Side) (joined : T → T → T) (k : ℕ) (us vs : List (Update T)) where
+module _ {T : Type 0} (side : Side) (times : Times T) (k : ℕ) (us vs : List (Update T)) where
   abbrev all : List (Update T) → List (Update T)
-  all ws = formed_all side joined k ws vs
+  all ws = formed_all side times k ws vs
 
   abbrev own : Update T → List (Update T)
-  own u = formed_with side joined k u vs
+  own u = formed_with side times k u vs
 
   all_parts : (a b : ℕ) → a ≤ b → all (take b us) ≡ all (take a us) ++ all (slice_range us a b)
   all_parts a b g = ap all (sym (part_behind us a b g)) ∙ flat_map-append own (take a us) (slice_range us a b)
@@ -523,11 +524,11 @@ module _ {T : Type 0} (side : Side) (joined : T → T → T) (k : ℕ) (us vs : 
 
   -- if the pairs so far, with those that are still to come, have too large a part, then all pairs
   -- have
-  pub runs_large : (below : T → T → Bool) (a : ℕ) (old before : List (Update T)) → StandsIn before (old ++ all (take a us)) → HasLargePartWith below before (all (drop a us)) → HasLargePartWith below old (all us)
-  runs_large below a old before s large =
-      subst (HasLargePartWith below old)
+  pub runs_large : (a : ℕ) (old before : List (Update T)) → StandsIn before (old ++ all (take a us)) → HasLargePartWith times before (all (drop a us)) → HasLargePartWith times old (all us)
+  runs_large a old before s large =
+      subst (HasLargePartWith times old)
       (sym (flat_map-append own (take a us) (drop a us)) ∙ ap all (take-append-drop a us))
-      (large_so_far below old (all (take a us)) before (all (drop a us)) s large)
+      (large_so_far times old (all (take a us)) before (all (drop a us)) s large)
 
   module _ (key : List ℤ) (a b start end : ℕ) (keyed : IsTrue (list_all (is_keyed k key) (slice_range us a b))) (found : slice_range vs start end ≡ filter (is_keyed k key) vs) where
     abbrev run : List (Update T)
@@ -537,11 +538,11 @@ module _ {T : Type 0} (side : Side) (joined : T → T → T) (k : ℕ) (us vs : 
     there = slice_range vs start end
 
     -- the pairs of a run are those with what was found
-    pub run_is : all run ≡ formed_each side joined k run there
-    run_is = all_is_each joined k side key run vs keyed ∙ ap (formed_each side joined k run) (sym found)
+    pub run_is : all run ≡ formed_each side times k run there
+    run_is = all_is_each times k side key run vs keyed ∙ ap (formed_each side times k run) (sym found)
 
     -- they are a part of those that are still to come
-    pub run_part : a ≤ b → ArePartOf (formed_each side joined k run there) (all (drop a us))
+    pub run_part : a ≤ b → ArePartOf (formed_each side times k run there) (all (drop a us))
     run_part g =
         subst (λ ps. ArePartOf ps (all (drop a us))) run_is
         (subst (ArePartOf (all run))
@@ -552,12 +553,12 @@ module _ {T : Type 0} (side : Side) (joined : T → T → T) (k : ℕ) (us vs : 
     pub run_fits : IsTrue (formed_fit side k us vs) → IsTrue (list_all (λ u. list_all (formed_fits side k u) there) run)
     run_fits h =
         subst (λ ws. IsTrue (list_all (λ u. list_all (formed_fits side k u) ws) run)) (sym found)
-        (keyed_fit joined k side key run vs keyed (part_all (λ u. list_all (formed_fits side k u) (filter (is_keyed k (take k u.row)) vs)) us a b h))
+        (keyed_fit times k side key run vs keyed (part_all (λ u. list_all (formed_fits side k u) (filter (is_keyed k (take k u.row)) vs)) us a b h))
 
     -- there are as many as the product of both lengths
     pub run_looked : (old new : ℕ) → a ≤ b → b ≤ length us → start ≤ end → end ≤ length vs → new ≡ min (old + (b - a) * (end - start)) (2 ^ 64 - 1) → new ≡ min (old + length (all run)) (2 ^ 64 - 1)
     run_looked old new g l m n is =
         let left = range_long (λ _. true) us a b g l in
         let right = range_long (λ _. true) vs start end m n in
-        let long : length (all run) ≡ (b - a) * (end - start) = ap length run_is ∙ each_long joined k side run there ∙ (λ i. left i * right i) in
+        let long : length (all run) ≡ (b - a) * (end - start) = ap length run_is ∙ each_long times k side run there ∙ (λ i. left i * right i) in
         is ∙ ap (λ n. min (old + n) (2 ^ 64 - 1)) (sym long)

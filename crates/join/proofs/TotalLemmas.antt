@@ -11,15 +11,16 @@ use Rattle.update.specs.declared.change.Update.{Update}
 use Rattle.update.proofs.SumLemmas.{total_by-same, total_by-add, total_by-append, total_by-map, total_by-filter, total_by-permutation}
 use Rattle.plan.proofs.CountLemmas.{total_by-flat_map}
 use Rattle.join.specs.Pairs.{is_keyed, pair_of, pairs_with, pairs}
+use Rattle.lattice.specs.Times.{Times}
 
-module _ {T : Type 0} (joined : T → T → T) (k : ℕ) (p : List ℤ → T → Bool) where
+module _ {T : Type 0} (times : Times T) (k : ℕ) (p : List ℤ → T → Bool) where
   -- what an update adds to the total
   abbrev adds : Update T → ℤ
   adds u = cond (p u.row u.time) u.diff (pos 0)
 
   -- what two updates add to the total of the pairs
   abbrev pair_adds : Update T → Update T → ℤ
-  pair_adds u v = cond (is_keyed k (take k u.row) v) (adds (pair_of joined k u v)) (pos 0)
+  pair_adds u v = cond (is_keyed k (take k u.row) v) (adds (pair_of times k u v)) (pos 0)
 
   -- what a left update adds, paired with the whole right list
   abbrev row_adds : List (Update T) → Update T → ℤ
@@ -29,29 +30,29 @@ module _ {T : Type 0} (joined : T → T → T) (k : ℕ) (p : List ℤ → T →
   total us = total_where p us
 
   -- a total of pairs is a double sum
-  total_pairs : (us vs : List (Update T)) → total (pairs joined k us vs) ≡ total_by (row_adds vs) us
+  total_pairs : (us vs : List (Update T)) → total (pairs times k us vs) ≡ total_by (row_adds vs) us
   total_pairs us vs =
-      total_by-flat_map adds (λ u. pairs_with joined k u vs) us
-      ∙ total_by-same (λ u. total_by adds (pairs_with joined k u vs)) (row_adds vs) us one
+      total_by-flat_map adds (λ u. pairs_with times k u vs) us
+      ∙ total_by-same (λ u. total_by adds (pairs_with times k u vs)) (row_adds vs) us one
     where
-      one : (u : Update T) → total_by adds (pairs_with joined k u vs) ≡ row_adds vs u
+      one : (u : Update T) → total_by adds (pairs_with times k u vs) ≡ row_adds vs u
       one u =
-          total_by-map adds (pair_of joined k u) (filter (is_keyed k (take k u.row)) vs)
-          ∙ total_by-filter (λ v. adds (pair_of joined k u v)) (is_keyed k (take k u.row)) vs
+          total_by-map adds (pair_of times k u) (filter (is_keyed k (take k u.row)) vs)
+          ∙ total_by-filter (λ v. adds (pair_of times k u v)) (is_keyed k (take k u.row)) vs
 
   -- two lists together have the totals of each, together
   pub total-append : (us vs : List (Update T)) → total (us ++ vs) ≡ total us +ℤ total vs
   total-append us vs = total_by-append adds us vs
 
   -- the left side may be cut into two pieces
-  pub total_pairs-left : (us ws vs : List (Update T)) → total (pairs joined k (us ++ ws) vs) ≡ total (pairs joined k us vs) +ℤ total (pairs joined k ws vs)
+  pub total_pairs-left : (us ws vs : List (Update T)) → total (pairs times k (us ++ ws) vs) ≡ total (pairs times k us vs) +ℤ total (pairs times k ws vs)
   total_pairs-left us ws vs =
       total_pairs (us ++ ws) vs
       ∙ total_by-append (row_adds vs) us ws
       ∙ sym (λ i. total_pairs us vs i +ℤ total_pairs ws vs i)
 
   -- the right side may be cut into two pieces
-  pub total_pairs-right : (us vs xs : List (Update T)) → total (pairs joined k us (vs ++ xs)) ≡ total (pairs joined k us vs) +ℤ total (pairs joined k us xs)
+  pub total_pairs-right : (us vs xs : List (Update T)) → total (pairs times k us (vs ++ xs)) ≡ total (pairs times k us vs) +ℤ total (pairs times k us xs)
   total_pairs-right us vs xs =
       total_pairs us (vs ++ xs)
       ∙ total_by-same (row_adds (vs ++ xs)) (λ u. row_adds vs u +ℤ row_adds xs u) us (λ u. total_by-append (pair_adds u) vs xs)
@@ -59,21 +60,21 @@ module _ {T : Type 0} (joined : T → T → T) (k : ℕ) (p : List ℤ → T →
       ∙ sym (λ i. total_pairs us vs i +ℤ total_pairs us xs i)
 
   -- both sides may be cut at once
-  pub total_pairs-both : (us ws vs xs : List (Update T)) → total (pairs joined k (us ++ ws) (vs ++ xs))
-      ≡ (total (pairs joined k us vs) +ℤ total (pairs joined k us xs)) +ℤ (total (pairs joined k ws vs) +ℤ total (pairs joined k ws xs))
+  pub total_pairs-both : (us ws vs xs : List (Update T)) → total (pairs times k (us ++ ws) (vs ++ xs))
+      ≡ (total (pairs times k us vs) +ℤ total (pairs times k us xs)) +ℤ (total (pairs times k ws vs) +ℤ total (pairs times k ws xs))
   total_pairs-both us ws vs xs =
       total_pairs-left us ws (vs ++ xs)
       ∙ (λ i. total_pairs-right us vs xs i +ℤ total_pairs-right ws vs xs i)
 
   -- the order of the left side does not matter
-  pub total_pairs-left_order : (us ws vs : List (Update T)) → IsPermutation us ws → total (pairs joined k us vs) ≡ total (pairs joined k ws vs)
+  pub total_pairs-left_order : (us ws vs : List (Update T)) → IsPermutation us ws → total (pairs times k us vs) ≡ total (pairs times k ws vs)
   total_pairs-left_order us ws vs moved =
       total_pairs us vs
       ∙ total_by-permutation (row_adds vs) us ws moved
       ∙ sym (total_pairs ws vs)
 
   -- the order of the right side does not matter
-  pub total_pairs-right_order : (us vs xs : List (Update T)) → IsPermutation vs xs → total (pairs joined k us vs) ≡ total (pairs joined k us xs)
+  pub total_pairs-right_order : (us vs xs : List (Update T)) → IsPermutation vs xs → total (pairs times k us vs) ≡ total (pairs times k us xs)
   total_pairs-right_order us vs xs moved =
       total_pairs us vs
       ∙ total_by-same (row_adds vs) (row_adds xs) us (λ u. total_by-permutation (pair_adds u) vs xs moved)
@@ -81,20 +82,20 @@ module _ {T : Type 0} (joined : T → T → T) (k : ℕ) (p : List ℤ → T →
 
   -- what a new left piece makes with the old right side, and then a new right piece with the whole
   -- left side
-  pub left_first : (us ws vs xs : List (Update T)) → total (pairs joined k us vs ++ (pairs joined k ws vs ++ pairs joined k (us ++ ws) xs)) ≡ total (pairs joined k (us ++ ws) (vs ++ xs))
+  pub left_first : (us ws vs xs : List (Update T)) → total (pairs times k us vs ++ (pairs times k ws vs ++ pairs times k (us ++ ws) xs)) ≡ total (pairs times k (us ++ ws) (vs ++ xs))
   left_first us ws vs xs =
-      let whole = total-append (pairs joined k us vs) (pairs joined k ws vs ++ pairs joined k (us ++ ws) xs) in
-      let new = total-append (pairs joined k ws vs) (pairs joined k (us ++ ws) xs) in
+      let whole = total-append (pairs times k us vs) (pairs times k ws vs ++ pairs times k (us ++ ws) xs) in
+      let new = total-append (pairs times k ws vs) (pairs times k (us ++ ws) xs) in
       let later = total_pairs-left us ws xs in
       let parts = total_pairs-both us ws vs xs in
       omega (arith, ints)
 
   -- what a new right piece makes with the old left side, and then a new left piece with the whole
   -- right side
-  pub right_first : (us ws vs xs : List (Update T)) → total (pairs joined k us vs ++ (pairs joined k us xs ++ pairs joined k ws (vs ++ xs))) ≡ total (pairs joined k (us ++ ws) (vs ++ xs))
+  pub right_first : (us ws vs xs : List (Update T)) → total (pairs times k us vs ++ (pairs times k us xs ++ pairs times k ws (vs ++ xs))) ≡ total (pairs times k (us ++ ws) (vs ++ xs))
   right_first us ws vs xs =
-      let whole = total-append (pairs joined k us vs) (pairs joined k us xs ++ pairs joined k ws (vs ++ xs)) in
-      let new = total-append (pairs joined k us xs) (pairs joined k ws (vs ++ xs)) in
+      let whole = total-append (pairs times k us vs) (pairs times k us xs ++ pairs times k ws (vs ++ xs)) in
+      let new = total-append (pairs times k us xs) (pairs times k ws (vs ++ xs)) in
       let later = total_pairs-right ws vs xs in
       let parts = total_pairs-both us ws vs xs in
       omega (arith, ints)

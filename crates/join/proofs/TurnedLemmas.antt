@@ -10,12 +10,13 @@ use Rattle.update.specs.Bags.{same_row}
 use Rattle.update.specs.declared.change.Update.{Update}
 use Rattle.plan.proofs.CountLemmas.{row_same, row_itself}
 use Rattle.plan.proofs.ReductionLemmas.{row_differs}
-use Rattle.join.specs.declared.forming.Side.TheVariants.{Right}
+use Rattle.join.specs.declared.formed.Side.TheVariants.{Right}
 use Rattle.join.specs.Pairs.{is_keyed, pair_of, pairs}
 use Rattle.join.specs.Parts.{ArePartOf}
-use Rattle.join.specs.Forming.{StandsIn, formed_all}
+use Rattle.join.specs.FormedPairs.{StandsIn, formed_all}
 use Rattle.join.proofs.PartLemmas.{part_moved}
-use Rattle.join.proofs.StandingLemmas.{moved_stands}
+use Rattle.join.proofs.StandLemmas.{moved_stands}
+use Rattle.lattice.specs.Times.{Times}
 
 -- ---- a table, row by row and column by column
 
@@ -73,23 +74,23 @@ row_turned row other = step (same_row row other) refl
     step true e = sym (ap (λ r. same_row r row) (sym (row_same row other e)) ∙ row_itself row)
     step false e = sym (row_differs row other e)
 
-module _ {T : Type 0} (joined : T → T → T) (k : ℕ) (us vs : List (Update T)) where
+module _ {T : Type 0} (times : Times T) (k : ℕ) (us vs : List (Update T)) where
   -- a batch on the right forms the pairs of the definition in another order
-  pub turned_moves : IsPermutation (pairs joined k vs us) (formed_all Right joined k us vs)
+  pub turned_moves : IsPermutation (pairs times k vs us) (formed_all Right times k us vs)
   turned_moves =
       by_columns
       (λ v u. is_keyed k (take k v.row) u)
       (λ u v. is_keyed k (take k u.row) v)
       (λ v u. row_turned (take k v.row) (take k u.row))
-      (λ v u. pair_of joined k v u)
+      (λ v u. pair_of times k v u)
       vs us
 
   -- what a batch on the right forms stands in for the pairs of the definition
-  pub turned : StandsIn (formed_all Right joined k us vs) (pairs joined k vs us)
-  turned = moved_stands (pairs joined k vs us) (formed_all Right joined k us vs) turned_moves
+  pub turned : StandsIn (formed_all Right times k us vs) (pairs times k vs us)
+  turned = moved_stands (pairs times k vs us) (formed_all Right times k us vs) turned_moves
 
   -- and it is a part of them
-  pub turned_part : ArePartOf (formed_all Right joined k us vs) (pairs joined k vs us)
+  pub turned_part : ArePartOf (formed_all Right times k us vs) (pairs times k vs us)
   turned_part =
-      part_moved (formed_all Right joined k us vs) (pairs joined k vs us)
-      (IsPermutation-sym (pairs joined k vs us) (formed_all Right joined k us vs) turned_moves)
+      part_moved (formed_all Right times k us vs) (pairs times k vs us)
+      (IsPermutation-sym (pairs times k vs us) (formed_all Right times k us vs) turned_moves)

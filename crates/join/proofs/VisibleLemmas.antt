@@ -4,6 +4,7 @@ use Rattle.std.proofs.Common.{◌≡◌, ℕ, zero, suc, Bool, true, false, cond
 use Rattle.std.specs.Prelude.{ℤ, ◌+ℤ◌}
 use Rattle.std.specs.List.{filter}
 use Rattle.std.proofs.lemmas.Bool.{true≢false, and_parts}
+use Rattle.lattice.specs.Times.{Times}
 use Rattle.lattice.specs.Order.{PartialOrderLaws}
 use Rattle.lattice.specs.Frontiers.{is_beyond}
 use Rattle.lattice.proofs.FrontierLemmas.{beyond_up}
@@ -41,35 +42,35 @@ join_nothing : (k : ℕ) (a : List Entry) → join_output k a [] ≡ []
 join_nothing k [] = refl
 join_nothing k (e ∷ a) = join_nothing k a
 
-module _ {T : Type 0} (below : T → T → Bool) (joined : T → T → T) (join_below : (a b s : T) → below (joined a b) s ≡ (below a s && below b s)) where
+module _ {T : Type 0} (times : Times T) (join_below : (a b s : T) → times.below (times.joined a b) s ≡ (times.below a s && times.below b s)) where
   abbrev at : T → List (Update T) → List Entry
-  at t us = as_of below t us
+  at t us = as_of times t us
 
   -- the pairs of two lists sum to the join of both sums
-  pairs_sum : (k : ℕ) (t : T) (us vs : List (Update T)) → at t (pairs joined k us vs) ≡ join_output k (at t us) (at t vs)
-  pairs_sum k t us vs = pairs_at below joined join_below k t us vs
+  pairs_sum : (k : ℕ) (t : T) (us vs : List (Update T)) → at t (pairs times k us vs) ≡ join_output k (at t us) (at t vs)
+  pairs_sum k t us vs = pairs_at times join_below k t us vs
 
   -- ---- compacted sides
 
-  module _ (order : PartialOrderLaws below) where
+  module _ (order : PartialOrderLaws times) where
     -- updates whose times are all beyond a frontier are not visible at times that it has passed
-    hidden : (F : List T) (t : T) → is_beyond below F t ≡ false → (us : List (Update T)) → IsTrue (all_times_beyond below F us) → at t us ≡ []
+    hidden : (F : List T) (t : T) → is_beyond times F t ≡ false → (us : List (Update T)) → IsTrue (all_times_beyond times F us) → at t us ≡ []
     hidden F t e [] a = refl
     hidden F t e (u ∷ us) a =
         let parts = and_parts _ _ a in
-        step (below u.time t) refl parts.0 (hidden F t e us parts.1)
+        step (times.below u.time t) refl parts.0 (hidden F t e us parts.1)
       where
-        step : (b : Bool) → below u.time t ≡ b → IsTrue (is_beyond below F u.time) → at t us ≡ [] → map entry (cond b (u ∷ filter (λ w. below w.time t) us) (filter (λ w. below w.time t) us)) ≡ []
+        step : (b : Bool) → times.below u.time t ≡ b → IsTrue (is_beyond times F u.time) → at t us ≡ [] → map entry (cond b (u ∷ filter (λ w. times.below w.time t) us) (filter (λ w. times.below w.time t) us)) ≡ []
         step true f h rest = absurd (true≢false (sym (beyond_up order F u.time t h f) ∙ e))
         step false f h rest = rest
 
     -- if the left updates are beyond the frontier, then the right side may be compacted as of it
-    pub right_compacted : (k : ℕ) (F : List T) (us vs ws : List (Update T)) → IsTrue (all_times_beyond below F us) → SameBeyond below F vs ws → (t : T) → Alike (at t (pairs joined k us vs)) (at t (pairs joined k us ws))
+    pub right_compacted : (k : ℕ) (F : List T) (us vs ws : List (Update T)) → IsTrue (all_times_beyond times F us) → SameBeyond times F vs ws → (t : T) → Alike (at t (pairs times k us vs)) (at t (pairs times k us ws))
     right_compacted k F us vs ws a same t row =
         ap (λ es. count_of es row) (pairs_sum k t us vs)
-        ∙ (step (is_beyond below F t) refl ∙ sym (ap (λ es. count_of es row) (pairs_sum k t us ws)))
+        ∙ (step (is_beyond times F t) refl ∙ sym (ap (λ es. count_of es row) (pairs_sum k t us ws)))
       where
-        step : (b : Bool) → is_beyond below F t ≡ b → count_of (join_output k (at t us) (at t vs)) row ≡ count_of (join_output k (at t us) (at t ws)) row
+        step : (b : Bool) → is_beyond times F t ≡ b → count_of (join_output k (at t us) (at t vs)) row ≡ count_of (join_output k (at t us) (at t ws)) row
         step true e = join_alike k (at t us) (at t us) (at t vs) (at t ws) (λ r. refl) (same t e) row
         step false e =
             let none = hidden F t e us a in
@@ -77,12 +78,12 @@ module _ {T : Type 0} (below : T → T → Bool) (joined : T → T → T) (join_
             ∙ sym (ap (λ es. count_of (join_output k es (at t ws)) row) none)
 
     -- if the right updates are beyond the frontier, then the left side may be compacted as of it
-    pub left_compacted : (k : ℕ) (F : List T) (us ws vs : List (Update T)) → IsTrue (all_times_beyond below F vs) → SameBeyond below F us ws → (t : T) → Alike (at t (pairs joined k us vs)) (at t (pairs joined k ws vs))
+    pub left_compacted : (k : ℕ) (F : List T) (us ws vs : List (Update T)) → IsTrue (all_times_beyond times F vs) → SameBeyond times F us ws → (t : T) → Alike (at t (pairs times k us vs)) (at t (pairs times k ws vs))
     left_compacted k F us ws vs a same t row =
         ap (λ es. count_of es row) (pairs_sum k t us vs)
-        ∙ (step (is_beyond below F t) refl ∙ sym (ap (λ es. count_of es row) (pairs_sum k t ws vs)))
+        ∙ (step (is_beyond times F t) refl ∙ sym (ap (λ es. count_of es row) (pairs_sum k t ws vs)))
       where
-        step : (b : Bool) → is_beyond below F t ≡ b → count_of (join_output k (at t us) (at t vs)) row ≡ count_of (join_output k (at t ws) (at t vs)) row
+        step : (b : Bool) → is_beyond times F t ≡ b → count_of (join_output k (at t us) (at t vs)) row ≡ count_of (join_output k (at t ws) (at t vs)) row
         step true e = join_alike k (at t us) (at t ws) (at t vs) (at t vs) (same t e) (λ r. refl) row
         step false e =
             let none = hidden F t e vs a in
@@ -94,27 +95,27 @@ module _ {T : Type 0} (below : T → T → Bool) (joined : T → T → T) (join_
 
   -- the count of a row in the sum of a list is a total over the list
   abbrev counted : T → List ℤ → List ℤ → T → Bool
-  counted t row r s = same_row r row && below s t
+  counted t row r s = same_row r row && times.below s t
 
   -- if the emitted updates sum to the join of what was received, then the pairs of one more left
   -- piece keep it so
-  pub left_goes_on : (k : ℕ) (us old vs emitted : List (Update T)) (t : T) → Alike (at t emitted) (join_output k (at t old) (at t vs)) → Alike (at t (pairs joined k us vs ++ emitted)) (join_output k (at t (us ++ old)) (at t vs))
+  pub left_goes_on : (k : ℕ) (us old vs emitted : List (Update T)) (t : T) → Alike (at t emitted) (join_output k (at t old) (at t vs)) → Alike (at t (pairs times k us vs ++ emitted)) (join_output k (at t (us ++ old)) (at t vs))
   left_goes_on k us old vs emitted t before row =
-      ap (λ es. count_of es row) (as_of-append below t (pairs joined k us vs) emitted)
-      ∙ (count_of-append (at t (pairs joined k us vs)) (at t emitted) row
-      ∙ ((λ i. count_of (at t (pairs joined k us vs)) row +ℤ (before row ∙ ap (λ es. count_of es row) (sym (pairs_sum k t old vs))) i)
-      ∙ ((λ i. count_as_of below row t (pairs joined k us vs) i +ℤ count_as_of below row t (pairs joined k old vs) i)
-      ∙ (sym (total_pairs-left joined k (counted t row) us old vs)
-      ∙ (sym (count_as_of below row t (pairs joined k (us ++ old) vs))
+      ap (λ es. count_of es row) (as_of-append times t (pairs times k us vs) emitted)
+      ∙ (count_of-append (at t (pairs times k us vs)) (at t emitted) row
+      ∙ ((λ i. count_of (at t (pairs times k us vs)) row +ℤ (before row ∙ ap (λ es. count_of es row) (sym (pairs_sum k t old vs))) i)
+      ∙ ((λ i. count_as_of times row t (pairs times k us vs) i +ℤ count_as_of times row t (pairs times k old vs) i)
+      ∙ (sym (total_pairs-left times k (counted t row) us old vs)
+      ∙ (sym (count_as_of times row t (pairs times k (us ++ old) vs))
       ∙ ap (λ es. count_of es row) (pairs_sum k t (us ++ old) vs))))))
 
   -- and so do the pairs of one more right piece
-  pub right_goes_on : (k : ℕ) (us vs old emitted : List (Update T)) (t : T) → Alike (at t emitted) (join_output k (at t us) (at t old)) → Alike (at t (pairs joined k us vs ++ emitted)) (join_output k (at t us) (at t (vs ++ old)))
+  pub right_goes_on : (k : ℕ) (us vs old emitted : List (Update T)) (t : T) → Alike (at t emitted) (join_output k (at t us) (at t old)) → Alike (at t (pairs times k us vs ++ emitted)) (join_output k (at t us) (at t (vs ++ old)))
   right_goes_on k us vs old emitted t before row =
-      ap (λ es. count_of es row) (as_of-append below t (pairs joined k us vs) emitted)
-      ∙ (count_of-append (at t (pairs joined k us vs)) (at t emitted) row
-      ∙ ((λ i. count_of (at t (pairs joined k us vs)) row +ℤ (before row ∙ ap (λ es. count_of es row) (sym (pairs_sum k t us old))) i)
-      ∙ ((λ i. count_as_of below row t (pairs joined k us vs) i +ℤ count_as_of below row t (pairs joined k us old) i)
-      ∙ (sym (total_pairs-right joined k (counted t row) us vs old)
-      ∙ (sym (count_as_of below row t (pairs joined k us (vs ++ old)))
+      ap (λ es. count_of es row) (as_of-append times t (pairs times k us vs) emitted)
+      ∙ (count_of-append (at t (pairs times k us vs)) (at t emitted) row
+      ∙ ((λ i. count_of (at t (pairs times k us vs)) row +ℤ (before row ∙ ap (λ es. count_of es row) (sym (pairs_sum k t us old))) i)
+      ∙ ((λ i. count_as_of times row t (pairs times k us vs) i +ℤ count_as_of times row t (pairs times k us old) i)
+      ∙ (sym (total_pairs-right times k (counted t row) us vs old)
+      ∙ (sym (count_as_of times row t (pairs times k us (vs ++ old)))
       ∙ ap (λ es. count_of es row) (pairs_sum k t us (vs ++ old)))))))

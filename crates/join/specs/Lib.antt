@@ -3,5 +3,5 @@ pub use Rattle.lattice.specs.Order
 pub use Rattle.lattice.specs.Frontiers
 pub mod Pairs
 pub mod Parts
-pub mod Forming
+pub mod FormedPairs
 pub mod Sides

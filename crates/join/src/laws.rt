@@ -17,10 +17,10 @@ use lattice::Lattice;
 /// The size of the pairs is at most the product of both sizes. Costs nothing.
 pub fn pairs_are_the_join<T: Lattice>()
     ensures sums { (k : ℕ) (us vs : List (Update T)) (t : T)
-        → as_of T.below t (pairs T.joined k us vs)
-        ≡ join_output k (as_of T.below t us) (as_of T.below t vs) }
+        → as_of T.times t (pairs T.times k us vs)
+        ≡ join_output k (as_of T.times t us) (as_of T.times t vs) }
     ensures size { (k : ℕ) (us vs : List (Update T))
-        → size (pairs T.joined k us vs) ≤ size us * size vs }
+        → size (pairs T.times k us vs) ≤ size us * size vs }
 {}
 
 /// Pairs may be formed piece by piece. Every total of the pairs of `us ++ ws` and `vs ++ xs` is the
@@ -28,15 +28,15 @@ pub fn pairs_are_the_join<T: Lattice>()
 /// either side changes no total. Costs nothing.
 pub fn pieces_pair_up<T: Lattice>()
     ensures pieces { (p : List ℤ → T → Bool) (k : ℕ) (us ws vs xs : List (Update T))
-        → total_where p (pairs T.joined k (us ++ ws) (vs ++ xs))
-        ≡ (total_where p (pairs T.joined k us vs) +ℤ total_where p (pairs T.joined k us xs))
-        +ℤ (total_where p (pairs T.joined k ws vs) +ℤ total_where p (pairs T.joined k ws xs)) }
+        → total_where p (pairs T.times k (us ++ ws) (vs ++ xs))
+        ≡ (total_where p (pairs T.times k us vs) +ℤ total_where p (pairs T.times k us xs))
+        +ℤ (total_where p (pairs T.times k ws vs) +ℤ total_where p (pairs T.times k ws xs)) }
     ensures left_order { (p : List ℤ → T → Bool) (k : ℕ) (us ws vs : List (Update T))
         → IsPermutation us ws
-        → total_where p (pairs T.joined k us vs) ≡ total_where p (pairs T.joined k ws vs) }
+        → total_where p (pairs T.times k us vs) ≡ total_where p (pairs T.times k ws vs) }
     ensures right_order { (p : List ℤ → T → Bool) (k : ℕ) (us vs xs : List (Update T))
         → IsPermutation vs xs
-        → total_where p (pairs T.joined k us vs) ≡ total_where p (pairs T.joined k us xs) }
+        → total_where p (pairs T.times k us vs) ≡ total_where p (pairs T.times k us xs) }
 {}
 
 /// A new left piece `ws` and a new right piece `xs` are paired once. If the first of them is paired
@@ -44,13 +44,13 @@ pub fn pieces_pair_up<T: Lattice>()
 /// pair is missed and none is formed twice, in either order. Costs nothing.
 pub fn both_sides_once<T: Lattice>()
     ensures left_first { (p : List ℤ → T → Bool) (k : ℕ) (us ws vs xs : List (Update T))
-        → total_where p (pairs T.joined k us vs
-        ++ (pairs T.joined k ws vs ++ pairs T.joined k (us ++ ws) xs))
-        ≡ total_where p (pairs T.joined k (us ++ ws) (vs ++ xs)) }
+        → total_where p (pairs T.times k us vs
+        ++ (pairs T.times k ws vs ++ pairs T.times k (us ++ ws) xs))
+        ≡ total_where p (pairs T.times k (us ++ ws) (vs ++ xs)) }
     ensures right_first { (p : List ℤ → T → Bool) (k : ℕ) (us ws vs xs : List (Update T))
-        → total_where p (pairs T.joined k us vs
-        ++ (pairs T.joined k us xs ++ pairs T.joined k ws (vs ++ xs)))
-        ≡ total_where p (pairs T.joined k (us ++ ws) (vs ++ xs)) }
+        → total_where p (pairs T.times k us vs
+        ++ (pairs T.times k us xs ++ pairs T.times k ws (vs ++ xs)))
+        ≡ total_where p (pairs T.times k (us ++ ws) (vs ++ xs)) }
 {}
 
 /// If all times of one side are beyond a frontier, then the other side may be read as it was
@@ -58,13 +58,13 @@ pub fn both_sides_once<T: Lattice>()
 /// bags at every time. Costs nothing.
 pub fn compacted_sides_do_not_matter<T: Lattice>()
     ensures right { (k : ℕ) (F : List T) (us vs ws : List (Update T))
-        → IsTrue (all_times_beyond T.below F us) → SameBeyond T.below F vs ws → (t : T)
-        → Alike (as_of T.below t (pairs T.joined k us vs))
-        (as_of T.below t (pairs T.joined k us ws)) }
+        → IsTrue (all_times_beyond T.times F us) → SameBeyond T.times F vs ws → (t : T)
+        → Alike (as_of T.times t (pairs T.times k us vs))
+        (as_of T.times t (pairs T.times k us ws)) }
     ensures left { (k : ℕ) (F : List T) (us ws vs : List (Update T))
-        → IsTrue (all_times_beyond T.below F vs) → SameBeyond T.below F us ws → (t : T)
-        → Alike (as_of T.below t (pairs T.joined k us vs))
-        (as_of T.below t (pairs T.joined k ws vs)) }
+        → IsTrue (all_times_beyond T.times F vs) → SameBeyond T.times F us ws → (t : T)
+        → Alike (as_of T.times t (pairs T.times k us vs))
+        (as_of T.times t (pairs T.times k ws vs)) }
 {}
 
 /// If the sum of what was emitted is the join of all that was received, then this still holds after
@@ -74,15 +74,15 @@ pub fn goes_on<T: Lattice>()
     ensures left { (k l r : ℕ) (received after : ℕ → List (Update T))
         → (us emitted : List (Update T)) → after 0 ≡ us ++ received 0 → after 1 ≡ received 1
         → (t : T)
-        → Alike (as_of T.below t emitted)
-        (operator_output k (Join l r) (λ p. as_of T.below t (received p)))
-        → Alike (as_of T.below t (pairs T.joined k us (received 1) ++ emitted))
-        (operator_output k (Join l r) (λ p. as_of T.below t (after p))) }
+        → Alike (as_of T.times t emitted)
+        (operator_output k (Join l r) (λ p. as_of T.times t (received p)))
+        → Alike (as_of T.times t (pairs T.times k us (received 1) ++ emitted))
+        (operator_output k (Join l r) (λ p. as_of T.times t (after p))) }
     ensures right { (k l r : ℕ) (received after : ℕ → List (Update T))
         → (vs emitted : List (Update T)) → after 0 ≡ received 0 → after 1 ≡ vs ++ received 1
         → (t : T)
-        → Alike (as_of T.below t emitted)
-        (operator_output k (Join l r) (λ p. as_of T.below t (received p)))
-        → Alike (as_of T.below t (pairs T.joined k (received 0) vs ++ emitted))
-        (operator_output k (Join l r) (λ p. as_of T.below t (after p))) }
+        → Alike (as_of T.times t emitted)
+        (operator_output k (Join l r) (λ p. as_of T.times t (received p)))
+        → Alike (as_of T.times t (pairs T.times k (received 0) vs ++ emitted))
+        (operator_output k (Join l r) (λ p. as_of T.times t (after p))) }
 {}

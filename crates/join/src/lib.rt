@@ -19,7 +19,7 @@
 //! What the pairs of two lists are is defined in `specs/Pairs.antt`.
 #![tactic(auto)]
 
-mod forming;
+mod formed;
 mod laws;
 mod state;
 

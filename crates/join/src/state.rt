@@ -18,7 +18,7 @@ ghost use Rattle.join.specs.Pairs.{pairs, pairs_fit, is_wide};
 ghost use Rattle.join.specs.Parts.{HasLargePart};
 ghost use Rattle.join.specs.Sides.{Acknowledged, WereInserted, all_rows_have, keys_among};
 
-use crate::forming::{Side, form_pairs};
+use crate::formed::{Side, form_pairs};
 use batch::BatchReader;
 use lattice::Lattice;
 use std::alloc::Global;
@@ -53,8 +53,8 @@ impl<T: Lattice, L, R> Model for JoinState<T, L, R> {
     } };
 
     ghost invariant = { λ s. (1 ≤ s.key) × (s.key ≤ 8)
-        × IsFrontier T.below T.cmp s.left.items
-        × IsFrontier T.below T.cmp s.right.items };
+        × IsFrontier T.times T.cmp s.left.items
+        × IsFrontier T.times T.cmp s.right.items };
 }
 
 impl<T: Lattice, L: Trace<Time = T>, R: Trace<Time = T>> JoinState<T, L, R> {
@@ -64,8 +64,8 @@ impl<T: Lattice, L: Trace<Time = T>, R: Trace<Time = T>> JoinState<T, L, R> {
     pub fn new(key: usize, left: Vec<T>, right: Vec<T>) -> JoinState<T, L, R>
         requires some { 1 ≤ key }
         requires few { key ≤ 8 }
-        requires left { IsFrontier T.below T.cmp left.items }
-        requires right { IsFrontier T.below T.cmp right.items }
+        requires left { IsFrontier T.times T.cmp left.items }
+        requires right { IsFrontier T.times T.cmp right.items }
         ensures { result ≡ record {
           key = key;
           left = left.items;
@@ -95,7 +95,7 @@ impl<T: Lattice, L: Trace<Time = T>, R: Trace<Time = T>> JoinState<T, L, R> {
     /// has to keep it. Takes no memory.
     pub fn left(&self) -> &[T]
         ensures value { result.now ≡ self.now.left }
-        ensures frontier { IsFrontier T.below T.cmp self.now.left }
+        ensures frontier { IsFrontier T.times T.cmp self.now.left }
     {
         self.left.as_slice()
     }
@@ -104,7 +104,7 @@ impl<T: Lattice, L: Trace<Time = T>, R: Trace<Time = T>> JoinState<T, L, R> {
     /// trace has to keep it. Takes no memory.
     pub fn right(&self) -> &[T]
         ensures value { result.now ≡ self.now.right }
-        ensures frontier { IsFrontier T.below T.cmp self.now.right }
+        ensures frontier { IsFrontier T.times T.cmp self.now.right }
     {
         self.right.as_slice()
     }
@@ -130,9 +130,9 @@ impl<T: Lattice, L: Trace<Time = T>, R: Trace<Time = T>> JoinState<T, L, R> {
     /// each right row of its key; rows of other keys do not matter. If the call is refused, then
     /// nothing has changed.
     ///
-    /// - [`Refusal::Overflow`] only if the product of both diffs of one pair is no 64-bit number, or
-    ///   the total of one row at one time over some of the pairs is none. The pairs are those with
-    ///   what is stored up to the right boundary: if no keys meet, there are none. So it never
+    /// - [`Refusal::Overflow`] only if the product of both diffs of one pair is no 64-bit number,
+    ///   or the total of one row at one time over some of the pairs is none. The pairs are those
+    ///   with what is stored up to the right boundary: if no keys meet, there are none. So it never
     ///   comes if both sizes multiplied are below 2^63. It always comes if the total of some row at
     ///   some time over all pairs is no 64-bit number.
     /// - [`Refusal::OutOfMemory`] only if memory was refused, for the boundary or for pairs.
@@ -155,7 +155,7 @@ impl<T: Lattice, L: Trace<Time = T>, R: Trace<Time = T>> JoinState<T, L, R> {
     ) -> Result<Vec<Update<T>>, Refusal>
         requires own { (L.Batch.described batch.now).lower ≡ self.old.left }
         requires readable { Contains (R.ends right.now) self.old.right }
-        requires later { IsTrue (all_times_beyond T.below (R.held right.now)
+        requires later { IsTrue (all_times_beyond T.times (R.held right.now)
             (L.Batch.content batch.now)) }
         requires wide { IsTrue (list_all (λ u. is_wide self.old.key u.row)
             (L.Batch.content batch.now)) }
@@ -165,25 +165,25 @@ impl<T: Lattice, L: Trace<Time = T>, R: Trace<Time = T>> JoinState<T, L, R> {
         ensures sums { (got : List (Update T))
             → WereInserted (R.stands right.now) (R.start right.now) self.old.right got
             → IfOk result (λ out. (t : T)
-            → Alike (as_of T.below t out.items)
-            (as_of T.below t
-            (pairs T.joined self.old.key (L.Batch.content batch.now) got))) }
+            → Alike (as_of T.times t out.items)
+            (as_of T.times t
+            (pairs T.times self.old.key (L.Batch.content batch.now) got))) }
         ensures totals { (got : List (Update T))
             → WereInserted (R.stands right.now) (R.start right.now) self.old.right got
             → IfOk result (λ out. (p : List ℤ → T → Bool)
             → total_where p out.items
-            ≡ total_where p (pairs T.joined self.old.key (L.Batch.content batch.now) got)) }
+            ≡ total_where p (pairs T.times self.old.key (L.Batch.content batch.now) got)) }
         ensures load { (got : List (Update T))
             → WereInserted (R.stands right.now) (R.start right.now) self.old.right got
             → IfOk result (λ out. size out.items
             ≤ size (L.Batch.content batch.now) * size got) }
         ensures exact { (got : List (Update T))
             → WereInserted (R.stands right.now) (R.start right.now) self.old.right got
-            → OnOk result (HasLargeTotal T.below
-            (pairs T.joined self.old.key (L.Batch.content batch.now) got) → ⊥) }
+            → OnOk result (HasLargeTotal T.times
+            (pairs T.times self.old.key (L.Batch.content batch.now) got) → ⊥) }
         ensures beyond { IfOk result (λ out. (G : List T)
-            → IsTrue (all_times_beyond T.below G (L.Batch.content batch.now))
-            → IsTrue (all_times_beyond T.below G out.items)) }
+            → IsTrue (all_times_beyond T.times G (L.Batch.content batch.now))
+            → IsTrue (all_times_beyond T.times G out.items)) }
         ensures width { IfOk result (λ out. (w v : ℕ)
             → IsTrue (all_rows_have w (L.Batch.content batch.now))
             → IsTrue (all_rows_have v (R.content right.now))
@@ -195,11 +195,11 @@ impl<T: Lattice, L: Trace<Time = T>, R: Trace<Time = T>> JoinState<T, L, R> {
           looked = self.new.looked;
         }) }
         ensures looked { OnOk result (self.new.looked ≡ min (self.old.looked
-            + length (pairs T.joined self.old.key (L.Batch.content batch.now)
+            + length (pairs T.times self.old.key (L.Batch.content batch.now)
             (R.stored_to right.now self.old.right))) (2 ^ 64 - 1)) }
         ensures same { OnErr result (self.new ≡ self.old) }
-        ensures refused { IfErr result (IsMemoryOrOverflow (HasLargePart T.below
-            (pairs T.joined self.old.key (L.Batch.content batch.now)
+        ensures refused { IfErr result (IsMemoryOrOverflow (HasLargePart T.times
+            (pairs T.times self.old.key (L.Batch.content batch.now)
             (R.stored_to right.now self.old.right)))) }
         ensures large { IfErr result (λ refused. refused ≡ Refusal.Overflow
             → (got : List (Update T))
@@ -226,7 +226,7 @@ impl<T: Lattice, L: Trace<Time = T>, R: Trace<Time = T>> JoinState<T, L, R> {
     ) -> Result<Vec<Update<T>>, Refusal>
         requires own { (R.Batch.described batch.now).lower ≡ self.old.right }
         requires readable { Contains (L.ends left.now) self.old.left }
-        requires later { IsTrue (all_times_beyond T.below (L.held left.now)
+        requires later { IsTrue (all_times_beyond T.times (L.held left.now)
             (R.Batch.content batch.now)) }
         requires wide { IsTrue (list_all (λ u. is_wide self.old.key u.row)
             (R.Batch.content batch.now)) }
@@ -236,25 +236,25 @@ impl<T: Lattice, L: Trace<Time = T>, R: Trace<Time = T>> JoinState<T, L, R> {
         ensures sums { (got : List (Update T))
             → WereInserted (L.stands left.now) (L.start left.now) self.old.left got
             → IfOk result (λ out. (t : T)
-            → Alike (as_of T.below t out.items)
-            (as_of T.below t
-            (pairs T.joined self.old.key got (R.Batch.content batch.now)))) }
+            → Alike (as_of T.times t out.items)
+            (as_of T.times t
+            (pairs T.times self.old.key got (R.Batch.content batch.now)))) }
         ensures totals { (got : List (Update T))
             → WereInserted (L.stands left.now) (L.start left.now) self.old.left got
             → IfOk result (λ out. (p : List ℤ → T → Bool)
             → total_where p out.items
-            ≡ total_where p (pairs T.joined self.old.key got (R.Batch.content batch.now))) }
+            ≡ total_where p (pairs T.times self.old.key got (R.Batch.content batch.now))) }
         ensures load { (got : List (Update T))
             → WereInserted (L.stands left.now) (L.start left.now) self.old.left got
             → IfOk result (λ out. size out.items
             ≤ size got * size (R.Batch.content batch.now)) }
         ensures exact { (got : List (Update T))
             → WereInserted (L.stands left.now) (L.start left.now) self.old.left got
-            → OnOk result (HasLargeTotal T.below
-            (pairs T.joined self.old.key got (R.Batch.content batch.now)) → ⊥) }
+            → OnOk result (HasLargeTotal T.times
+            (pairs T.times self.old.key got (R.Batch.content batch.now)) → ⊥) }
         ensures beyond { IfOk result (λ out. (G : List T)
-            → IsTrue (all_times_beyond T.below G (R.Batch.content batch.now))
-            → IsTrue (all_times_beyond T.below G out.items)) }
+            → IsTrue (all_times_beyond T.times G (R.Batch.content batch.now))
+            → IsTrue (all_times_beyond T.times G out.items)) }
         ensures width { IfOk result (λ out. (w v : ℕ)
             → IsTrue (all_rows_have w (L.content left.now))
             → IsTrue (all_rows_have v (R.Batch.content batch.now))
@@ -266,11 +266,11 @@ impl<T: Lattice, L: Trace<Time = T>, R: Trace<Time = T>> JoinState<T, L, R> {
           looked = self.new.looked;
         }) }
         ensures looked { OnOk result (self.new.looked ≡ min (self.old.looked
-            + length (pairs T.joined self.old.key (L.stored_to left.now self.old.left)
+            + length (pairs T.times self.old.key (L.stored_to left.now self.old.left)
             (R.Batch.content batch.now))) (2 ^ 64 - 1)) }
         ensures same { OnErr result (self.new ≡ self.old) }
-        ensures refused { IfErr result (IsMemoryOrOverflow (HasLargePart T.below
-            (pairs T.joined self.old.key (L.stored_to left.now self.old.left)
+        ensures refused { IfErr result (IsMemoryOrOverflow (HasLargePart T.times
+            (pairs T.times self.old.key (L.stored_to left.now self.old.left)
             (R.Batch.content batch.now)))) }
         ensures large { IfErr result (λ refused. refused ≡ Refusal.Overflow
             → (got : List (Update T))

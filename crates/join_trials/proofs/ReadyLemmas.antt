@@ -5,6 +5,7 @@ use Rattle.std.specs.Prelude.{nat_le}
 use Rattle.std.specs.List.{filter, list_all}
 use Rattle.std.proofs.lemmas.Bool.{and_parts, and_from, leb-true, le-leb}
 use Rattle.std.proofs.lemmas.List.Folds.{list_all-append}
+use Rattle.lattice.specs.Times.{Times}
 use Rattle.lattice.specs.Frontiers.{is_beyond}
 use Rattle.lattice.proofs.FrontierLemmas.{all_more}
 use Rattle.antichain.proofs.Lists.{all_filter}
@@ -25,15 +26,15 @@ module _ {B T : Type 0} (content : B → List (Update T)) (p : Update T → Bool
       ∙ list_all-append p (content c) (all_content content (take (i + 1) bs))
       ∙ and_from _ _ parts.0 (taken_batch bs i b e t parts.1)
 
-module _ {T : Type 0} (below : T → T → Bool) (since : List T) (k : ℕ) where
+module _ {T : Type 0} (times : Times T) (since : List T) (k : ℕ) where
   abbrev ready : Update T → Bool
-  ready u = is_beyond below since u.time && (is_wide k u.row && nat_le (length u.row) 4)
+  ready u = is_beyond times since u.time && (is_wide k u.row && nat_le (length u.row) 4)
 
   abbrev short : Update T → Bool
   short u = nat_le (length u.row) 4
 
-  pub ready_later : (us : List (Update T)) → IsTrue (list_all ready us) → IsTrue (all_times_beyond below since us)
-  ready_later us a = all_more ready (λ u. is_beyond below since u.time) (λ u h. (and_parts _ _ h).0) us a
+  pub ready_later : (us : List (Update T)) → IsTrue (list_all ready us) → IsTrue (all_times_beyond times since us)
+  ready_later us a = all_more ready (λ u. is_beyond times since u.time) (λ u h. (and_parts _ _ h).0) us a
 
   pub ready_wide : (us : List (Update T)) → IsTrue (list_all ready us) → IsTrue (list_all (λ u. is_wide k u.row) us)
   ready_wide us a = all_more ready (λ u. is_wide k u.row) (λ u h. (and_parts _ _ (and_parts _ _ h).1).0) us a

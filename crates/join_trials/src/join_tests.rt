@@ -30,7 +30,7 @@ use update::{Refusal, Update, consolidate};
 fn is_ready<B: BatchReader>(since: &[B::Time], k: usize, batch: &B, i: usize) -> bool
     requires { i < length (B.content batch.now) }
     ensures { IsSomeAnd (slice_get (B.content batch.now) i)
-        (λ u. result ≡ (is_beyond B.Time.below since.now u.time
+        (λ u. result ≡ (is_beyond B.Time.times since.now u.time
         && (is_wide k u.row && nat_le (length u.row) 4))) }
 {
     let width = batch.row(i).width();
@@ -39,7 +39,7 @@ fn is_ready<B: BatchReader>(since: &[B::Time], k: usize, batch: &B, i: usize) ->
 
 // Whether each update of a batch can be taken.
 fn are_ready<B: BatchReader>(since: &[B::Time], k: usize, batch: &B) -> bool
-    ensures { OnTrue result (IsTrue (list_all (λ u. is_beyond B.Time.below since.now u.time
+    ensures { OnTrue result (IsTrue (list_all (λ u. is_beyond B.Time.times since.now u.time
         && (is_wide k u.row && nat_le (length u.row) 4)) (B.content batch.now))) }
 {
     for i in 0..batch.len() {

@@ -1,5 +1,5 @@
 -- Lemmas about members of lists, and about the joins of times.
-pub mod AddingLemmas
+pub mod AdditionLemmas
 pub mod AlikeLemmas
 pub mod FreshLemmas
 pub mod JoinLemmas

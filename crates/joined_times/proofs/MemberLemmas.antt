@@ -2,7 +2,7 @@
 use Rattle.std.proofs.Common.{◌≡◌, ◌↔◌, ℕ, zero, suc, ◌-◌, ◌<◌, List, [], ◌∷◌, ◌++◌, map, length, get_or, ◌⊎◌, inl, inr, ⊎_elim, refl, sym, ap, subst, arith}
 use Rattle.std.specs.List.{AllByRecursion, Contains}
 use Rattle.joined_times.specs.Joined.{Member}
-use Rattle.joined_times.specs.Adding.{SameMembers}
+use Rattle.joined_times.specs.Additions.{SameMembers}
 
 -- ---- facts that hold together
 

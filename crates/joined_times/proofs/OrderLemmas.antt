@@ -11,7 +11,7 @@ use Rattle.std.proofs.lemmas.Bool.{true≢false}
 use Rattle.std.proofs.lemmas.List.{append-nil, drop_more, take_rest}
 use Rattle.std.proofs.lemmas.Map.Keys.{sorted_head, sorted_tail}
 use Rattle.joined_times.specs.Joined.{Member}
-use Rattle.joined_times.specs.Adding.{IsMerging}
+use Rattle.joined_times.specs.Additions.{IsMerging}
 use Rattle.joined_times.proofs.MemberLemmas.{in_left, in_right, in_either, pushed_members, itself, through, in_each, exchanged}
 
 -- times that compare as equal are equal

@@ -2,6 +2,7 @@
 -- (McSherry et al., Differential Dataflow, CIDR 2013).
 use Rattle.std.specs.Prelude.{◌≡◌, ◌↔◌, ℕ, Bool, IsTrue, List, [], ◌∷◌, ℤ, map, take, ◌⊎◌}
 use Rattle.std.specs.List.{filter}
+use Rattle.lattice.specs.Times.{Times}
 use Rattle.lattice.specs.Frontiers.{is_beyond}
 use Rattle.update.specs.Bags.{same_row}
 use Rattle.update.specs.Joins.{joins_of}
@@ -26,23 +27,23 @@ module _ {T : Type 0} where
   abbrev pub times_of : ℕ → List ℤ → List (Update T) → List T
   times_of k key us = map (λ u. u.time) (filter (of_key k key) us)
 
-module _ {T : Type 0} (joined : T → T → T) where
+module _ {T : Type 0} (times : Times T) where
   -- t is a joined time of the key: the join of a set of times of its updates
   abbrev pub IsJoined : ℕ → List (Update T) → List ℤ → T → Type 0
-  IsJoined k us key t = Member t (joins_of joined (times_of k key us))
+  IsJoined k us key t = Member t (joins_of times (times_of k key us))
 
   -- t is the join of a set of new and old times that holds a new one
   abbrev pub IsFresh : List T → List T → T → Type 0
   IsFresh new old t =
-      Member t (joins_of joined new)
-      ⊎ ((a : T) × (b : T) × Member a (joins_of joined new) × Member b (joins_of joined old) × (joined a b ≡ t))
+      Member t (joins_of times new)
+      ⊎ ((a : T) × (b : T) × Member a (joins_of times new) × Member b (joins_of times old) × (times.joined a b ≡ t))
 
   -- t is the join of n with one of these times
   abbrev pub IsJoinWith : T → List T → T → Type 0
-  IsJoinWith n ts t = (s : T) × Member s ts × (joined n s ≡ t)
+  IsJoinWith n ts t = (s : T) × Member s ts × (times.joined n s ≡ t)
 
-module _ {T : Type 0} (below : T → T → Bool) (joined : T → T → T) where
+module _ {T : Type 0} (times : Times T) where
   -- joined with any time beyond the since, both lists make the same times
   abbrev pub JoinAlike : List T → List T → List T → Type 0
   JoinAlike since xs ys =
-      (n t : T) → IsTrue (is_beyond below since n) → IsJoinWith joined n xs t ↔ IsJoinWith joined n ys t
+      (n t : T) → IsTrue (is_beyond times since n) → IsJoinWith times n xs t ↔ IsJoinWith times n ys t

@@ -2,4 +2,4 @@
 pub use Rattle.lattice.specs.Order
 pub use Rattle.lattice.specs.Frontiers
 pub mod Joined
-pub mod Adding
+pub mod Additions

@@ -15,11 +15,12 @@
 //! near times.
 //!
 //! Each call makes new lists, so a call that is refused has changed nothing.
-ghost use Rattle.std.specs.Prelude.{◌≡◌, ◌↔◌, ◌⊎◌, ◌≤◌, ◌<◌, ◌+◌, ◌++◌, List, [], ◌∷◌, drop, length, map, IsTrue, IfOk, IfErr, OnOk};
+ghost use Rattle.std.specs.Prelude.{◌≡◌, ◌↔◌, ◌⊎◌, ◌≤◌, ◌<◌, ◌+◌, ◌++◌, List, [], ◌∷◌, drop, length, map, IsTrue, IfOk, OnOk};
 ghost use Rattle.std.specs.List.Sorted.{IsStrictlySortedBy};
+ghost use Rattle.update.specs.Refusals.{OnlyMemory};
 ghost use Rattle.update.specs.declared.refusal.Refusal.{Refusal};
 ghost use Rattle.joined_times.specs.Joined.{Member};
-ghost use Rattle.joined_times.specs.Adding.{SameMembers, joins_with, IsLast, Appends, AreBetween, IsFreshBy, IsMerging};
+ghost use Rattle.joined_times.specs.Additions.{SameMembers, joins_with, IsLast, Appends, AreBetween, IsFreshBy, IsMerging};
 
 use lattice::Lattice;
 use std::alloc::Global;
@@ -70,7 +71,7 @@ fn keep_once<T: Lattice>(times: &mut Vec<T>)
 fn push_unless_last<T: Lattice>(times: &mut Vec<T>, t: T) -> Result<(), Refusal>
     ensures appended { OnOk result ((times.new.items ≡ times.old.items ++ t ∷ [])
         ⊎ ((times.new.items ≡ times.old.items) × IsLast t times.old.items)) }
-    ensures only { IfErr result (λ refused. refused ≡ Refusal.OutOfMemory) }
+    ensures only { OnlyMemory result }
 {
     if let Some(last) = times.last()
         && *last == t
@@ -84,8 +85,8 @@ fn push_unless_last<T: Lattice>(times: &mut Vec<T>, t: T) -> Result<(), Refusal>
 // Appends the time and its join with each near time.
 fn push_joins<T: Lattice>(fresh: &mut Vec<T>, t: T, near: &[T]) -> Result<(), Refusal>
     ensures appended { OnOk result (Appends fresh.old.items fresh.new.items
-        (λ s. Member s (joins_with T.joined t near.now))) }
-    ensures only { IfErr result (λ refused. refused ≡ Refusal.OutOfMemory) }
+        (λ s. Member s (joins_with T.times t near.now))) }
+    ensures only { OnlyMemory result }
 {
     fresh.push(t)?;
     for s in near {
@@ -96,7 +97,7 @@ fn push_joins<T: Lattice>(fresh: &mut Vec<T>, t: T, near: &[T]) -> Result<(), Re
 
 // The meet and the join of a list of times.
 fn bounds_of<T: Lattice>(first: T, rest: &[T]) -> Bounds<T>
-    ensures { AreBetween T.below result.meet result.join (first ∷ rest.now) }
+    ensures { AreBetween T.times result.meet result.join (first ∷ rest.now) }
 {
     let mut bounds = Bounds {
         meet: first,
@@ -122,8 +123,8 @@ fn push_to_part<T: Lattice>(
         → (Member s within.new.items ⊎ Member s beyond.new.items)
         ↔ ((Member s within.old.items ⊎ Member s beyond.old.items) ⊎ (s ≡ t))) }
     ensures beyond { OnOk result ((s : T) → Member s beyond.new.items
-        → Member s beyond.old.items ⊎ IsTrue (T.below join s)) }
-    ensures only { IfErr result (λ refused. refused ≡ Refusal.OutOfMemory) }
+        → Member s beyond.old.items ⊎ IsTrue (T.times.below join s)) }
+    ensures only { OnlyMemory result }
 {
     if join.less_equal(&t) {
         push_unless_last(beyond, t)?;
@@ -145,10 +146,10 @@ fn push_parts<T: Lattice>(
     ensures members { OnOk result ((s : T)
         → (Member s within.new.items ⊎ Member s beyond.new.items)
         ↔ ((Member s within.old.items ⊎ Member s beyond.old.items)
-        ⊎ Member s (map (λ r. T.joined r bounds.meet) near.now))) }
+        ⊎ Member s (map (λ r. T.times.joined r bounds.meet) near.now))) }
     ensures beyond { OnOk result ((s : T) → Member s beyond.new.items
-        → Member s beyond.old.items ⊎ IsTrue (T.below bounds.join s)) }
-    ensures only { IfErr result (λ refused. refused ≡ Refusal.OutOfMemory) }
+        → Member s beyond.old.items ⊎ IsTrue (T.times.below bounds.join s)) }
+    ensures only { OnlyMemory result }
 {
     let Bounds { meet, join } = bounds;
     for s in near {
@@ -162,10 +163,10 @@ fn push_parts<T: Lattice>(
 fn parts_of<T: Lattice>(alloc: Global, near: &[T], bounds: Bounds<T>) -> Result<Parted<T>, Refusal>
     ensures members { IfOk result (λ parted. (s : T)
         → (Member s parted.within.items ⊎ Member s parted.beyond.items)
-        ↔ Member s (map (λ r. T.joined r bounds.meet) near.now)) }
+        ↔ Member s (map (λ r. T.times.joined r bounds.meet) near.now)) }
     ensures beyond { IfOk result (λ parted. (s : T) → Member s parted.beyond.items
-        → IsTrue (T.below bounds.join s)) }
-    ensures only { IfErr result (λ refused. refused ≡ Refusal.OutOfMemory) }
+        → IsTrue (T.times.below bounds.join s)) }
+    ensures only { OnlyMemory result }
 {
     let mut within = Vec::with_capacity(alloc, near.len())?;
     let mut beyond = Vec::new(alloc);
@@ -182,8 +183,8 @@ fn push_fresh<T: Lattice>(
     new: &[T],
 ) -> Result<(), Refusal>
     ensures appended { OnOk result
-        (Appends fresh.old.items fresh.new.items (IsFreshBy T.joined new.now near.now)) }
-    ensures only { IfErr result (λ refused. refused ≡ Refusal.OutOfMemory) }
+        (Appends fresh.old.items fresh.new.items (IsFreshBy T.times new.now near.now)) }
+    ensures only { OnlyMemory result }
 {
     match new {
         [] => Ok(()),
@@ -220,7 +221,7 @@ fn take_next<T: Lattice>(
         IsMerging T.cmp xs.now ys.now out.old.items (drop at.left xs.now) (drop at.right ys.now)
         → IsMerging T.cmp xs.now ys.now out.new.items (drop next.left xs.now)
         (drop next.right ys.now)) }
-    ensures only { IfErr result (λ refused. refused ≡ Refusal.OutOfMemory) }
+    ensures only { OnlyMemory result }
 {
     let x = xs[at.left];
     let y = ys[at.right];
@@ -258,7 +259,7 @@ fn take_from_both<T: Lattice>(out: &mut Vec<T>, xs: &[T], ys: &[T]) -> Result<Me
     ensures ended { IfOk result (λ at. at.left < length xs.now → at.right < length ys.now → ⊥) }
     ensures merging { IfOk result (λ at.
         IsMerging T.cmp xs.now ys.now out.new.items (drop at.left xs.now) (drop at.right ys.now)) }
-    ensures only { IfErr result (λ refused. refused ≡ Refusal.OutOfMemory) }
+    ensures only { OnlyMemory result }
 {
     let mut at = MergeCursors { left: 0, right: 0 };
     while at.left < xs.len() && at.right < ys.len() {
@@ -275,7 +276,7 @@ fn merged<T: Lattice>(alloc: Global, xs: &[T], ys: &[T]) -> Result<Vec<T>, Refus
     ensures members { IfOk result
         (λ out. (t : T) → Member t out.items ↔ (Member t xs.now ⊎ Member t ys.now)) }
     ensures ascending { IfOk result (λ out. IsStrictlySortedBy T.cmp out.items) }
-    ensures only { IfErr result (λ refused. refused ≡ Refusal.OutOfMemory) }
+    ensures only { OnlyMemory result }
 {
     let mut out = Vec::with_capacity(alloc, xs.len().saturating_add(ys.len()))?;
     let at = take_from_both(&mut out, xs, ys)?;
@@ -305,12 +306,12 @@ pub fn with_times<T: Lattice>(
     requires times { IsStrictlySortedBy T.cmp times.now }
     requires due { IsStrictlySortedBy T.cmp due.now }
     ensures times { IfOk result (λ out. (t : T) → Member t out.times.items
-        ↔ (Member t times.now ⊎ IsFreshBy T.joined new.now times.now t)) }
+        ↔ (Member t times.now ⊎ IsFreshBy T.times new.now times.now t)) }
     ensures due { IfOk result (λ out. (t : T) → Member t out.due.items
-        ↔ (Member t due.now ⊎ IsFreshBy T.joined new.now times.now t)) }
+        ↔ (Member t due.now ⊎ IsFreshBy T.times new.now times.now t)) }
     ensures ordered_times { IfOk result (λ out. IsStrictlySortedBy T.cmp out.times.items) }
     ensures ordered_due { IfOk result (λ out. IsStrictlySortedBy T.cmp out.due.items) }
-    ensures only { IfErr result (λ refused. refused ≡ Refusal.OutOfMemory) }
+    ensures only { OnlyMemory result }
 {
     let mut distinct = Vec::from_slice(alloc, new)?;
     keep_once(&mut distinct);

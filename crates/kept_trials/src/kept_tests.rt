@@ -1,6 +1,6 @@
-//! The frontiers that a tally keeps: when a question finds the frontiers of a node anew, and when it
-//! answers what is kept. The clauses say that a mark decides it. What no clause says is when a node
-//! stays unmarked.
+//! The frontiers that a tally keeps: when a question finds the frontiers of a node anew, and when
+//! it answers what is kept. The clauses say that a mark decides it. What no clause says is when a
+//! node stays unmarked.
 //!
 //! Nodes 0 and 1 are inputs, 2 is a view of 0, and 3 a view of 1.
 ghost use Rattle.std.specs.Prelude.{◌≡◌, ◌∷◌, OnOk};

@@ -6,5 +6,5 @@ pub mod PackLemmas
 pub mod PastLemmas
 pub mod ReplayLemmas
 pub mod SettleLemmas
-pub mod StandingLemmas
+pub mod DutyLemmas
 pub mod SweepLemmas

@@ -1,5 +1,5 @@
--- Both lists of a pack are the parts of one list of updates: reading one of them, appending one, and
--- dropping the last ones.
+-- Both lists of a pack are the parts of one list of updates: reading one of them, appending one,
+-- and dropping the last ones.
 use Rattle.std.proofs.Common.{◌≡◌, ℕ, zero, suc, ◌+◌, ◌-◌, ◌<◌, ◌≤◌, List, [], ◌∷◌, ◌++◌, map, length, get_or, take, drop, slice_get, IsSomeAnd, Option, None, Some, ℤ, refl, sym, ap, ◌∙◌, subst, append_assoc, length-append, length-drop, length-take-le, get_or-drop, arith}
 use Rattle.std.specs.List.{All, slice_range}
 use Rattle.std.proofs.lemmas.Grind.{flat_map-append}

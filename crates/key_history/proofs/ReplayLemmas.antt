@@ -4,6 +4,7 @@ use Rattle.std.specs.Prelude.{IsTrue, IsSomeAnd, slice_get, ⊤, ℤ}
 use Rattle.std.proofs.lemmas.List.{append-nil, take_more}
 use Rattle.std.specs.List.{filter, list_all}
 use Rattle.std.proofs.lemmas.Bool.{true≢false, and_parts, and_from}
+use Rattle.lattice.specs.Times.{Times}
 use Rattle.lattice.specs.Order.{PartialOrderLaws, LatticeLaws, ExtendsLaws}
 use Rattle.update.specs.Bags.{Entry, Alike, count_of}
 use Rattle.update.specs.Updates.{as_of, entry, size}
@@ -25,57 +26,57 @@ use Rattle.std.specs.declared.cmp.Ordering.{Ordering}
 use Rattle.std.specs.declared.cmp.Ordering.TheVariants.{Less, Equal, Greater}
 use Rattle.update.specs.Updates.{by_time_then_row}
 
-module _ {T : Type 0} {below : T → T → Bool} {joined met : T → T → T} (o : PartialOrderLaws below) (l : LatticeLaws below joined met) (m : T) where
+module _ {T : Type 0} {times : Times T} (o : PartialOrderLaws times) (l : LatticeLaws times) (m : T) where
   -- a time at or after m does not tell a time from its join with m
-  same_test : (s t : T) → IsTrue (below m t) → below (joined s m) t ≡ below s t
-  same_test s t h = step (below s t) (below (joined s m) t) refl refl
+  same_test : (s t : T) → IsTrue (times.below m t) → times.below (times.joined s m) t ≡ times.below s t
+  same_test s t h = step (times.below s t) (times.below (times.joined s m) t) refl refl
     where
-      step : (a b : Bool) → below s t ≡ a → below (joined s m) t ≡ b → b ≡ a
+      step : (a b : Bool) → times.below s t ≡ a → times.below (times.joined s m) t ≡ b → b ≡ a
       step true b e f = sym f ∙ l.join_least s m t e h
       step false false e f = refl
-      step false true e f = absurd (true≢false (sym (o.transitive s (joined s m) t (l.join_left s m) f) ∙ e))
+      step false true e f = absurd (true≢false (sym (o.transitive s (times.joined s m) t (l.join_left s m) f) ∙ e))
 
-  pub moved_sum : (t : T) → IsTrue (below m t) → (us : List (Update T)) → as_of below t (moved_to joined m us) ≡ as_of below t us
+  pub moved_sum : (t : T) → IsTrue (times.below m t) → (us : List (Update T)) → as_of times t (moved_to times m us) ≡ as_of times t us
   moved_sum t h [] = refl
-  moved_sum t h (u ∷ us) = rw (same_test u.time t h) (step (below u.time t) (moved_sum t h us))
+  moved_sum t h (u ∷ us) = rw (same_test u.time t h) (step (times.below u.time t) (moved_sum t h us))
     where
-      step : (b : Bool) → as_of below t (moved_to joined m us) ≡ as_of below t us
-          → map entry (cond b (record { time = joined u.time m; row = u.row; diff = u.diff } ∷ filter (λ v. below v.time t) (moved_to joined m us)) (filter (λ v. below v.time t) (moved_to joined m us)))
-          ≡ map entry (cond b (u ∷ filter (λ v. below v.time t) us) (filter (λ v. below v.time t) us))
+      step : (b : Bool) → as_of times t (moved_to times m us) ≡ as_of times t us
+          → map entry (cond b (record { time = times.joined u.time m; row = u.row; diff = u.diff } ∷ filter (λ v. times.below v.time t) (moved_to times m us)) (filter (λ v. times.below v.time t) (moved_to times m us)))
+          ≡ map entry (cond b (u ∷ filter (λ v. times.below v.time t) us) (filter (λ v. times.below v.time t) us))
       step true ih = ap (λ z. entry u ∷ z) ih
       step false ih = ih
 
-moved_weight : {T : Type 0} (joined : T → T → T) (m : T) (us : List (Update T)) → weight (moved_to joined m us) ≡ weight us
-moved_weight joined m [] = refl
-moved_weight joined m (u ∷ us) = let h = moved_weight joined m us in omega (arith, h)
+moved_weight : {T : Type 0} (times : Times T) (m : T) (us : List (Update T)) → weight (moved_to times m us) ≡ weight us
+moved_weight times m [] = refl
+moved_weight times m (u ∷ us) = let h = moved_weight times m us in omega (arith, h)
 
-pub moved_small : {T : Type 0} (joined : T → T → T) (m : T) (us : List (Update T)) → size (moved_to joined m us) ≡ size us
-moved_small joined m us =
-    let a = moved_weight joined m us in
-    let b = weight_is (moved_to joined m us) in
+pub moved_small : {T : Type 0} (times : Times T) (m : T) (us : List (Update T)) → size (moved_to times m us) ≡ size us
+moved_small times m us =
+    let a = moved_weight times m us in
+    let b = weight_is (moved_to times m us) in
     let c = weight_is us in
     omega (arith, a, b, c)
 
-pub moved_rows : {T : Type 0} (joined : T → T → T) (m : T) (us : List (Update T)) (p : List ℤ → Bool) → IsTrue (list_all (λ u. p u.row) us) → IsTrue (list_all (λ u. p u.row) (moved_to joined m us))
-moved_rows joined m [] p a = refl
-moved_rows joined m (u ∷ us) p a =
+pub moved_rows : {T : Type 0} (times : Times T) (m : T) (us : List (Update T)) (p : List ℤ → Bool) → IsTrue (list_all (λ u. p u.row) us) → IsTrue (list_all (λ u. p u.row) (moved_to times m us))
+moved_rows times m [] p a = refl
+moved_rows times m (u ∷ us) p a =
     let h = and_parts (p u.row) (list_all (λ u. p u.row) us) a in
-    and_from (p u.row) (list_all (λ u. p u.row) (moved_to joined m us)) h.0 (moved_rows joined m us p h.1)
+    and_from (p u.row) (list_all (λ u. p u.row) (moved_to times m us)) h.0 (moved_rows times m us p h.1)
 
-module _ {T : Type 0} {below : T → T → Bool} {joined met : T → T → T} (o : PartialOrderLaws below) (l : LatticeLaws below joined met) (m : T) where
-  pub stands_itself : (us : List (Update T)) → StandsFrom below m us us
+module _ {T : Type 0} {times : Times T} (o : PartialOrderLaws times) (l : LatticeLaws times) (m : T) where
+  pub stands_itself : (us : List (Update T)) → StandsFrom times m us us
   stands_itself us = record { sums = λ t h row. refl; smaller = omega arith; among = λ p a. a }
 
-  pub stands_moved : (us moved out : List (Update T)) → moved ≡ moved_to joined m us
-      → ((t : T) → Alike (as_of below t out) (as_of below t moved)) → size out ≤ size moved
+  pub stands_moved : (us moved out : List (Update T)) → moved ≡ moved_to times m us
+      → ((t : T) → Alike (as_of times t out) (as_of times t moved)) → size out ≤ size moved
       → ((p : List ℤ → T → Bool) → IsTrue (list_all (λ u. p u.row u.time) moved) → IsTrue (list_all (λ u. p u.row u.time) out))
-      → StandsFrom below m us out
+      → StandsFrom times m us out
   stands_moved us moved out e sums smaller among = record {
-    sums = λ t h row. sums t row ∙ ap (λ z. count_of z row) (ap (as_of below t) e ∙ moved_sum o l m t h us);
+    sums = λ t h row. sums t row ∙ ap (λ z. count_of z row) (ap (as_of times t) e ∙ moved_sum o l m t h us);
     smaller =
-        let a : size moved ≡ size us = ap size e ∙ moved_small joined m us in
+        let a : size moved ≡ size us = ap size e ∙ moved_small times m us in
         omega (arith, a, smaller);
-    among = λ p a. among (λ r s. p r) (subst (λ z. IsTrue (list_all (λ u. p u.row) z)) (sym e) (moved_rows joined m us p a));
+    among = λ p a. among (λ r s. p r) (subst (λ z. IsTrue (list_all (λ u. p u.row) z)) (sym e) (moved_rows times m us p a));
   }
 
 pub append_rows : {T : Type 0} (p : List ℤ → Bool) (us vs : List (Update T)) → IsTrue (list_all (λ u. p u.row) (us ++ vs)) → IsTrue (list_all (λ u. p u.row) us) × IsTrue (list_all (λ u. p u.row) vs)
@@ -92,9 +93,9 @@ rows_append p (u ∷ us) vs a b =
     and_from (p u.row) (list_all (λ u. p u.row) (us ++ vs)) h.0 (rows_append p us vs h.1 b)
 
 -- the same behind both
-pub stands_in_front : {T : Type 0} (below : T → T → Bool) (m : T) (us vs ws : List (Update T)) → StandsFrom below m us vs → StandsFrom below m (us ++ ws) (vs ++ ws)
-stands_in_front below m us vs ws s = record {
-  sums = λ t h row. sum_at-append below t vs ws row ∙ (ap (λ z. z +ℤ sum_at below t ws row) (s.sums t h row) ∙ sym (sum_at-append below t us ws row));
+pub stands_in_front : {T : Type 0} (times : Times T) (m : T) (us vs ws : List (Update T)) → StandsFrom times m us vs → StandsFrom times m (us ++ ws) (vs ++ ws)
+stands_in_front times m us vs ws s = record {
+  sums = λ t h row. sum_at-append times t vs ws row ∙ (ap (λ z. z +ℤ sum_at times t ws row) (s.sums t h row) ∙ sym (sum_at-append times t us ws row));
   smaller =
       let a = weight-append us ws in
       let b = weight-append vs ws in
@@ -107,7 +108,7 @@ stands_in_front below m us vs ws s = record {
   among = λ p a. let q = append_rows p us ws a in rows_append p vs ws (s.among p q.0) q.1;
 }
 
-module _ {T : Type 0} {below : T → T → Bool} {cmp : T → T → Ordering} (o : PartialOrderLaws below) (e : ExtendsLaws below cmp) (total : IsTotalOrder cmp) (time : T) where
+module _ {T : Type 0} {times : Times T} {cmp : T → T → Ordering} (o : PartialOrderLaws times) (e : ExtendsLaws times cmp) (total : IsTotalOrder cmp) (time : T) where
   after_next : (x y : Update T) → is_lt (by_time_then_row cmp y x) ≡ false → cmp x.time time ≡ Greater → cmp y.time time ≡ Greater
   after_next x y n h = step (cmp y.time x.time) refl n
     where
@@ -120,10 +121,10 @@ module _ {T : Type 0} {below : T → T → Bool} {cmp : T → T → Ordering} (o
           let c : cmp time y.time ≡ Less = total.trans time x.time y.time b a in
           total.antisymm y.time time ∙ ap ordering_reverse c
 
-  not_there : (t : T) → below t time ≡ true → (u : Update T) → cmp u.time time ≡ Greater → below u.time t ≡ false
-  not_there t b u h = step (below u.time t) refl
+  not_there : (t : T) → times.below t time ≡ true → (u : Update T) → cmp u.time time ≡ Greater → times.below u.time t ≡ false
+  not_there t b u h = step (times.below u.time t) refl
     where
-      step : (c : Bool) → below u.time t ≡ c → below u.time t ≡ false
+      step : (c : Bool) → times.below u.time t ≡ c → times.below u.time t ≡ false
       step false q = q
       step true q = absurd (true≢false (sym (e.extends u.time time (o.transitive u.time t time q b)) ∙ ap is_le h))
 
@@ -144,7 +145,7 @@ module _ {T : Type 0} {below : T → T → Bool} {cmp : T → T → Ordering} (o
   steps_from (suc i) [] s = s
   steps_from (suc i) (u ∷ us) s = steps_from i us (λ k d l. s (suc k) d (omega (arith, l)))
 
-  nothing_there : (t : T) → below t time ≡ true → (us : List (Update T)) → Steps us → IsFirstLate us → as_of below t us ≡ []
+  nothing_there : (t : T) → times.below t time ≡ true → (us : List (Update T)) → Steps us → IsFirstLate us → as_of times t us ≡ []
   nothing_there t b [] s h = refl
   nothing_there t b (u ∷ []) s h = rw (not_there t b u h) refl
   nothing_there t b (u ∷ v ∷ us) s h =
@@ -156,27 +157,27 @@ module _ {T : Type 0} {below : T → T → Bool} {cmp : T → T → Ordering} (o
   first_late (u ∷ us) zero h = h (omega arith)
   first_late (u ∷ us) (suc i) h = first_late us i (λ l. h (omega (arith, l)))
 
-  as_of-append : (t : T) (us vs : List (Update T)) → as_of below t (us ++ vs) ≡ as_of below t us ++ as_of below t vs
+  as_of-append : (t : T) (us vs : List (Update T)) → as_of times t (us ++ vs) ≡ as_of times t us ++ as_of times t vs
   as_of-append t [] vs = refl
-  as_of-append t (u ∷ us) vs = step (below u.time t) (as_of-append t us vs)
+  as_of-append t (u ∷ us) vs = step (times.below u.time t) (as_of-append t us vs)
     where
-      step : (b : Bool) → as_of below t (us ++ vs) ≡ as_of below t us ++ as_of below t vs
-          → map entry (cond b (u ∷ filter (λ v. below v.time t) (us ++ vs)) (filter (λ v. below v.time t) (us ++ vs)))
-          ≡ map entry (cond b (u ∷ filter (λ v. below v.time t) us) (filter (λ v. below v.time t) us)) ++ as_of below t vs
+      step : (b : Bool) → as_of times t (us ++ vs) ≡ as_of times t us ++ as_of times t vs
+          → map entry (cond b (u ∷ filter (λ v. times.below v.time t) (us ++ vs)) (filter (λ v. times.below v.time t) (us ++ vs)))
+          ≡ map entry (cond b (u ∷ filter (λ v. times.below v.time t) us) (filter (λ v. times.below v.time t) us)) ++ as_of times t vs
       step true ih = ap (λ z. entry u ∷ z) ih
       step false ih = ih
 
   pub all_came_in : (near later : List (Update T)) (i : ℕ) → Ascends cmp later → (i < length later → IsSomeAnd (slice_get later i) (λ u. cmp u.time time ≡ Greater))
-      → (t : T) → below t time ≡ true → as_of below t near ≡ as_of below t (near ++ drop i later)
+      → (t : T) → times.below t time ≡ true → as_of times t near ≡ as_of times t (near ++ drop i later)
   all_came_in near later i s h t b =
       let none = nothing_there t b (drop i later) (steps_from i later (steps_of later s)) (first_late later i h) in
-      sym (as_of-append t near (drop i later) ∙ (ap (λ z. as_of below t near ++ z) none ∙ append-nil (as_of below t near)))
+      sym (as_of-append t near (drop i later) ∙ (ap (λ z. as_of times t near ++ z) none ∙ append-nil (as_of times t near)))
 
-module _ {T : Type 0} (below : T → T → Bool) where
-  pub fewer_times : (ts ss : List T) (us vs : List (Update T)) → ((t : T) → Member t ss → Member t ts) → StandsOn below ts us vs → StandsOn below ss us vs
+module _ {T : Type 0} (times : Times T) where
+  pub fewer_times : (ts ss : List T) (us vs : List (Update T)) → ((t : T) → Member t ss → Member t ts) → StandsOn times ts us vs → StandsOn times ss us vs
   fewer_times ts ss us vs h s = record { sums = λ t i row. s.sums t (h t i) row; smaller = s.smaller; among = s.among }
 
-  pub stands_then : (ts : List T) (us vs ws : List (Update T)) → StandsOn below ts us vs → StandsOn below ts vs ws → StandsOn below ts us ws
+  pub stands_then : (ts : List T) (us vs ws : List (Update T)) → StandsOn times ts us vs → StandsOn times ts vs ws → StandsOn times ts us ws
   stands_then ts us vs ws a b = record {
     sums = λ t i row. b.sums t i row ∙ a.sums t i row;
     smaller = let x = a.smaller in let y = b.smaller in omega (arith, x, y);
@@ -184,15 +185,15 @@ module _ {T : Type 0} (below : T → T → Bool) where
   }
 
   -- more in front of what comes in later, and behind what it stands for
-  pub stands_more : (ts : List T) (us near rest more : List (Update T)) → StandsOn below ts us (near ++ rest) → StandsOn below ts (us ++ more) ((near ++ more) ++ rest)
+  pub stands_more : (ts : List T) (us near rest more : List (Update T)) → StandsOn times ts us (near ++ rest) → StandsOn times ts (us ++ more) ((near ++ more) ++ rest)
   stands_more ts us near rest more s = record {
     sums = λ t i row.
-        let a = sum_at-append below t (near ++ more) rest row in
-        let b = sum_at-append below t near more row in
-        let c = sum_at-append below t us more row in
-        let d = sum_at-append below t near rest row in
+        let a = sum_at-append times t (near ++ more) rest row in
+        let b = sum_at-append times t near more row in
+        let c = sum_at-append times t us more row in
+        let d = sum_at-append times t near rest row in
         let e = s.sums t i row in
-        turned (sum_at below t ((near ++ more) ++ rest) row) (sum_at below t (near ++ more) row) (sum_at below t rest row) (sum_at below t near row) (sum_at below t more row) (sum_at below t (us ++ more) row) (sum_at below t us row) (sum_at below t (near ++ rest) row) a b c d e;
+        turned (sum_at times t ((near ++ more) ++ rest) row) (sum_at times t (near ++ more) row) (sum_at times t rest row) (sum_at times t near row) (sum_at times t more row) (sum_at times t (us ++ more) row) (sum_at times t us row) (sum_at times t (near ++ rest) row) a b c d e;
     smaller =
         let a = weight-append (near ++ more) rest in
         let b = weight-append near more in
@@ -213,21 +214,21 @@ module _ {T : Type 0} (below : T → T → Bool) where
       turned : (all front rest near more longer us short : ℤ) → all ≡ front +ℤ rest → front ≡ near +ℤ more → longer ≡ us +ℤ more → short ≡ near +ℤ rest → short ≡ us → all ≡ longer
       turned all front rest near more longer us short a b c d e = omega (arith, ints, a, b, c, d, e)
 
-module _ {T : Type 0} (below : T → T → Bool) where
-  pub ever_none : (us vs : List (Update T)) → us ≡ [] → vs ≡ [] → StandsEver below us vs
+module _ {T : Type 0} (times : Times T) where
+  pub ever_none : (us vs : List (Update T)) → us ≡ [] → vs ≡ [] → StandsEver times us vs
   ever_none us vs e f = rw (e, f) (record { sums = λ t row. refl; smaller = omega arith; among = λ p a. a })
 
   -- one more, in front of the later ones or behind them
-  pub ever_more : (us near later near2 later2 : List (Update T)) (u : Update T) → StandsEver below us (near ++ later)
+  pub ever_more : (us near later near2 later2 : List (Update T)) (u : Update T) → StandsEver times us (near ++ later)
       → (((near2 ≡ near ++ u ∷ []) × (later2 ≡ later)) ⊎ ((near2 ≡ near) × (later2 ≡ later ++ u ∷ [])))
-      → StandsEver below (us ++ u ∷ []) (near2 ++ later2)
+      → StandsEver times (us ++ u ∷ []) (near2 ++ later2)
   ever_more us near later near2 later2 u s (inl e) = rw (e.0, e.1) (record {
-    sums = λ t. (stands_more below (t ∷ []) us near later (u ∷ []) (on t)).sums t (inl refl);
+    sums = λ t. (stands_more times (t ∷ []) us near later (u ∷ []) (on t)).sums t (inl refl);
     smaller = smaller_by s.smaller;
     among = λ p a. let q = append_rows p us (u ∷ []) a in let r = append_rows p near later (s.among p q.0) in rows_append p (near ++ u ∷ []) later (rows_append p near (u ∷ []) r.0 q.1) r.1;
   })
     where
-      on : (t : T) → StandsOn below (t ∷ []) us (near ++ later)
+      on : (t : T) → StandsOn times (t ∷ []) us (near ++ later)
       on t = record { sums = λ v i. s.sums v; smaller = s.smaller; among = s.among }
 
       smaller_by : size (near ++ later) ≤ size us → size ((near ++ u ∷ []) ++ later) ≤ size (us ++ u ∷ [])
@@ -241,8 +242,8 @@ module _ {T : Type 0} (below : T → T → Bool) where
           let g = weight_is us in
           let h = weight_is (near ++ later) in
           omega (arith, a, b, c, d, e, f, g, h, i)
-  ever_more us near later near2 later2 u s (inr e) = rw (e.0, e.1) (subst (StandsEver below (us ++ u ∷ [])) (append_assoc near later (u ∷ [])) (record {
-    sums = λ t row. sum_at-append below t (near ++ later) (u ∷ []) row ∙ (ap (λ z. z +ℤ sum_at below t (u ∷ []) row) (s.sums t row) ∙ sym (sum_at-append below t us (u ∷ []) row));
+  ever_more us near later near2 later2 u s (inr e) = rw (e.0, e.1) (subst (StandsEver times (us ++ u ∷ [])) (append_assoc near later (u ∷ [])) (record {
+    sums = λ t row. sum_at-append times t (near ++ later) (u ∷ []) row ∙ (ap (λ z. z +ℤ sum_at times t (u ∷ []) row) (s.sums t row) ∙ sym (sum_at-append times t us (u ∷ []) row));
     smaller = smaller_by s.smaller;
     among = λ p a. let q = append_rows p us (u ∷ []) a in rows_append p (near ++ later) (u ∷ []) (s.among p q.0) q.1;
   }))
@@ -257,9 +258,9 @@ module _ {T : Type 0} (below : T → T → Bool) where
           let h = weight_is (near ++ later) in
           omega (arith, b, c, e, f, g, h, i)
 
-  pub ever_sorted : (us near later sorted : List (Update T)) → StandsEver below us (near ++ later) → IsPermutation later sorted → StandsEver below us (near ++ sorted)
+  pub ever_sorted : (us near later sorted : List (Update T)) → StandsEver times us (near ++ later) → IsPermutation later sorted → StandsEver times us (near ++ sorted)
   ever_sorted us near later sorted s q = record {
-    sums = λ t row. sum_at-append below t near sorted row ∙ (ap (λ z. sum_at below t near row +ℤ z) (moving.moved_sum later sorted q below t row) ∙ (sym (sum_at-append below t near later row) ∙ s.sums t row));
+    sums = λ t row. sum_at-append times t near sorted row ∙ (ap (λ z. sum_at times t near row +ℤ z) (moving.moved_sum later sorted q times t row) ∙ (sym (sum_at-append times t near later row) ∙ s.sums t row));
     smaller =
         let a = weight-append near later in
         let b = weight-append near sorted in
@@ -276,36 +277,36 @@ module _ {T : Type 0} (below : T → T → Bool) where
 -- ---- a base beside a list
 
 -- a base, and two lists behind one another
-pub base_sum : {T : Type 0} (below : T → T → Bool) (t : T) (base : List Entry) (near rest : List (Update T)) (row : List ℤ)
-    → count_of (base ++ as_of below t (near ++ rest)) row ≡ count_of (base ++ as_of below t near) row +ℤ sum_at below t rest row
-base_sum below t base near rest row =
-    let a = count_of-append base (as_of below t (near ++ rest)) row in
-    let b = count_of-append base (as_of below t near) row in
-    let c = sum_at-append below t near rest row in
-    add (count_of (base ++ as_of below t (near ++ rest)) row) (count_of base row) (sum_at below t (near ++ rest) row) (count_of (base ++ as_of below t near) row) (sum_at below t near row) (sum_at below t rest row) a b c
+pub base_sum : {T : Type 0} (times : Times T) (t : T) (base : List Entry) (near rest : List (Update T)) (row : List ℤ)
+    → count_of (base ++ as_of times t (near ++ rest)) row ≡ count_of (base ++ as_of times t near) row +ℤ sum_at times t rest row
+base_sum times t base near rest row =
+    let a = count_of-append base (as_of times t (near ++ rest)) row in
+    let b = count_of-append base (as_of times t near) row in
+    let c = sum_at-append times t near rest row in
+    add (count_of (base ++ as_of times t (near ++ rest)) row) (count_of base row) (sum_at times t (near ++ rest) row) (count_of (base ++ as_of times t near) row) (sum_at times t near row) (sum_at times t rest row) a b c
   where
     add : (whole base both front near rest : ℤ) → whole ≡ base +ℤ both → front ≡ base +ℤ near → both ≡ near +ℤ rest → whole ≡ front +ℤ rest
     add whole base both front near rest a b c = omega (arith, ints, a, b, c)
 
 -- a base, and two lists that sum to the same
-pub base_same : {T : Type 0} (below : T → T → Bool) (t : T) (base : List Entry) (us vs : List (Update T)) (row : List ℤ)
-    → sum_at below t us row ≡ sum_at below t vs row → count_of (base ++ as_of below t us) row ≡ count_of (base ++ as_of below t vs) row
-base_same below t base us vs row e =
-    count_of-append base (as_of below t us) row ∙ (ap (λ z. count_of base row +ℤ z) e ∙ sym (count_of-append base (as_of below t vs) row))
+pub base_same : {T : Type 0} (times : Times T) (t : T) (base : List Entry) (us vs : List (Update T)) (row : List ℤ)
+    → sum_at times t us row ≡ sum_at times t vs row → count_of (base ++ as_of times t us) row ≡ count_of (base ++ as_of times t vs) row
+base_same times t base us vs row e =
+    count_of-append base (as_of times t us) row ∙ (ap (λ z. count_of base row +ℤ z) e ∙ sym (count_of-append base (as_of times t vs) row))
 
-module _ {T : Type 0} (below : T → T → Bool) (m : T) where
+module _ {T : Type 0} (times : Times T) (m : T) where
   -- nothing has settled
-  pub settles_none : (base : List Entry) (us : List (Update T)) → Settles below m base us base us
+  pub settles_none : (base : List Entry) (us : List (Update T)) → Settles times m base us base us
   settles_none base us = record { sums = λ t h row. refl; among = λ p a b. (a, b) }
 
   -- more settles
   pub settles_more : (base base2 base3 : List Entry) (us us2 us3 : List (Update T)) (u : Update T)
-      → Settles below m base us base2 us2 → Settles below m base2 (us2 ++ u ∷ []) base3 us3 → Settles below m base (us ++ u ∷ []) base3 us3
+      → Settles times m base us base2 us2 → Settles times m base2 (us2 ++ u ∷ []) base3 us3 → Settles times m base (us ++ u ∷ []) base3 us3
   settles_more base base2 base3 us us2 us3 u a b = record {
     sums = λ t h row.
         b.sums t h row
-        ∙ (base_sum below t base2 us2 (u ∷ []) row
-        ∙ (ap (λ z. z +ℤ sum_at below t (u ∷ []) row) (a.sums t h row) ∙ sym (base_sum below t base us (u ∷ []) row)));
+        ∙ (base_sum times t base2 us2 (u ∷ []) row
+        ∙ (ap (λ z. z +ℤ sum_at times t (u ∷ []) row) (a.sums t h row) ∙ sym (base_sum times t base us (u ∷ []) row)));
     among = λ p x y.
         let q = append_rows p us (u ∷ []) y in
         let r = a.among p x q.0 in
@@ -313,19 +314,19 @@ module _ {T : Type 0} (below : T → T → Bool) (m : T) where
   }
 
   -- one update settles: it is at or before m, and its count is added to the base
-  pub settles_one : PartialOrderLaws below → (base base2 : List Entry) (us : List (Update T)) (u : Update T) → below u.time m ≡ true
+  pub settles_one : PartialOrderLaws times → (base base2 : List Entry) (us : List (Update T)) (u : Update T) → times.below u.time m ≡ true
       → Alike base2 (base ++ entry u ∷ []) → ((p : List ℤ → Bool) → IsTrue (list_all (λ e. p e.row) base) → IsTrue (list_all (λ e. p e.row) base2))
-      → Settles below m base (us ++ u ∷ []) base2 us
+      → Settles times m base (us ++ u ∷ []) base2 us
   settles_one o base base2 us u early added among = record {
     sums = λ t h row.
-        let here : as_of below t (u ∷ []) ≡ entry u ∷ [] = rw (o.transitive u.time m t early h) refl in
-        let a = count_of-append base2 (as_of below t us) row in
+        let here : as_of times t (u ∷ []) ≡ entry u ∷ [] = rw (o.transitive u.time m t early h) refl in
+        let a = count_of-append base2 (as_of times t us) row in
         let b = added row in
         let c = count_of-append base (entry u ∷ []) row in
-        let d = base_sum below t base us (u ∷ []) row in
-        let e = count_of-append base (as_of below t us) row in
-        let f : sum_at below t (u ∷ []) row ≡ count_of (entry u ∷ []) row = ap (λ z. count_of z row) here in
-        add (count_of (base2 ++ as_of below t us) row) (count_of base2 row) (sum_at below t us row) (count_of (base ++ entry u ∷ []) row) (count_of base row) (count_of (entry u ∷ []) row) (count_of (base ++ as_of below t (us ++ u ∷ [])) row) (count_of (base ++ as_of below t us) row) (sum_at below t (u ∷ []) row) a b c d e f;
+        let d = base_sum times t base us (u ∷ []) row in
+        let e = count_of-append base (as_of times t us) row in
+        let f : sum_at times t (u ∷ []) row ≡ count_of (entry u ∷ []) row = ap (λ z. count_of z row) here in
+        add (count_of (base2 ++ as_of times t us) row) (count_of base2 row) (sum_at times t us row) (count_of (base ++ entry u ∷ []) row) (count_of base row) (count_of (entry u ∷ []) row) (count_of (base ++ as_of times t (us ++ u ∷ [])) row) (count_of (base ++ as_of times t us) row) (sum_at times t (u ∷ []) row) a b c d e f;
     among = λ p x y. (among p x, (append_rows p us (u ∷ []) y).0);
   }
     where

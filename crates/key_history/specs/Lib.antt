@@ -5,9 +5,9 @@ pub use Rattle.lattice.specs.Frontiers
 pub mod States
 pub mod Packs
 pub mod Compaction
-pub mod Standing
+pub mod Duties
 pub mod Replays
 pub mod Pasts
 pub mod Sweeps
-pub mod Owing
-pub mod Settling
+pub mod Debts
+pub mod Settlements

@@ -24,4 +24,4 @@ module _ {T : Type 0} where
 
   -- a history with other joined times and pending ones
   abbrev pub times_put : List T → List T → HistoryState T → HistoryState T
-  times_put times due h = record h { times = times; due = due }
+  times_put ts due h = record h { times = ts; due = due }

@@ -8,12 +8,12 @@
 //! since these are times that are still asked for.
 //!
 //! What is refused stays as it was, so a refusal changes no answer.
-ghost use Rattle.std.specs.Prelude.{◌≡◌, List, IfOk, IfErr, IsTrue, OnOk, map};
+ghost use Rattle.std.specs.Prelude.{◌≡◌, IfOk, IfErr, IsTrue, OnOk, map};
 ghost use Rattle.std.specs.List.{list_all};
 ghost use Rattle.std.specs.List.Sorted.{IsStrictlySortedBy};
 ghost use Rattle.lattice.specs.Representatives.{representative_of};
 ghost use Rattle.update.specs.declared.change.Update.{Update};
-ghost use Rattle.update.specs.Refusals.{IsMemoryOrOverflow};
+ghost use Rattle.update.specs.Refusals.{OnlyMemory, IsMemoryOrOverflow};
 ghost use Rattle.update.specs.Updates.{HasLargeTotal, IsConsolidated};
 ghost use Rattle.update.specs.declared.refusal.Refusal.{Refusal};
 ghost use Rattle.joined_times.specs.Joined.{JoinAlike};
@@ -33,8 +33,8 @@ fn representatives_of<T: Lattice>(
     since: &[T],
 ) -> Result<Vec<T>, Refusal>
     ensures moved { IfOk result (λ out. out.items
-        ≡ map (representative_of T.joined T.met since.now) times.now) }
-    ensures only { IfErr result (λ refused. refused ≡ Refusal.OutOfMemory) }
+        ≡ map (representative_of T.times since.now) times.now) }
+    ensures only { OnlyMemory result }
 {
     let mut out = Vec::with_capacity(alloc, times.len())?;
     for time in times {
@@ -47,11 +47,11 @@ fn representatives_of<T: Lattice>(
 // order.
 fn times_as_of<T: Lattice>(alloc: Global, times: &[T], since: &[T]) -> Result<Vec<T>, Refusal>
     ensures alike { IfOk result
-        (λ out. JoinAlike T.below T.joined since.now out.items times.now) }
+        (λ out. JoinAlike T.times since.now out.items times.now) }
     ensures ascending { IfOk result (λ out. IsStrictlySortedBy T.cmp out.items) }
     ensures own { IfOk result
-        (λ out. IsTrue (list_all (is_own T.below T.joined T.met since.now) out.items)) }
-    ensures only { IfErr result (λ refused. refused ≡ Refusal.OutOfMemory) }
+        (λ out. IsTrue (list_all (is_own T.times since.now) out.items)) }
+    ensures only { OnlyMemory result }
 {
     let mut out = representatives_of(alloc, times, since)?;
     out.sort_unstable();
@@ -67,8 +67,8 @@ fn moved_as_of<T: Lattice>(
     since: &[T],
 ) -> Result<Vec<Update<T>>, Refusal>
     ensures moved { IfOk result (λ out. out.items
-        ≡ retimed (representative_of T.joined T.met since.now) updates.now) }
-    ensures only { IfErr result (λ refused. refused ≡ Refusal.OutOfMemory) }
+        ≡ retimed (representative_of T.times since.now) updates.now) }
+    ensures only { OnlyMemory result }
 {
     let mut out = Vec::with_capacity(alloc, updates.len())?;
     let mut place = updates.place(0);
@@ -92,12 +92,12 @@ fn updates_as_of<T: Lattice>(
     since: &[T],
 ) -> Result<Pack<T>, Refusal>
     ensures stands { IfOk result
-        (λ out. StandsBeyond T.below since.now updates.now out) }
+        (λ out. StandsBeyond T.times since.now updates.now out) }
     ensures own { IfOk result (λ out.
-        IsTrue (list_all (λ u. is_own T.below T.joined T.met since.now u.time) out)) }
+        IsTrue (list_all (λ u. is_own T.times since.now u.time) out)) }
     ensures once { IfOk result (λ out. IsConsolidated T.cmp out) }
-    ensures refused { IfErr result (IsMemoryOrOverflow (HasLargeTotal T.below
-        (retimed (representative_of T.joined T.met since.now) updates.now))) }
+    ensures refused { IfErr result (IsMemoryOrOverflow (HasLargeTotal T.times
+        (retimed (representative_of T.times since.now) updates.now))) }
 {
     let list = moved_as_of(alloc, updates, since)?;
     let out = consolidate(list)?;
@@ -114,12 +114,12 @@ pub(crate) fn compact_times<T: Lattice>(
     times: &mut Vec<T>,
     since: &[T],
 ) -> Result<(), Refusal>
-    ensures alike { JoinAlike T.below T.joined since.now times.new.items times.old.items }
+    ensures alike { JoinAlike T.times since.now times.new.items times.old.items }
     ensures ascending { IsStrictlySortedBy T.cmp times.old.items
         → IsStrictlySortedBy T.cmp times.new.items }
     ensures own { OnOk result
-        (IsTrue (list_all (is_own T.below T.joined T.met since.now) times.new.items)) }
-    ensures only { IfErr result (λ refused. refused ≡ Refusal.OutOfMemory) }
+        (IsTrue (list_all (is_own T.times since.now) times.new.items)) }
+    ensures only { OnlyMemory result }
 {
     *times = times_as_of(alloc, times, since)?;
     Ok(())
@@ -128,22 +128,22 @@ pub(crate) fn compact_times<T: Lattice>(
 /// Adds up what was given of a key, as of a since. Its past is forgotten then. If it is refused,
 /// then what was given stays.
 ///
-/// Cost: a join and a meet for each update and element of the since, a sort of the updates as a plain
-/// list, and a copy of what is left.
+/// Cost: a join and a meet for each update and element of the since, a sort of the updates as a
+/// plain list, and a copy of what is left.
 pub(crate) fn compact_given<T: Lattice>(
     alloc: Global,
     given: &mut Pack<T>,
     past: &mut Past<T>,
     since: &[T],
 ) -> Result<(), Refusal>
-    requires past { IsPast T.below given.old past.old }
-    ensures past { IsPast T.below given.new past.new }
-    ensures stands { StandsBeyond T.below since.now given.old given.new }
+    requires past { IsPast T.times given.old past.old }
+    ensures past { IsPast T.times given.new past.new }
+    ensures stands { StandsBeyond T.times since.now given.old given.new }
     ensures own { OnOk result (IsTrue
-        (list_all (λ u. is_own T.below T.joined T.met since.now u.time) given.new)) }
+        (list_all (λ u. is_own T.times since.now u.time) given.new)) }
     ensures once { OnOk result (IsConsolidated T.cmp given.new) }
-    ensures refused { IfErr result (IsMemoryOrOverflow (HasLargeTotal T.below
-        (retimed (representative_of T.joined T.met since.now) given.old))) }
+    ensures refused { IfErr result (IsMemoryOrOverflow (HasLargeTotal T.times
+        (retimed (representative_of T.times since.now) given.old))) }
 {
     *given = updates_as_of(alloc, given, since)?;
     *past = Past::none(alloc);

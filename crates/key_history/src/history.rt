@@ -5,8 +5,8 @@
 //!
 //! What was given is kept packed ([`Pack`]), since it is among the largest lists of a run.
 //!
-//! Kept times and what was given may be moved as of a since ([`KeyHistory::compact`]): no time beyond
-//! it tells the history from the one before.
+//! Kept times and what was given may be moved as of a since ([`KeyHistory::compact`]): no time
+//! beyond it tells the history from the one before.
 //!
 //! Beside what was given stands its past, which is a shorter list for the times to come. A contract
 //! does not see it.
@@ -16,7 +16,7 @@ ghost use Rattle.key_history.specs.States.{HistoryState, given_more, given_less,
 ghost use Rattle.key_history.specs.Replays.{StandsFrom};
 ghost use Rattle.key_history.specs.Compaction.{IsCompacted, IsFolded, retimed};
 ghost use Rattle.lattice.specs.Representatives.{representative_of};
-ghost use Rattle.update.specs.Refusals.{IsMemoryOrOverflow};
+ghost use Rattle.update.specs.Refusals.{OnlyMemory, IsMemoryOrOverflow};
 ghost use Rattle.update.specs.Updates.{HasLargeTotal};
 
 use crate::compaction::{compact_given, compact_times};
@@ -54,7 +54,7 @@ impl<T: Lattice> Model for KeyHistory<T> {
       given = h.given;
     } };
 
-    ghost invariant = { λ h. IsPast T.below h.given h.past };
+    ghost invariant = { λ h. IsPast T.times h.given h.past };
 }
 
 impl<T: Lattice> KeyHistory<T> {
@@ -104,19 +104,19 @@ impl<T: Lattice> KeyHistory<T> {
     /// Cost: 104 bytes and a copy for each update, at times of 16 bytes.
     pub fn given(&self, alloc: Global) -> Result<Vec<Update<T>>, Refusal>
         ensures copied { IfOk result (λ given. given.items ≡ self.now.given) }
-        ensures only { IfErr result (λ refused. refused ≡ Refusal.OutOfMemory) }
+        ensures only { OnlyMemory result }
     {
         let mut given = Vec::with_capacity(alloc, self.given.len())?;
         self.given.copy_from(0, &mut given)?;
         Ok(given)
     }
 
-    /// What was given of the key, as the times at or after `meet` see it: the updates of a list, and
-    /// those of a packed one from a place on. Takes no memory.
+    /// What was given of the key, as the times at or after `meet` see it: the updates of a list,
+    /// and those of a packed one from a place on. Takes no memory.
     pub(crate) fn seen_from(&self, meet: T) -> (&[Update<T>], &Pack<T>, usize)
         ensures within { result.2 ≤ length result.1.now }
         ensures whole { result.1.now ≡ self.now.given }
-        ensures stands { StandsFrom T.below meet self.now.given
+        ensures stands { StandsFrom T.times meet self.now.given
             (result.0.now ++ drop result.2 result.1.now) }
     {
         if self.past.since.less_equal(&meet) {
@@ -144,8 +144,8 @@ impl<T: Lattice> KeyHistory<T> {
         }
     }
 
-    /// Moves the kept times to their representatives as of a since, and adds up what was given as of
-    /// it. The pending times stay. If it is refused, then what is left undone stays as it was.
+    /// Moves the kept times to their representatives as of a since, and adds up what was given as
+    /// of it. The pending times stay. If it is refused, then what is left undone stays as it was.
     ///
     /// - [`Refusal::Overflow`] only if the total of some row at some moved time over what was given
     ///   is no 64-bit number.
@@ -154,11 +154,11 @@ impl<T: Lattice> KeyHistory<T> {
     /// Cost: a join and a meet for each kept time, each update that was given and each element of
     /// the since, and a sort of both.
     pub fn compact(&mut self, alloc: Global, since: &[T]) -> Result<(), Refusal>
-        ensures compacted { IsCompacted T.below T.cmp T.joined since.now self.old self.new }
+        ensures compacted { IsCompacted T.times T.cmp since.now self.old self.new }
         ensures folded { OnOk result
-            (IsFolded T.below T.joined T.met since.now T.cmp self.new) }
-        ensures refused { IfErr result (IsMemoryOrOverflow (HasLargeTotal T.below
-            (retimed (representative_of T.joined T.met since.now) self.old.given))) }
+            (IsFolded T.times since.now T.cmp self.new) }
+        ensures refused { IfErr result (IsMemoryOrOverflow (HasLargeTotal T.times
+            (retimed (representative_of T.times since.now) self.old.given))) }
     {
         compact_times(alloc, &mut self.times, since)?;
         compact_given(alloc, &mut self.given, &mut self.past, since)?;
@@ -179,7 +179,7 @@ impl<T: Lattice> KeyHistory<T> {
         ensures given { OnOk result
             (self.new ≡ given_more (slice_range out.now part.start part.end) self.old) }
         ensures same { OnErr result (self.new ≡ self.old) }
-        ensures only { IfErr result (λ refused. refused ≡ Refusal.OutOfMemory) }
+        ensures only { OnlyMemory result }
     {
         self.given.append(out, part)?;
         Ok(())

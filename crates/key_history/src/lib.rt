@@ -14,8 +14,8 @@
 //!
 //! This crate does not know how the rows of a key are found, nor that there are other keys; and
 //! what is given at one time it leaves to the crate `correction`. What is right for a key is
-//! defined in `specs/Standing.antt`, and what a sweep makes of its pending times in
-//! `specs/Settling.antt`.
+//! defined in `specs/Duties.antt`, and what a sweep makes of its pending times in
+//! `specs/Settlements.antt`.
 #![tactic(auto)]
 
 mod compaction;

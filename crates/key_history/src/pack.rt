@@ -3,17 +3,18 @@
 //! at once, and no room is spent on that.
 //!
 //! A plain update takes the room of the widest row. Here an update has a head, which is its time,
-//! its difference and the width of its row; and a second list has the columns of all rows, one after
-//! the other. At times of 16 bytes a head takes 32 bytes, and each column that a row really has
-//! takes 8: with two columns these are 48 bytes, where a plain update takes 104. There are many keys
-//! of one or two updates, so few lists matter too: these are two, and the first append takes no more
-//! room than it needs.
+//! its difference and the width of its row; and a second list has the columns of all rows, one
+//! after the other. At times of 16 bytes a head takes 32 bytes, and each column that a row really
+//! has takes 8: with two columns these are 48 bytes, where a plain update takes 104. There are many
+//! keys of one or two updates, so few lists matter too: these are two, and the first append takes
+//! no more room than it needs.
 //!
 //! The invariant: both lists are the parts of one list of updates (`ArePacked` in
-//! `specs/Packs.antt`). A contract sees this list alone. A reader keeps the place where the next row
-//! begins (`columns_before`). Reading from a place on adds up the widths behind it, so its cost
+//! `specs/Packs.antt`). A contract sees this list alone. A reader keeps the place where the next
+//! row begins (`columns_before`). Reading from a place on adds up the widths behind it, so its cost
 //! depends on what is read and not on what is skipped.
-ghost use Rattle.std.specs.Prelude.{◌≡◌, ◌<◌, ◌≤◌, ◌+◌, ◌++◌, ◌∷◌, [], drop, take, length, slice_get, slice_range, IfOk, IfErr, IsSomeAnd, OnErr, OnOk};
+ghost use Rattle.std.specs.Prelude.{◌≡◌, ◌<◌, ◌≤◌, ◌+◌, ◌++◌, ◌∷◌, [], drop, take, length, slice_get, slice_range, IfOk, IsSomeAnd, OnErr, OnOk};
+ghost use Rattle.update.specs.Refusals.{OnlyMemory};
 ghost use Rattle.update.specs.declared.refusal.Refusal.{Refusal};
 ghost use Rattle.columns.specs.Runs.{run_number, row_starts};
 ghost use Rattle.key_history.specs.Packs.{columns_before};
@@ -61,7 +62,7 @@ impl<T> Model for Pack<T> {
 // no second one.
 fn make_room<X: Drop>(list: &mut Vec<X>, more: usize) -> Result<(), Refusal>
     ensures items { list.new.items ≡ list.old.items }
-    ensures only { IfErr result (λ refused. refused ≡ Refusal.OutOfMemory) }
+    ensures only { OnlyMemory result }
 {
     if list.is_empty() {
         list.reserve_exact(more)?;
@@ -109,7 +110,7 @@ impl<T: Lattice> Pack<T> {
     // Makes room for so many more updates with rows of so many columns.
     fn reserve(&mut self, more: usize, width: usize) -> Result<(), Refusal>
         ensures same { self.new ≡ self.old }
-        ensures only { IfErr result (λ refused. refused ≡ Refusal.OutOfMemory) }
+        ensures only { OnlyMemory result }
     {
         make_room(&mut self.heads, more)?;
         make_room(&mut self.columns, more.saturating_mul(width))?;
@@ -120,7 +121,7 @@ impl<T: Lattice> Pack<T> {
     fn push(&mut self, update: &Update<T>) -> Result<(), Refusal>
         ensures more { OnOk result (self.new ≡ self.old ++ update.now ∷ []) }
         ensures same { OnErr result (self.new ≡ self.old) }
-        ensures only { IfErr result (λ refused. refused ≡ Refusal.OutOfMemory) }
+        ensures only { OnlyMemory result }
     {
         self.heads.reserve(1)?;
         self.columns.extend_from_slice(update.row.columns())?;
@@ -140,7 +141,7 @@ impl<T: Lattice> Pack<T> {
         ensures more { OnOk result (IsSomeAnd (slice_get out.now i)
             (λ u. self.new ≡ self.old ++ u ∷ [])) }
         ensures same { OnErr result (self.new ≡ self.old) }
-        ensures only { IfErr result (λ refused. refused ≡ Refusal.OutOfMemory) }
+        ensures only { OnlyMemory result }
     {
         self.heads.reserve(1)?;
         let width = out.append_row(i, run, &mut self.columns)?;
@@ -220,7 +221,7 @@ impl<T: Lattice> Pack<T> {
         ensures more { OnOk result (part.start ≤ part.end
             → self.new ≡ self.old ++ slice_range out.now part.start part.end) }
         ensures kept { take (length self.old) self.new ≡ self.old }
-        ensures only { IfErr result (λ refused. refused ≡ Refusal.OutOfMemory) }
+        ensures only { OnlyMemory result }
     {
         let Range { start, end } = part;
         self.reserve(end.saturating_sub(start), width_at(out, start))?;
@@ -246,7 +247,7 @@ impl<T: Lattice> Pack<T> {
         ensures more { OnOk result
             (self.new ≡ self.old ++ slice_range out.now part.start part.end) }
         ensures same { OnErr result (self.new ≡ self.old) }
-        ensures only { IfErr result (λ refused. refused ≡ Refusal.OutOfMemory) }
+        ensures only { OnlyMemory result }
     {
         let before = self.len();
         match self.push_all(out, part) {
@@ -266,7 +267,7 @@ impl<T: Lattice> Pack<T> {
     /// move.
     pub(crate) fn of(alloc: Global, updates: &[Update<T>]) -> Result<Pack<T>, Refusal>
         ensures copied { IfOk result (λ pack. pack ≡ updates.now) }
-        ensures only { IfErr result (λ refused. refused ≡ Refusal.OutOfMemory) }
+        ensures only { OnlyMemory result }
     {
         let mut pack = Pack::new(alloc);
         pack.reserve(updates.len(), width_of(updates))?;
@@ -285,7 +286,7 @@ impl<T: Lattice> Pack<T> {
     pub(crate) fn copy_from(&self, from: usize, list: &mut Vec<Update<T>>) -> Result<(), Refusal>
         requires { from ≤ length self.now }
         ensures copied { OnOk result (list.new.items ≡ list.old.items ++ drop from self.now) }
-        ensures only { IfErr result (λ refused. refused ≡ Refusal.OutOfMemory) }
+        ensures only { OnlyMemory result }
     {
         list.reserve(self.len() - from)?;
         let mut place = self.place(from);

@@ -13,7 +13,8 @@
 //! A past is kept only if it is at most half as long as what it stands for, so it takes at most
 //! half as much memory again. It is made anew once more was given since than it has. So all folds
 //! of a key together cost n log n in what was given.
-ghost use Rattle.std.specs.Prelude.{◌≡◌, ◌≤◌, ◌++◌, List, [], IfOk, IfErr, OnOk, length, take, drop};
+ghost use Rattle.std.specs.Prelude.{◌≡◌, ◌≤◌, ◌++◌, List, [], IfOk, length, take, drop};
+ghost use Rattle.update.specs.Refusals.{OnlyMemory};
 ghost use Rattle.update.specs.declared.change.Update.{Update};
 ghost use Rattle.update.specs.declared.refusal.Refusal.{Refusal};
 ghost use Rattle.key_history.specs.Pasts.{IsPast};
@@ -45,7 +46,7 @@ const SHORT: usize = 16;
 impl<T: Lattice> Past<T> {
     /// No past: nothing is folded yet. Takes no memory.
     pub(crate) fn none(alloc: Global) -> Past<T>
-        ensures past { (given : List (Update T)) → IsPast T.below given result }
+        ensures past { (given : List (Update T)) → IsPast T.times given result }
     {
         Past {
             near: Vec::new(alloc),
@@ -59,7 +60,7 @@ impl<T: Lattice> Past<T> {
     // half as many.
     fn if_short(alloc: Global, near: Vec<Update<T>>, count: usize, since: T) -> Past<T>
         ensures past { (given : List (Update T)) → count ≡ length given
-            → StandsFrom T.below since given near.items → IsPast T.below given result }
+            → StandsFrom T.times since given near.items → IsPast T.times given result }
     {
         let half = count / 2;
         if near.len() > half {
@@ -91,9 +92,9 @@ impl<T: Lattice> Past<T> {
     ) -> Result<Past<T>, Refusal>
         requires { from ≤ length given.now }
         ensures past { IfOk result (λ p.
-            StandsFrom T.below since given.now (folded.now ++ drop from given.now)
-            → IsPast T.below given.now p) }
-        ensures only { IfErr result (λ refused. refused ≡ Refusal.OutOfMemory) }
+            StandsFrom T.times since given.now (folded.now ++ drop from given.now)
+            → IsPast T.times given.now p) }
+        ensures only { OnlyMemory result }
     {
         let recent = given.len() - from;
         let mut list = Vec::with_capacity(alloc, folded.len().saturating_add(recent))?;
@@ -112,8 +113,8 @@ impl<T: Lattice> Past<T> {
     /// Forgets what is folded, if it stands for more updates than the first `left`. Takes no
     /// memory.
     pub(crate) fn cut(&mut self, left: usize)
-        ensures past { (given : List (Update T)) → IsPast T.below given self.old
-            → IsPast T.below (take left given) self.new }
+        ensures past { (given : List (Update T)) → IsPast T.times given self.old
+            → IsPast T.times (take left given) self.new }
     {
         if self.count > left {
             self.near.clear();

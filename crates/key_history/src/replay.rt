@@ -9,10 +9,11 @@
 //!
 //! The invariant: what has come in, with what comes in later, sums at each time to come to what the
 //! whole list sums to (`StandsOn` in `specs/Replays.antt`).
-ghost use Rattle.std.specs.Prelude.{◌≡◌, ◌⊎◌, ◌≤◌, ◌<◌, ◌+◌, ◌++◌, ◌∷◌, [], List, ℤ, Bool, true, IsTrue, IfOk, IfErr, OnOk, IsSomeAnd, drop, length, slice_get, false};
+ghost use Rattle.std.specs.Prelude.{◌≡◌, ◌⊎◌, ◌≤◌, ◌<◌, ◌+◌, ◌++◌, ◌∷◌, [], List, ℤ, Bool, true, IsTrue, IfOk, OnOk, IsSomeAnd, drop, length, slice_get, false};
 ghost use Rattle.std.specs.List.{list_all};
+ghost use Rattle.update.specs.Refusals.{OnlyMemory};
 ghost use Rattle.update.specs.Bags.{Alike};
-ghost use Rattle.update.specs.Updates.{as_of, entry, size};
+ghost use Rattle.update.specs.Updates.{as_of, entry};
 ghost use Rattle.update.specs.declared.change.Update.{Update};
 ghost use Rattle.update.specs.declared.refusal.Refusal.{Refusal};
 ghost use Rattle.std.specs.declared.cmp.Ordering.{Ordering};
@@ -32,7 +33,7 @@ pub(crate) fn append_copies<T: Lattice>(
     more: &[Update<T>],
 ) -> Result<(), Refusal>
     ensures pushed { OnOk result (list.new.items ≡ list.old.items ++ more.now) }
-    ensures only { IfErr result (λ refused. refused ≡ Refusal.OutOfMemory) }
+    ensures only { OnlyMemory result }
 {
     list.reserve(more.len())?;
     for update in more {
@@ -47,8 +48,8 @@ fn moved<T: Lattice>(
     updates: &[Update<T>],
     meet: T,
 ) -> Result<Vec<Update<T>>, Refusal>
-    ensures moved { IfOk result (λ out. out.items ≡ moved_to T.joined meet updates.now) }
-    ensures only { IfErr result (λ refused. refused ≡ Refusal.OutOfMemory) }
+    ensures moved { IfOk result (λ out. out.items ≡ moved_to T.times meet updates.now) }
+    ensures only { OnlyMemory result }
 {
     let mut out = Vec::with_capacity(alloc, updates.len())?;
     for update in updates {
@@ -71,8 +72,8 @@ pub(crate) fn nearer<T: Lattice>(
     updates: Vec<Update<T>>,
     meet: T,
 ) -> Result<Vec<Update<T>>, Refusal>
-    ensures stands { IfOk result (λ out. StandsFrom T.below meet updates.items out.items) }
-    ensures only { IfErr result (λ refused. refused ≡ Refusal.OutOfMemory) }
+    ensures stands { IfOk result (λ out. StandsFrom T.times meet updates.items out.items) }
+    ensures only { OnlyMemory result }
 {
     let list = moved(alloc, updates.as_slice(), meet)?;
     match consolidate(list) {
@@ -92,7 +93,7 @@ fn limit_after(left: usize) -> usize {
 
 // Adds an update to a tally if it is at or before a time, and if its count fits.
 fn add_early<T: Lattice>(base: &mut Tally, update: &Update<T>, meet: T) -> bool
-    ensures early { IsTrue result → T.below update.now.time meet ≡ true }
+    ensures early { IsTrue result → T.times.below update.now.time meet ≡ true }
     ensures added { IsTrue result → Alike base.new (base.old ++ entry update.now ∷ []) }
     ensures among { (p : List ℤ → Bool) → IsTrue (list_all (λ e. p e.row) base.old)
         → IsTrue (list_all (λ e. p e.row) base.new) }
@@ -138,7 +139,7 @@ impl<T: Lattice> Replay<T> {
             ⊎ ((self.new.near.items ≡ self.old.near.items)
             × (self.new.later.items ≡ self.old.later.items ++ update.now ∷ []))) }
         ensures entered { self.new.entered ≡ self.old.entered }
-        ensures only { IfErr result (λ refused. refused ≡ Refusal.OutOfMemory) }
+        ensures only { OnlyMemory result }
     {
         if update.time.cmp(&first) == Ordering::Greater {
             self.later.push(update.copy())?;
@@ -151,11 +152,11 @@ impl<T: Lattice> Replay<T> {
     // Puts updates with those that have come in, unless their time comes after the first one.
     fn put_all(&mut self, updates: &[Update<T>], first: T) -> Result<(), Refusal>
         ensures put { OnOk result ((before : List (Update T))
-            → StandsEver T.below before (self.old.near.items ++ self.old.later.items)
-            → StandsEver T.below (before ++ updates.now)
+            → StandsEver T.times before (self.old.near.items ++ self.old.later.items)
+            → StandsEver T.times (before ++ updates.now)
             (self.new.near.items ++ self.new.later.items)) }
         ensures entered { self.new.entered ≡ self.old.entered }
-        ensures only { IfErr result (λ refused. refused ≡ Refusal.OutOfMemory) }
+        ensures only { OnlyMemory result }
     {
         self.near.reserve(updates.len())?;
         self.later.reserve(updates.len())?;
@@ -170,11 +171,11 @@ impl<T: Lattice> Replay<T> {
     fn put_from(&mut self, given: &Pack<T>, from: usize, first: T) -> Result<(), Refusal>
         requires { from ≤ length given.now }
         ensures put { OnOk result ((before : List (Update T))
-            → StandsEver T.below before (self.old.near.items ++ self.old.later.items)
-            → StandsEver T.below (before ++ drop from given.now)
+            → StandsEver T.times before (self.old.near.items ++ self.old.later.items)
+            → StandsEver T.times (before ++ drop from given.now)
             (self.new.near.items ++ self.new.later.items)) }
         ensures entered { self.new.entered ≡ self.old.entered }
-        ensures only { IfErr result (λ refused. refused ≡ Refusal.OutOfMemory) }
+        ensures only { OnlyMemory result }
     {
         let more = given.len() - from;
         self.near.reserve(more)?;
@@ -187,9 +188,9 @@ impl<T: Lattice> Replay<T> {
         Ok(())
     }
 
-    /// The updates of a list, and those of a packed one from a place on, on the way to a first time,
-    /// after which so many times are to come. Those whose time does not come after the first one
-    /// have come in.
+    /// The updates of a list, and those of a packed one from a place on, on the way to a first
+    /// time, after which so many times are to come. Those whose time does not come after the first
+    /// one have come in.
     ///
     /// Cost: a copy of the updates, and n log n in the number of those whose time comes after the
     /// first one. Those that stand in long ascending parts, as in a few batches, are only merged.
@@ -202,10 +203,10 @@ impl<T: Lattice> Replay<T> {
         times: usize,
     ) -> Result<Replay<T>, Refusal>
         requires { from ≤ length given.now }
-        ensures stands { IfOk result (λ p. StandsEver T.below (updates.now ++ drop from given.now)
+        ensures stands { IfOk result (λ p. StandsEver T.times (updates.now ++ drop from given.now)
             (on_the_way p.near.items p.later.items p.entered)) }
         ensures ascending { IfOk result (λ p. Ascends T.cmp p.later.items) }
-        ensures only { IfErr result (λ refused. refused ≡ Refusal.OutOfMemory) }
+        ensures only { OnlyMemory result }
     {
         let mut replay = Replay {
             near: Vec::new(alloc),
@@ -240,7 +241,7 @@ impl<T: Lattice> Replay<T> {
         ensures later { self.new.later ≡ self.old.later }
         ensures limit { self.new.limit ≡ self.old.limit }
         ensures forward { OnOk result (self.new.entered ≡ self.old.entered + 1) }
-        ensures only { IfErr result (λ refused. refused ≡ Refusal.OutOfMemory) }
+        ensures only { OnlyMemory result }
     {
         self.near.push(self.later[self.entered].copy())?;
         self.entered += 1;
@@ -257,11 +258,11 @@ impl<T: Lattice> Replay<T> {
             (on_the_way self.new.near.items self.new.later.items self.new.entered
             ≡ on_the_way self.old.near.items self.old.later.items self.old.entered) }
         ensures later { self.new.later ≡ self.old.later }
-        ensures reached { OnOk result ((t : T) → IsTrue (T.below t time)
-            → as_of T.below t self.new.near.items
-            ≡ as_of T.below t
+        ensures reached { OnOk result ((t : T) → IsTrue (T.times.below t time)
+            → as_of T.times t self.new.near.items
+            ≡ as_of T.times t
             (on_the_way self.new.near.items self.new.later.items self.new.entered)) }
-        ensures only { IfErr result (λ refused. refused ≡ Refusal.OutOfMemory) }
+        ensures only { OnlyMemory result }
     {
         while self.is_next(time) {
             self.enter()?;
@@ -275,11 +276,11 @@ impl<T: Lattice> Replay<T> {
     /// Cost: that of [`nearer`]. All moves of one way together cost n log n in the number of
     /// updates that come in.
     pub(crate) fn advance(&mut self, alloc: Global, meet: T) -> Result<(), Refusal>
-        ensures stands { OnOk result (StandsFrom T.below meet
+        ensures stands { OnOk result (StandsFrom T.times meet
             (on_the_way self.old.near.items self.old.later.items self.old.entered)
             (on_the_way self.new.near.items self.new.later.items self.new.entered)) }
         ensures later { self.new.later ≡ self.old.later }
-        ensures only { IfErr result (λ refused. refused ≡ Refusal.OutOfMemory) }
+        ensures only { OnlyMemory result }
     {
         if self.near.len() <= self.limit {
             return Ok(());
@@ -303,11 +304,11 @@ impl<T: Lattice> Replay<T> {
     // Adds an update to a tally if it is at or before `meet`, and else puts it with those that have
     // come in.
     fn settle(&mut self, update: Update<T>, base: &mut Tally, meet: T) -> Result<(), Refusal>
-        ensures settles { OnOk result (Settles T.below meet base.old
+        ensures settles { OnOk result (Settles T.times meet base.old
             (self.old.near.items ++ update ∷ []) base.new self.new.near.items) }
         ensures later { self.new.later ≡ self.old.later }
         ensures entered { self.new.entered ≡ self.old.entered }
-        ensures only { IfErr result (λ refused. refused ≡ Refusal.OutOfMemory) }
+        ensures only { OnlyMemory result }
     {
         if add_early(base, &update, meet) {
             return Ok(());
@@ -328,11 +329,11 @@ impl<T: Lattice> Replay<T> {
         base: &mut Tally,
         meet: T,
     ) -> Result<(), Refusal>
-        ensures settles { OnOk result (Settles T.below meet base.old self.old.near.items
+        ensures settles { OnOk result (Settles T.times meet base.old self.old.near.items
             base.new self.new.near.items) }
         ensures later { self.new.later ≡ self.old.later }
         ensures entered { OnOk result (self.new.entered ≡ self.old.entered) }
-        ensures only { IfErr result (λ refused. refused ≡ Refusal.OutOfMemory) }
+        ensures only { OnlyMemory result }
     {
         if !self.has_settled(meet) {
             return Ok(());
@@ -350,7 +351,7 @@ impl<T: Lattice> Replay<T> {
         ensures pushed { OnOk result (self.new.near.items ≡ self.old.near.items ++ more.now) }
         ensures later { self.new.later ≡ self.old.later }
         ensures entered { self.new.entered ≡ self.old.entered }
-        ensures only { IfErr result (λ refused. refused ≡ Refusal.OutOfMemory) }
+        ensures only { OnlyMemory result }
     {
         append_copies(&mut self.near, more)
     }

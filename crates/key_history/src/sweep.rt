@@ -15,7 +15,7 @@ ghost use Rattle.std.specs.Prelude.{ℕ, ◌<◌, ◌+◌, get_or, ◌≡◌, �
 ghost use Rattle.std.specs.List.{AllByRecursion, filter, list_all};
 ghost use Rattle.std.specs.List.Sorted.{IsStrictlySortedBy};
 ghost use Rattle.lattice.specs.Frontiers.{is_beyond};
-ghost use Rattle.update.specs.Refusals.{IsMemoryOrOverflow};
+ghost use Rattle.update.specs.Refusals.{OnlyMemory, IsMemoryOrOverflow};
 ghost use Rattle.update.specs.declared.change.Update.{Update};
 ghost use Rattle.update.specs.declared.refusal.Refusal.{Refusal};
 ghost use Rattle.joined_times.specs.Joined.{of_key};
@@ -27,7 +27,7 @@ ghost use Rattle.update.specs.Bags.{Alike};
 ghost use Rattle.update.specs.Updates.{as_of};
 ghost use Rattle.plan.specs.Reductions.{has_key};
 ghost use Rattle.correction.specs.Evaluations.{IsEvaluation};
-ghost use Rattle.key_history.specs.Settling.{Steps, Settling, IsOverfullFor};
+ghost use Rattle.key_history.specs.Settlements.{Steps, Settling, IsOverfullFor};
 
 use crate::KeyHistory;
 use crate::pack::Pack;
@@ -67,7 +67,7 @@ pub(crate) struct Sweep<T> {
 
 // Forgets the last evaluation unless its time is at or before this one.
 fn forget_unless_before<T: Lattice>(last: &mut Option<Evaluation<T>>, time: T)
-    ensures before { IfSome last.new (λ e. IsTrue (T.below e.time time)) }
+    ensures before { IfSome last.new (λ e. IsTrue (T.times.below e.time time)) }
     ensures kept { (last.new ≡ None) ⊎ (last.new ≡ last.old) }
 {
     let before = match last {
@@ -81,8 +81,8 @@ fn forget_unless_before<T: Lattice>(last: &mut Option<Evaluation<T>>, time: T)
 
 // A time at or before this one and that of the last evaluation.
 fn meet_with_last<T: Lattice>(last: &Option<Evaluation<T>>, time: T) -> T
-    ensures time { IsTrue (T.below result time) }
-    ensures last { IfSome last.now (λ e. IsTrue (T.below result e.time)) }
+    ensures time { IsTrue (T.times.below result time) }
+    ensures last { IfSome last.now (λ e. IsTrue (T.times.below result e.time)) }
 {
     match last {
         Some(e) => e.time.meet(time),
@@ -96,10 +96,10 @@ fn meet_with_next<T: Lattice>(meets: &mut Vec<T>, i: usize)
     ensures length { length meets.new.items ≡ length meets.old.items }
     ensures others { (j : ℕ) (d : T) → j ≢ i
         → get_or meets.new.items j d ≡ get_or meets.old.items j d }
-    ensures here { (d : T) → IsTrue (T.below (get_or meets.new.items i d)
+    ensures here { (d : T) → IsTrue (T.times.below (get_or meets.new.items i d)
         (get_or meets.old.items i d)) }
     ensures next { (d : T) → i + 1 < length meets.old.items
-        → IsTrue (T.below (get_or meets.new.items i d) (get_or meets.old.items (i + 1) d)) }
+        → IsTrue (T.times.below (get_or meets.new.items i d) (get_or meets.old.items (i + 1) d)) }
 {
     let next = i + 1;
     if next < meets.len() {
@@ -109,8 +109,8 @@ fn meet_with_next<T: Lattice>(meets: &mut Vec<T>, i: usize)
 
 // The meet of each of these times with all behind it.
 fn meets_of<T: Lattice>(alloc: Global, times: &[T]) -> Result<Vec<T>, Refusal>
-    ensures meets { IfOk result (λ meets. AreMeets T.below times.now meets.items) }
-    ensures only { IfErr result (λ refused. refused ≡ Refusal.OutOfMemory) }
+    ensures meets { IfOk result (λ meets. AreMeets T.times times.now meets.items) }
+    ensures only { OnlyMemory result }
 {
     let mut meets = Vec::from_slice(alloc, times)?;
     for i in (0..times.len()).rev() {
@@ -124,12 +124,12 @@ fn lead<T: Lattice>(alloc: Global, time: T, meet: T, sweep: &mut Sweep<T>) -> Re
     requires rows { Ascends T.cmp sweep.old.rows.later.items }
     requires had { Ascends T.cmp sweep.old.had.later.items }
     ensures led { OnOk result ((todo : List T) (rows given : List (Update T))
-        → Member time todo → ((t : T) → Member t todo → IsTrue (T.below meet t))
-        → IsSweep T.below T.cmp todo rows given sweep.old
-        → IsLed T.below T.cmp time todo rows given sweep.new) }
+        → Member time todo → ((t : T) → Member t todo → IsTrue (T.times.below meet t))
+        → IsSweep T.times T.cmp todo rows given sweep.old
+        → IsLed T.times T.cmp time todo rows given sweep.new) }
     ensures given { sweep.new.given ≡ sweep.old.given }
     ensures due { sweep.new.due ≡ sweep.old.due }
-    ensures only { IfErr result (λ refused. refused ≡ Refusal.OutOfMemory) }
+    ensures only { OnlyMemory result }
 {
     forget_unless_before(&mut sweep.last, time);
     let behind = meet_with_last(&sweep.last, meet);
@@ -158,25 +158,25 @@ fn correct_here<T: Lattice, R: Reducer>(
         (list_all (of_key (length key.now) key.now) sweep.old.rows.near.items) }
     requires had { IsTrue
         (list_all (of_key (length key.now) key.now) sweep.old.had.near.items) }
-    requires last { IfSome sweep.old.last (IsEvaluation T.below sweep.old.had.near.items) }
+    requires last { IfSome sweep.old.last (IsEvaluation T.times sweep.old.had.near.items) }
     ensures corrects { IfOk result (λ correction. (content rows : List (Update T))
         → rows ≡ filter (of_key (length key.now) key.now) content
-        → Alike (sweep.old.base ++ as_of T.below time sweep.old.rows.near.items)
-        (as_of T.below time rows)
-        → Corrects T.below (length key.now) (R.reduces reducer.now) content
+        → Alike (sweep.old.base ++ as_of T.times time sweep.old.rows.near.items)
+        (as_of T.times time rows)
+        → Corrects T.times (length key.now) (R.reduces reducer.now) content
         sweep.old.had.near.items key.now time correction.given.items) }
     ensures nonzero { IfOk result
         (λ correction. AllByRecursion (λ u. u.diff ≢ pos 0) correction.given.items) }
     ensures evaluation { IfOk result (λ correction.
-        IsEvaluation T.below (sweep.old.had.near.items ++ correction.given.items)
+        IsEvaluation T.times (sweep.old.had.near.items ++ correction.given.items)
         correction.evaluation) }
     ensures time { IfOk result (λ correction. correction.evaluation.time ≡ time) }
     ensures same { sweep.new ≡ sweep.old }
     ensures refused { IfErr result (IsMemoryOrOverflow ((content rows : List (Update T))
         → rows ≡ filter (of_key (length key.now) key.now) content
-        → Alike (sweep.old.base ++ as_of T.below time sweep.old.rows.near.items)
-        (as_of T.below time rows)
-        → IsTooMuch T.below (length key.now) (R.reduces reducer.now) content
+        → Alike (sweep.old.base ++ as_of T.times time sweep.old.rows.near.items)
+        (as_of T.times time rows)
+        → IsTooMuch T.times (length key.now) (R.reduces reducer.now) content
         sweep.old.had.near.items key.now time)) }
 {
     let near = sweep.rows.near.as_slice();
@@ -199,25 +199,25 @@ fn sweep_time<T: Lattice, R: Reducer>(
     sweep: &mut Sweep<T>,
 ) -> Result<(), Refusal>
     requires first { todo.now ≡ time ∷ drop 1 todo.now }
-    requires meet { (t : T) → Member t todo.now → IsTrue (T.below meet t) }
+    requires meet { (t : T) → Member t todo.now → IsTrue (T.times.below meet t) }
     requires rows { IsTrue (list_all (of_key (length history.now.key) history.now.key) rows.now) }
     requires given { IsTrue
         (list_all (of_key (length history.now.key) history.now.key) history.now.given) }
     requires settled { IsTrue (list_all (of_key (length history.now.key) history.now.key)
         sweep.old.given.items) }
-    requires passes { IsSweep T.below T.cmp todo.now rows.now
+    requires passes { IsSweep T.times T.cmp todo.now rows.now
         (history.now.given ++ sweep.old.given.items) sweep.old }
-    ensures passes { OnOk result (IsSweep T.below T.cmp (drop 1 todo.now) rows.now
+    ensures passes { OnOk result (IsSweep T.times T.cmp (drop 1 todo.now) rows.now
         (history.now.given ++ sweep.new.given.items) sweep.new) }
     ensures steps { OnOk result ((content : List (Update T))
         → rows.now ≡ filter (of_key (length history.now.key) history.now.key) content
-        → Steps T.below T.joined (length history.now.key) (R.reduces reducer.now) history.now.key
+        → Steps T.times (length history.now.key) (R.reduces reducer.now) history.now.key
         content history.now.given frontier.now time sweep.old.given.items
         sweep.new.given.items sweep.old.due.items sweep.new.due.items) }
     ensures refused { IfErr result (IsMemoryOrOverflow
-        ((is_beyond T.below frontier.now time ≡ false) × ((content : List (Update T))
+        ((is_beyond T.times frontier.now time ≡ false) × ((content : List (Update T))
         → rows.now ≡ filter (of_key (length history.now.key) history.now.key) content
-        → IsTooMuch T.below (length history.now.key) (R.reduces reducer.now) content
+        → IsTooMuch T.times (length history.now.key) (R.reduces reducer.now) content
         (history.now.given ++ sweep.old.given.items) history.now.key time))) }
 {
     if is_beyond(frontier, &time) {
@@ -273,12 +273,12 @@ pub fn sweep_key<T: Lattice, R: Reducer>(
         (list_all (of_key (length history.now.key) history.now.key) history.now.given) }
     ensures settled { IfOk result (λ settled. (content : List (Update T))
         → rows.now ≡ filter (of_key (length history.now.key) history.now.key) content
-        → Settling T.below T.joined (length history.now.key) (R.reduces reducer.now)
+        → Settling T.times (length history.now.key) (R.reduces reducer.now)
         history.now.key content history.now.given frontier.now history.now.due
         (length history.now.due) settled.given.items settled.due.items) }
     ensures refused { IfErr result (IsMemoryOrOverflow ((content : List (Update T))
         → rows.now ≡ filter (of_key (length history.now.key) history.now.key) content
-        → IsOverfullFor T.below T.joined (length history.now.key) (R.reduces reducer.now)
+        → IsOverfullFor T.times (length history.now.key) (R.reduces reducer.now)
         history.now.key content history.now.given frontier.now history.now.due)) }
 {
     let due = history.due();

@@ -1,4 +1,5 @@
 -- The definitions of timestamps: orders, lattices, pairs, frontiers and representatives.
+pub mod Times
 pub mod Order
 pub mod Frontiers
 pub mod Representatives

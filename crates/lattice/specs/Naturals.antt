@@ -4,10 +4,15 @@ use Rattle.std.specs.Prelude.{ℕ, IsTrue, nat_le, max, min}
 use Rattle.std.specs.Ordering.{nat_cmp}
 use Rattle.std.proofs.Common.{arith}
 use Rattle.std.proofs.lemmas.Bool.Decides.{nat_tests}
+use Rattle.lattice.specs.Times.{Times}
 use Rattle.lattice.specs.Order.{PartialOrderLaws, LatticeLaws, ExtendsLaws}
 
+-- the order of numbers; the join is the greater, the meet the lesser, and 0 the least
+abbrev pub nat_times : Times ℕ
+nat_times = record { below = nat_le; joined = max; met = min; least = 0 }
+
 -- whole numbers are partially ordered
-pub nat_order : PartialOrderLaws nat_le
+pub nat_order : PartialOrderLaws nat_times
 nat_order = record {
   reflexive = λ t. grind (arith, nat_tests);
   transitive = λ t u v h k. grind (arith, nat_tests);
@@ -15,7 +20,7 @@ nat_order = record {
 }
 
 -- max and min are the least upper and the greatest lower bound
-pub nat_bounds : LatticeLaws nat_le max min
+pub nat_bounds : LatticeLaws nat_times
 nat_bounds = record {
   join_left = λ t u. grind (arith, nat_tests);
   join_right = λ t u. grind (arith, nat_tests);
@@ -26,7 +31,7 @@ nat_bounds = record {
 }
 
 -- the order of sorting is the order of numbers
-pub nat_extends : ExtendsLaws nat_le nat_cmp
+pub nat_extends : ExtendsLaws nat_times nat_cmp
 nat_extends = record {
   extends = λ t u h. grind (arith, nat_tests);
   exact = λ t u e. grind (arith, nat_tests);

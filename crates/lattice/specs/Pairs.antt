@@ -5,6 +5,7 @@ use Rattle.std.proofs.lemmas.Bool.{and_parts, and_from}
 use Rattle.std.specs.Ordering.{is_le, ordering_then}
 use Rattle.std.specs.declared.cmp.Ordering.{Ordering}
 use Rattle.std.specs.declared.cmp.Ordering.TheVariants.{Less, Equal, Greater}
+use Rattle.lattice.specs.Times.{Times}
 use Rattle.lattice.specs.Order.{PartialOrderLaws, LatticeLaws, ExtendsLaws}
 use Rattle.lattice.specs.declared.product.Pair.{Pair}
 
@@ -12,13 +13,14 @@ use Rattle.lattice.specs.declared.product.Pair.{Pair}
 abbrev pub make_pair : {A B : Type 0} → A → B → Pair A B
 make_pair x y = record { first = x; second = y }
 
--- at or before in both components
-abbrev pub pair_below : {A B : Type 0} → (A → A → Bool) → (B → B → Bool) → Pair A B → Pair A B → Bool
-pair_below a b p q = a p.first q.first && b p.second q.second
-
--- applies an operation to each component; join and meet are of this form
-abbrev pub pair_with : {A B : Type 0} → (A → A → A) → (B → B → B) → Pair A B → Pair A B → Pair A B
-pair_with f g p q = make_pair (f p.first q.first) (g p.second q.second)
+-- at or before in both components; join, meet and the least time component by component
+abbrev pub pair_times : {A B : Type 0} → Times A → Times B → Times (Pair A B)
+pair_times a b = record {
+  below = λ p q. a.below p.first q.first && b.below p.second q.second;
+  joined = λ p q. make_pair (a.joined p.first q.first) (b.joined p.second q.second);
+  met = λ p q. make_pair (a.met p.first q.first) (b.met p.second q.second);
+  least = make_pair a.least b.least;
+}
 
 -- the first components decide; if they tie, the second ones do
 abbrev pub pair_cmp : {A B : Type 0} → (A → A → Ordering) → (B → B → Ordering) → Pair A B → Pair A B → Ordering
@@ -37,9 +39,9 @@ then_equal Less p e = cc
 then_equal Equal p e = (refl, e)
 then_equal Greater p e = cc
 
-module _ {A B : Type 0} {a : A → A → Bool} {b : B → B → Bool} where
+module _ {A B : Type 0} {a : Times A} {b : Times B} where
   -- pairs are partially ordered
-  pub pair_order : PartialOrderLaws a → PartialOrderLaws b → PartialOrderLaws (pair_below a b)
+  pub pair_order : PartialOrderLaws a → PartialOrderLaws b → PartialOrderLaws (pair_times a b)
   pair_order la lb = record {
     reflexive = λ p. and_from _ _ (la.reflexive p.first) (lb.reflexive p.second);
     transitive = λ p q r h k.
@@ -53,8 +55,7 @@ module _ {A B : Type 0} {a : A → A → Bool} {b : B → B → Bool} where
   }
 
   -- joins and meets of pairs are least upper and greatest lower bounds
-  pub pair_bounds : {ja ma : A → A → A} {jb mb : B → B → B} → LatticeLaws a ja ma → LatticeLaws b jb mb
-      → LatticeLaws (pair_below a b) (pair_with ja jb) (pair_with ma mb)
+  pub pair_bounds : LatticeLaws a → LatticeLaws b → LatticeLaws (pair_times a b)
   pair_bounds la lb = record {
     join_left = λ p q. and_from _ _ (la.join_left _ _) (lb.join_left _ _);
     join_right = λ p q. and_from _ _ (la.join_right _ _) (lb.join_right _ _);
@@ -72,7 +73,7 @@ module _ {A B : Type 0} {a : A → A → Bool} {b : B → B → Bool} where
 
   -- the order of sorting extends the partial order of pairs
   pub pair_extends : {ca : A → A → Ordering} {cb : B → B → Ordering} → ExtendsLaws a ca → ExtendsLaws b cb
-      → ExtendsLaws (pair_below a b) (pair_cmp ca cb)
+      → ExtendsLaws (pair_times a b) (pair_cmp ca cb)
   pair_extends la lb = record {
     extends = λ p q h.
         let l = and_parts _ _ h in

@@ -15,10 +15,10 @@ use crate::Lattice;
 /// Cost: a join and a meet for each element; takes no memory. This is `advance_by` of differential
 /// dataflow, and the representative of McSherry et al., Shared Arrangements, VLDB 2020.
 pub fn representative<T: Lattice>(t: T, frontier: &[T]) -> T
-    ensures value { result ≡ representative_of T.joined T.met frontier.now t }
-    ensures keeps { Indistinguishable T.below frontier.now t result }
-    ensures later { IsTrue (T.below t result) }
-    ensures stays { IsTrue (is_beyond T.below frontier.now t) → result ≡ t }
+    ensures value { result ≡ representative_of T.times frontier.now t }
+    ensures keeps { Indistinguishable T.times frontier.now t result }
+    ensures later { IsTrue (T.times.below t result) }
+    ensures stays { IsTrue (is_beyond T.times frontier.now t) → result ≡ t }
 {
     match frontier {
         [] => t,
@@ -47,16 +47,16 @@ pub fn representative<T: Lattice>(t: T, frontier: &[T]) -> T
 /// - `in_steps`: compacting as of one frontier and then as of a later one gives the same as
 ///   compacting as of the later one at once.
 pub fn representatives_are_canonical<T: Lattice>()
-    ensures reads { (F : List T) (t s : T) → IsTrue (is_beyond T.below F s)
-        → T.below (representative_of T.joined T.met F t) s ≡ T.below t s }
-    ensures one { (F : List T) (t u : T) → F ≢ [] → Indistinguishable T.below F t u
-        → representative_of T.joined T.met F t ≡ representative_of T.joined T.met F u }
-    ensures joins { (F : List T) (t u : T) → IsTrue (is_beyond T.below F t)
-        → T.joined t (representative_of T.joined T.met F u) ≡ T.joined t u }
+    ensures reads { (F : List T) (t s : T) → IsTrue (is_beyond T.times F s)
+        → T.times.below (representative_of T.times F t) s ≡ T.times.below t s }
+    ensures one { (F : List T) (t u : T) → F ≢ [] → Indistinguishable T.times F t u
+        → representative_of T.times F t ≡ representative_of T.times F u }
+    ensures joins { (F : List T) (t u : T) → IsTrue (is_beyond T.times F t)
+        → T.times.joined t (representative_of T.times F u) ≡ T.times.joined t u }
     ensures greatest { (F : List T) (t z : T) → F ≢ []
-        → ((s : T) → IsTrue (is_beyond T.below F s) → IsTrue (T.below t s) → IsTrue (T.below z s))
-        → IsTrue (T.below z (representative_of T.joined T.met F t)) }
-    ensures in_steps { (F G : List T) (t : T) → G ≢ [] → IsTrue (all_beyond T.below F G)
-        → representative_of T.joined T.met G (representative_of T.joined T.met F t)
-        ≡ representative_of T.joined T.met G t }
+        → ((s : T) → IsTrue (is_beyond T.times F s) → IsTrue (T.times.below t s) → IsTrue (T.times.below z s))
+        → IsTrue (T.times.below z (representative_of T.times F t)) }
+    ensures in_steps { (F G : List T) (t : T) → G ≢ [] → IsTrue (all_beyond T.times F G)
+        → representative_of T.times G (representative_of T.times F t)
+        ≡ representative_of T.times G t }
 {}

@@ -1,12 +1,12 @@
 //! Whole numbers as times along one axis. Any two can be compared; the join is the greater and the
 //! meet the lesser.
-ghost use Rattle.std.specs.Prelude.{◌≡◌, ◌<◌, ◌^◌, nat_le, max, min};
-ghost use Rattle.lattice.specs.Naturals.{nat_order, nat_bounds, nat_extends, nat_lowest};
+ghost use Rattle.std.specs.Prelude.{◌≡◌, ◌<◌, ◌^◌};
+ghost use Rattle.lattice.specs.Naturals.{nat_times, nat_order, nat_bounds, nat_extends, nat_lowest};
 
 use crate::{Lattice, Minimum, PartialOrder};
 
 impl PartialOrder for u64 {
-    ghost below = { nat_le };
+    ghost times = { nat_times };
 
     ghost order = { nat_order };
 
@@ -16,10 +16,6 @@ impl PartialOrder for u64 {
 }
 
 impl Lattice for u64 {
-    ghost joined = { max };
-
-    ghost met = { min };
-
     ghost bounds = { nat_bounds };
 
     ghost extends = { nat_extends };
@@ -35,8 +31,6 @@ impl Lattice for u64 {
 
 impl Minimum for u64 {
     ghost value = { λ t. t < 2 ^ 64 };
-
-    ghost least = { 0 };
 
     ghost lowest = { λ t _. nat_lowest t };
 

@@ -21,9 +21,9 @@ pub struct Pair<A, B> {
 pub type Bitime = Pair<u64, u64>;
 
 impl<A: PartialOrder, B: PartialOrder> PartialOrder for Pair<A, B> {
-    ghost use Rattle.lattice.specs.Pairs.{pair_below, pair_order};
+    ghost use Rattle.lattice.specs.Pairs.{pair_times, pair_order};
 
-    ghost below = { pair_below A.below B.below };
+    ghost times = { pair_times A.times B.times };
 
     ghost order = { pair_order A.order B.order };
 
@@ -33,11 +33,7 @@ impl<A: PartialOrder, B: PartialOrder> PartialOrder for Pair<A, B> {
 }
 
 impl<A: Lattice, B: Lattice> Lattice for Pair<A, B> {
-    ghost use Rattle.lattice.specs.Pairs.{pair_with, pair_bounds, pair_extends};
-
-    ghost joined = { pair_with A.joined B.joined };
-
-    ghost met = { pair_with A.met B.met };
+    ghost use Rattle.lattice.specs.Pairs.{pair_bounds, pair_extends};
 
     ghost bounds = { pair_bounds A.bounds B.bounds };
 
@@ -59,11 +55,7 @@ impl<A: Lattice, B: Lattice> Lattice for Pair<A, B> {
 }
 
 impl<A: Minimum, B: Minimum> Minimum for Pair<A, B> {
-    ghost use Rattle.lattice.specs.Pairs.{make_pair};
-
     ghost value = { λ p. A.value p.first × B.value p.second };
-
-    ghost least = { make_pair A.least B.least };
 
     ghost lowest = { λ p h. and_from _ _ (A.lowest p.first h.0) (B.lowest p.second h.1) };
 

@@ -5,6 +5,7 @@ use Rattle.std.specs.declared.cmp.Ordering.{Ordering}
 use Rattle.std.proofs.lemmas.List.{append-nil}
 use Rattle.std.proofs.lemmas.Bool.{true≢false}
 use Rattle.std.proofs.lemmas.Option.{slice_get_read}
+use Rattle.lattice.specs.Times.{Times}
 use Rattle.lattice.specs.Order.{PartialOrderLaws, LatticeLaws}
 use Rattle.update.specs.declared.change.Update.{Update}
 use Rattle.update.specs.Updates.{HasLargeTotal}
@@ -12,7 +13,7 @@ use Rattle.update.specs.Refusals.{IsMemoryOrOverflow}
 use Rattle.update.specs.declared.refusal.Refusal.{Refusal}
 use Rattle.batch.specs.Compaction.{StandFor, compacted}
 use Rattle.batch.specs.Descriptions.{BatchState, DescriptionState}
-use Rattle.batch.specs.Merging.{MergingState, IsUnderway, IsRead}
+use Rattle.batch.specs.Merges.{MergingState, IsUnderway, IsRead}
 use Rattle.trace.specs.Readings.{all_content}
 use Rattle.trace.specs.BatchLists.{BatchListState, IsMergeOf, IsRewriteOf, updates_of}
 use Rattle.trace.proofs.BoundaryLemmas.{some_same, none_some}
@@ -43,12 +44,12 @@ module _ {T : Type 0} where
   pub same_reserved : (s t : BatchListState T) (bs : List (BatchState T)) (r : Bool) → s ≡ record t { batches = bs; reserved = r } → s ≡ record t { batches = bs; reserved = s.reserved }
   same_reserved s t bs r e = e ∙ (λ k. record t { batches = bs; reserved = sym (ap (λ (x : BatchListState T). x.reserved) e) k })
 
-module _ {T : Type 0} (below : T → T → Bool) (cmp : T → T → Ordering) (joined met : T → T → T) where
+module _ {T : Type 0} (times : Times T) (cmp : T → T → Ordering) where
   -- a merge reads these two lists, and each merge of them with its place is at its place too
   pub record HasSources (bs : List (BatchState T)) (u : UnderwayState T) (d : DescriptionState T) (us vs : List (Update T)) : Type 0 where
-    pub of : IsOf below cmp joined met d us vs u.merging
+    pub of : IsOf times cmp d us vs u.merging
     pub sources : sources_of bs u ≡ us ++ vs
-    pub back : (m : MergingState T) → IsOf below cmp joined met d us vs m → IsAt below cmp joined met bs (record u { merging = m })
+    pub back : (m : MergingState T) → IsOf times cmp d us vs m → IsAt times cmp bs (record u { merging = m })
 
   -- the merge of two batches, and where these are
   pub record TwoHere (bs : List (BatchState T)) (u : UnderwayState T) (x y : BatchState T) : Type 0 where
@@ -63,50 +64,50 @@ module _ {T : Type 0} (below : T → T → Bool) (cmp : T → T → Ordering) (j
     pub here : slice_get bs u.number ≡ Some x
     pub has : HasSources bs u x.description x.updates []
 
-  two_in : (bs : List (BatchState T)) (alone : Bool) (n : ℕ) (m : MergingState T) (x y : BatchState T) → alone ≡ false → slice_get bs n ≡ Some x → slice_get bs (suc n) ≡ Some y → IsIn below cmp joined met alone n m bs
+  two_in : (bs : List (BatchState T)) (alone : Bool) (n : ℕ) (m : MergingState T) (x y : BatchState T) → alone ≡ false → slice_get bs n ≡ Some x → slice_get bs (suc n) ≡ Some y → IsIn times cmp alone n m bs
       → HasSources bs (record { number = n; alone = alone; merging = m }) (record x.description { upper = y.description.upper }) x.updates y.updates
   two_in bs true n m x y e f g is = absurd (true≢false e)
   two_in bs false n m x y e f g is = record {
     of =
-        subst (λ (z : BatchState T). IsOfTwo below cmp joined met z y m) (some_same (sym is.2 ∙ f))
-        (subst (λ (z : BatchState T). IsOfTwo below cmp joined met is.0 z m) (some_same (sym is.3 ∙ g)) is.4);
+        subst (λ (z : BatchState T). IsOfTwo times cmp z y m) (some_same (sym is.2 ∙ f))
+        (subst (λ (z : BatchState T). IsOfTwo times cmp is.0 z m) (some_same (sym is.3 ∙ g)) is.4);
     sources = sources_two bs n x y f g;
     back = λ k of. (x, y, f, g, of);
   }
 
-  one_in : (bs : List (BatchState T)) (alone : Bool) (n : ℕ) (m : MergingState T) (x : BatchState T) → alone ≡ true → slice_get bs n ≡ Some x → IsIn below cmp joined met alone n m bs
+  one_in : (bs : List (BatchState T)) (alone : Bool) (n : ℕ) (m : MergingState T) (x : BatchState T) → alone ≡ true → slice_get bs n ≡ Some x → IsIn times cmp alone n m bs
       → HasSources bs (record { number = n; alone = alone; merging = m }) x.description x.updates []
   one_in bs false n m x e f is = absurd (true≢false (sym e))
   one_in bs true n m x e f is = record {
-    of = subst (λ (z : BatchState T). IsOfOne below cmp joined met z m) (some_same (sym is.1 ∙ f)) is.2;
+    of = subst (λ (z : BatchState T). IsOfOne times cmp z m) (some_same (sym is.1 ∙ f)) is.2;
     sources = sources_one bs n x f;
     back = λ k of. (x, f, of);
   }
 
   -- both batches of a merge are within the list
-  pub two_within : (bs cs : List (BatchState T)) (u w : UnderwayState T) → bs ≡ cs → u ≡ w → w.alone ≡ false → IsAt below cmp joined met cs w → suc u.number < length bs
+  pub two_within : (bs cs : List (BatchState T)) (u w : UnderwayState T) → bs ≡ cs → u ≡ w → w.alone ≡ false → IsAt times cmp cs w → suc u.number < length bs
   two_within bs cs u w same e two is =
-      let l = in_within below cmp joined met w.alone w.number w.merging cs is in
+      let l = in_within times cmp w.alone w.number w.merging cs is in
       let width = ap width_of two in
       let n = ap (λ (v : UnderwayState T). v.number) e in
       let all = ap length same in
       omega (arith, l, width, n, all)
 
   -- the batch of a rewriting is within the list
-  pub one_within : (bs cs : List (BatchState T)) (u w : UnderwayState T) → bs ≡ cs → u ≡ w → w.alone ≡ true → IsAt below cmp joined met cs w → u.number < length bs
+  pub one_within : (bs cs : List (BatchState T)) (u w : UnderwayState T) → bs ≡ cs → u ≡ w → w.alone ≡ true → IsAt times cmp cs w → u.number < length bs
   one_within bs cs u w same e one is =
-      let l = in_within below cmp joined met w.alone w.number w.merging cs is in
+      let l = in_within times cmp w.alone w.number w.merging cs is in
       let width = ap width_of one in
       let n = ap (λ (v : UnderwayState T). v.number) e in
       let all = ap length same in
       omega (arith, l, width, n, all)
 
   -- what is read at the place of a merge are its two batches
-  pub two_here : (bs cs : List (BatchState T)) (u w : UnderwayState T) (x y : BatchState T) → bs ≡ cs → u ≡ w → w.alone ≡ false → IsAt below cmp joined met cs w → x ≡ get_or bs u.number x → y ≡ get_or bs (u.number + 1) y → TwoHere cs u x y
+  pub two_here : (bs cs : List (BatchState T)) (u w : UnderwayState T) (x y : BatchState T) → bs ≡ cs → u ≡ w → w.alone ≡ false → IsAt times cmp cs w → x ≡ get_or bs u.number x → y ≡ get_or bs (u.number + 1) y → TwoHere cs u x y
   two_here bs cs u w x y same e two is f g =
       let l = two_within bs cs u w same e two is in
       let next : suc u.number ≡ u.number + 1 = omega arith in
-      let at = subst (λ (v : UnderwayState T). IsAt below cmp joined met cs v) (sym e) is in
+      let at = subst (λ (v : UnderwayState T). IsAt times cmp cs v) (sym e) is in
       let alone = ap (λ (v : UnderwayState T). v.alone) e ∙ two in
       let first = subst (λ ds. slice_get ds u.number ≡ Some x) same (slice_get_read bs (length bs) u.number x refl (omega (arith, l)) f) in
       let second = subst (λ n. slice_get bs n ≡ Some y) (sym next) (slice_get_read bs (length bs) (u.number + 1) y refl (omega (arith, l)) g) in
@@ -114,15 +115,15 @@ module _ {T : Type 0} (below : T → T → Bool) (cmp : T → T → Ordering) (j
       record { two = alone; here = first; next = behind; has = two_in cs u.alone u.number u.merging x y alone first behind at }
 
   -- what is read at the place of a rewriting is its batch
-  pub one_here : (bs cs : List (BatchState T)) (u w : UnderwayState T) (x : BatchState T) → bs ≡ cs → u ≡ w → w.alone ≡ true → IsAt below cmp joined met cs w → x ≡ get_or bs u.number x → OneHere cs u x
+  pub one_here : (bs cs : List (BatchState T)) (u w : UnderwayState T) (x : BatchState T) → bs ≡ cs → u ≡ w → w.alone ≡ true → IsAt times cmp cs w → x ≡ get_or bs u.number x → OneHere cs u x
   one_here bs cs u w x same e one is f =
       let l = one_within bs cs u w same e one is in
-      let at = subst (λ (v : UnderwayState T). IsAt below cmp joined met cs v) (sym e) is in
+      let at = subst (λ (v : UnderwayState T). IsAt times cmp cs v) (sym e) is in
       let alone = ap (λ (v : UnderwayState T). v.alone) e ∙ one in
       let first = subst (λ ds. slice_get ds u.number ≡ Some x) same (slice_get_read bs (length bs) u.number x refl (omega (arith, l)) f) in
       record { one = alone; here = first; has = one_in cs u.alone u.number u.merging x alone first at }
 
-  in_sources : (bs : List (BatchState T)) (alone : Bool) (n : ℕ) (m : MergingState T) → IsIn below cmp joined met alone n m bs → m.left + m.right ≤ length (all_content updates_of (take (width_of alone) (drop n bs)))
+  in_sources : (bs : List (BatchState T)) (alone : Bool) (n : ℕ) (m : MergingState T) → IsIn times cmp alone n m bs → m.left + m.right ≤ length (all_content updates_of (take (width_of alone) (drop n bs)))
   in_sources bs true n m is =
       let l = is.2.underway in
       let e = ap length (sources_one bs n is.0 is.1) ∙ all_length is.0.updates [] in
@@ -133,11 +134,11 @@ module _ {T : Type 0} (below : T → T → Bool) (cmp : T → T → Ordering) (j
       omega (arith, l.left, l.right, e)
 
   -- no more is read than there is
-  pub reads_within : (bs : List (BatchState T)) (u : UnderwayState T) → IsAt below cmp joined met bs u → read_of u ≤ length (sources_of bs u)
+  pub reads_within : (bs : List (BatchState T)) (u : UnderwayState T) → IsAt times cmp bs u → read_of u ≤ length (sources_of bs u)
   reads_within bs u is = in_sources bs u.alone u.number u.merging is
 
   -- what a merge cost that is whole
-  pub put_spent : (bs : List (BatchState T)) (n u : UnderwayState T) (left fuel : ℕ) → IsAt below cmp joined met bs n → IsAt below cmp joined met bs u → IsSameMerge n u → read_of u + left ≡ read_of n + fuel → (left ≡ 0) ⊎ (unread_of bs u ≡ 0) → 1 ≤ left → (left - 1) + suc (unread_of bs n) ≡ fuel
+  pub put_spent : (bs : List (BatchState T)) (n u : UnderwayState T) (left fuel : ℕ) → IsAt times cmp bs n → IsAt times cmp bs u → IsSameMerge n u → read_of u + left ≡ read_of n + fuel → (left ≡ 0) ⊎ (unread_of bs u ≡ 0) → 1 ≤ left → (left - 1) + suc (unread_of bs n) ≡ fuel
   put_spent bs n u left fuel at there same e on more =
       let l = reads_within bs n at in
       let k = reads_within bs u there in
@@ -146,7 +147,7 @@ module _ {T : Type 0} (below : T → T → Bool) (cmp : T → T → Ordering) (j
 
   module _ (bs : List (BatchState T)) (u : UnderwayState T) (d : DescriptionState T) (us vs : List (Update T)) (has : HasSources bs u d us vs) where
     -- a merge that goes on stays at its place
-    pub stepped_at : (m : MergingState T) → m.description ≡ u.merging.description → IsUnderway below cmp joined met us vs m → IsAt below cmp joined met bs (record u { merging = m })
+    pub stepped_at : (m : MergingState T) → m.description ≡ u.merging.description → IsUnderway times cmp us vs m → IsAt times cmp bs (record u { merging = m })
     stepped_at m e is = has.back m (record {
       described = e ∙ has.of.described ∙ ap (λ (f : DescriptionState T). record d { since = f.since }) (sym e);
       underway = is;
@@ -168,33 +169,33 @@ module _ {T : Type 0} (below : T → T → Bool) (cmp : T → T → Ordering) (j
           record { left = omega (arith, e, none, l.left, l.right); right = omega (arith, e, none, l.left, l.right) }
 
       -- why a step or the end of a merge was refused
-      pub refused_at : (r : Refusal) → IsMemoryOrOverflow (HasLargeTotal below (compacted joined met u.merging.description.since (us ++ vs))) r → IsMemoryOrOverflow (HasLargeSources below joined met bs w) r
+      pub refused_at : (r : Refusal) → IsMemoryOrOverflow (HasLargeTotal times (compacted times u.merging.description.since (us ++ vs))) r → IsMemoryOrOverflow (HasLargeSources times bs w) r
       refused_at r h =
           ⊎_elim (λ e. inl e) (λ large. inr (
             large.0,
-            subst (λ (v : UnderwayState T). HasLargeSources below joined met bs v) same
-                (subst (λ ws. HasLargeTotal below (compacted joined met u.merging.description.since ws)) (sym has.sources) large.1),
+            subst (λ (v : UnderwayState T). HasLargeSources times bs v) same
+                (subst (λ ws. HasLargeTotal times (compacted times u.merging.description.since ws)) (sym has.sources) large.1),
           )) h
 
-module _ {T : Type 0} {below : T → T → Bool} (cmp : T → T → Ordering) {joined met : T → T → T} (o : PartialOrderLaws below) (l : LatticeLaws below joined met) (bs : List (BatchState T)) (u w : UnderwayState T) (same : u ≡ w) where
+module _ {T : Type 0} {times : Times T} (cmp : T → T → Ordering) (o : PartialOrderLaws times) (l : LatticeLaws times) (bs : List (BatchState T)) (u w : UnderwayState T) (same : u ≡ w) where
   -- a merge that has read all makes one batch for two
-  pub change_two : (x y merged : BatchState T) → TwoHere below cmp joined met bs u x y → merged.description ≡ u.merging.description → StandFor merged.updates (compacted joined met u.merging.description.since (x.updates ++ y.updates)) → IsChangeAs below bs w (Merged u.number merged)
+  pub change_two : (x y merged : BatchState T) → TwoHere times cmp bs u x y → merged.description ≡ u.merging.description → StandFor merged.updates (compacted times u.merging.description.since (x.updates ++ y.updates)) → IsChangeAs times bs w (Merged u.number merged)
   change_two x y merged h e stand =
       let since = ap (λ (d : DescriptionState T). d.since) e in
-      let is = subst (λ F. IsMergeOf below F merged x y) (sym since) (finished_merge o l u.merging.description.since merged x y (e ∙ h.has.of.described) stand) in
-      subst (λ (v : UnderwayState T). IsChangeAs below bs v (Merged u.number merged)) same (
+      let is = subst (λ F. IsMergeOf times F merged x y) (sym since) (finished_merge o l u.merging.description.since merged x y (e ∙ h.has.of.described) stand) in
+      subst (λ (v : UnderwayState T). IsChangeAs times bs v (Merged u.number merged)) same (
         h.two,
         refl,
         since,
         λ a b p q.
-            subst (λ (z : BatchState T). IsMergeOf below merged.description.since merged z b) (some_same (sym h.here ∙ p))
-            (subst (λ (z : BatchState T). IsMergeOf below merged.description.since merged x z) (some_same (sym h.next ∙ q)) is),
+            subst (λ (z : BatchState T). IsMergeOf times merged.description.since merged z b) (some_same (sym h.here ∙ p))
+            (subst (λ (z : BatchState T). IsMergeOf times merged.description.since merged x z) (some_same (sym h.next ∙ q)) is),
       )
 
   -- a rewriting that has read all makes one batch for one
-  pub change_one : (x rewritten : BatchState T) → OneHere below cmp joined met bs u x → rewritten.description ≡ u.merging.description → StandFor rewritten.updates (compacted joined met u.merging.description.since (x.updates ++ [])) → IsChangeAs below bs w (Rewritten u.number rewritten)
+  pub change_one : (x rewritten : BatchState T) → OneHere times cmp bs u x → rewritten.description ≡ u.merging.description → StandFor rewritten.updates (compacted times u.merging.description.since (x.updates ++ [])) → IsChangeAs times bs w (Rewritten u.number rewritten)
   change_one x rewritten h e stand =
       let since = ap (λ (d : DescriptionState T). d.since) e in
-      let is = subst (λ F. IsRewriteOf below F rewritten x) (sym since) (finished_rewrite o l u.merging.description.since rewritten x (e ∙ h.has.of.described) stand) in
-      subst (λ (v : UnderwayState T). IsChangeAs below bs v (Rewritten u.number rewritten)) same
-      (h.one, refl, since, λ a p. subst (λ (z : BatchState T). IsRewriteOf below rewritten.description.since rewritten z) (some_same (sym h.here ∙ p)) is)
+      let is = subst (λ F. IsRewriteOf times F rewritten x) (sym since) (finished_rewrite o l u.merging.description.since rewritten x (e ∙ h.has.of.described) stand) in
+      subst (λ (v : UnderwayState T). IsChangeAs times bs v (Rewritten u.number rewritten)) same
+      (h.one, refl, since, λ a p. subst (λ (z : BatchState T). IsRewriteOf times rewritten.description.since rewritten z) (some_same (sym h.here ∙ p)) is)

@@ -6,9 +6,10 @@ use Rattle.update.specs.declared.change.Update.{Update}
 use Rattle.update.specs.Updates.{HasLargeTotal}
 use Rattle.batch.specs.Compaction.{compacted}
 use Rattle.batch.specs.Descriptions.{DescriptionState, BatchState}
-use Rattle.batch.specs.Merging.{MergingState, IsUnderway}
+use Rattle.batch.specs.Merges.{MergingState, IsUnderway}
 use Rattle.trace.specs.Readings.{all_content}
 use Rattle.trace.specs.BatchLists.{BatchListState, IsMergeAt, IsRewriteAt, merged_at, updates_of}
+use Rattle.lattice.specs.Times.{Times}
 
 -- a merge of the batch with this number and the next one, or, alone, the rewriting of that batch
 pub record UnderwayState (T : Type 0) : Type 0 where
@@ -89,19 +90,19 @@ module _ {T : Type 0} where
     pub same : IsSameMerge before after
     pub read : read_of after ≡ read_of before + fuel
 
-module _ {T : Type 0} (below : T → T → Bool) where
+module _ {T : Type 0} (times : Times T) where
   -- the change that a merge makes when it is whole
   abbrev pub IsChangeAs : List (BatchState T) → UnderwayState T → Change T → Type 0
   IsChangeAs bs u (Merged i m) =
       (u.alone ≡ false)
       × (i ≡ u.number)
       × (m.description.since ≡ u.merging.description.since)
-      × IsMergeAt below m.description.since m i bs
+      × IsMergeAt times m.description.since m i bs
   IsChangeAs bs u (Rewritten i m) =
       (u.alone ≡ true)
       × (i ≡ u.number)
       × (m.description.since ≡ u.merging.description.since)
-      × IsRewriteAt below m.description.since m i bs
+      × IsRewriteAt times m.description.since m i bs
 
   -- the newest merge has read all, and its batch is in the place of those that it read: that cost
   -- one unit more than there was to read
@@ -121,24 +122,24 @@ module _ {T : Type 0} (below : T → T → Bool) where
     pub spent : left + suc (unread_of old.list.batches newest) ≡ fuel
 
   -- the total of some row at some moved time over what a merge reads is no 64-bit number
-  abbrev pub HasLargeSources : (T → T → T) → (T → T → T) → List (BatchState T) → UnderwayState T → Type 0
-  HasLargeSources joined met bs u =
-      HasLargeTotal below (compacted joined met u.merging.description.since (sources_of bs u))
+  abbrev pub HasLargeSources : List (BatchState T) → UnderwayState T → Type 0
+  HasLargeSources bs u =
+      HasLargeTotal times (compacted times u.merging.description.since (sources_of bs u))
 
   -- that is so for the newest merge
-  abbrev pub HasLargeNewest : (T → T → T) → (T → T → T) → LevelsState T → Type 0
-  HasLargeNewest joined met s =
+  abbrev pub HasLargeNewest : LevelsState T → Type 0
+  HasLargeNewest s =
       (older : List (UnderwayState T))
       × (newest : UnderwayState T)
       × (s.underway ≡ older ++ newest ∷ [])
-      × HasLargeSources joined met s.list.batches newest
+      × HasLargeSources s.list.batches newest
 
-module _ {T : Type 0} (below : T → T → Bool) (cmp : T → T → Ordering) (joined met : T → T → T) where
+module _ {T : Type 0} (times : Times T) (cmp : T → T → Ordering) where
   -- the merge is one of these two lists, and the batch to come has this description, but perhaps
   -- another since
   pub record IsOf (d : DescriptionState T) (us vs : List (Update T)) (m : MergingState T) : Type 0 where
     pub described : m.description ≡ record d { since = m.description.since }
-    pub underway : IsUnderway below cmp joined met us vs m
+    pub underway : IsUnderway times cmp us vs m
 
   -- the merge makes one batch of these two
   abbrev pub IsOfTwo : BatchState T → BatchState T → MergingState T → Type 0

@@ -6,7 +6,7 @@
 //! the newest merge ever changes the list before its end.
 ghost use Rattle.std.specs.Prelude.{◌≡◌, ◌≢◌, ◌↔◌, ◌⊎◌, ◌<◌, ◌≤◌, ◌+◌, ◌++◌, ◌∷◌, suc, List, [], None, IfErr, IfOk, IfSome, IsErrAnd, OnErr, OnOk, IsTrue, true, false, length};
 ghost use Rattle.antichain.specs.Antichains.{IsFrontier};
-ghost use Rattle.update.specs.Refusals.{IsMemoryOrOverflow};
+ghost use Rattle.update.specs.Refusals.{OnlyMemory, IsMemoryOrOverflow};
 ghost use Rattle.update.specs.declared.refusal.Refusal.{Refusal};
 ghost use Rattle.trace.specs.BatchLists.{Continues, IsBatchList, end_of, insertion_of, insertions_of};
 ghost use Rattle.levels.specs.Levels.{UnderwayState, AreUnderway, IsBegun, IsWithoutNewest, HasGoneOn, IsPut, HasLargeNewest, end_of_places, width_of};
@@ -47,7 +47,7 @@ impl<T: Lattice> Model for Levels<T> {
     ghost view = { λ s. record { list = s.list; underway = s.underway.items } };
 
     ghost invariant = { λ s.
-        AreUnderway T.below T.cmp T.joined T.met s.list.batches s.underway.items };
+        AreUnderway T.times T.cmp s.list.batches s.underway.items };
 }
 
 impl<T: Lattice> Levels<T> {
@@ -71,7 +71,7 @@ impl<T: Lattice> Levels<T> {
     /// The batches in order, each of which continues those before it. Takes no memory.
     pub fn batches(&self) -> &[Batch<T>]
         ensures value { result.now ≡ self.now.list.batches }
-        ensures known { IsBatchList T.below T.cmp self.now.list }
+        ensures known { IsBatchList T.times T.cmp self.now.list }
     {
         self.list.batches()
     }
@@ -79,7 +79,7 @@ impl<T: Lattice> Levels<T> {
     /// Tells the prover that each merge is at its place, and that no place begins before the end of
     /// the one before it. Costs nothing.
     pub fn known(&self)
-        ensures { AreUnderway T.below T.cmp T.joined T.met
+        ensures { AreUnderway T.times T.cmp
             self.now.list.batches self.now.underway }
     {
         // (a function knows the invariant if it uses a field)
@@ -92,7 +92,7 @@ impl<T: Lattice> Levels<T> {
         ensures room { OnOk result
             (self.new ≡ record self.old { list = record self.old.list { reserved = true } }) }
         ensures same { OnErr result (self.new ≡ self.old) }
-        ensures only { IfErr result (λ refused. refused ≡ Refusal.OutOfMemory) }
+        ensures only { OnlyMemory result }
     {
         self.list.reserve()
     }
@@ -115,7 +115,7 @@ impl<T: Lattice> Levels<T> {
         }) }
         ensures stands { OnOk result (insertions_of self.new.list.batches
             ≡ insertion_of batch ∷ insertions_of self.old.list.batches) }
-        ensures known { OnOk result (IsBatchList T.below T.cmp self.new.list) }
+        ensures known { OnOk result (IsBatchList T.times T.cmp self.new.list) }
         ensures same { OnErr result (self.new ≡ record self.old {
           list = record self.old.list { reserved = self.new.list.reserved };
         }) }
@@ -172,12 +172,12 @@ impl<T: Lattice> Levels<T> {
     pub fn begin_two(&mut self, i: usize, since: &[T]) -> Result<(), Refusal>
         requires within { suc i < length self.old.list.batches }
         requires behind { end_of_places 0 self.old.underway ≤ i }
-        requires frontier { IsFrontier T.below T.cmp since.now }
+        requires frontier { IsFrontier T.times T.cmp since.now }
         ensures begun { OnOk result ((u : UnderwayState T)
             × (self.new ≡ record self.old { underway = self.old.underway ++ u ∷ [] })
             × IsBegun i false since.now u) }
         ensures same { OnErr result (self.new ≡ self.old) }
-        ensures only { IfErr result (λ refused. refused ≡ Refusal.OutOfMemory) }
+        ensures only { OnlyMemory result }
     {
         self.underway.reserve(1)?;
         let begun = Underway::of_two(self.list.batches(), i, since)?;
@@ -193,12 +193,12 @@ impl<T: Lattice> Levels<T> {
     pub fn begin_one(&mut self, i: usize, since: &[T]) -> Result<(), Refusal>
         requires within { i < length self.old.list.batches }
         requires behind { end_of_places 0 self.old.underway ≤ i }
-        requires frontier { IsFrontier T.below T.cmp since.now }
+        requires frontier { IsFrontier T.times T.cmp since.now }
         ensures begun { OnOk result ((u : UnderwayState T)
             × (self.new ≡ record self.old { underway = self.old.underway ++ u ∷ [] })
             × IsBegun i true since.now u) }
         ensures same { OnErr result (self.new ≡ self.old) }
-        ensures only { IfErr result (λ refused. refused ≡ Refusal.OutOfMemory) }
+        ensures only { OnlyMemory result }
     {
         self.underway.reserve(1)?;
         let begun = Underway::of_one(self.list.batches(), i, since)?;
@@ -233,10 +233,10 @@ impl<T: Lattice> Levels<T> {
         ensures on { IfOk result
             (λ step. ((step.left ≡ 0) × (step.copies ≡ fuel) × HasGoneOn fuel self.old self.new)
             ⊎ ((step.left + suc step.copies ≡ fuel)
-            × IsPut T.below fuel step.left self.old self.new)) }
+            × IsPut T.times fuel step.left self.old self.new)) }
         ensures gone { OnErr result (IsWithoutNewest self.old self.new) }
         ensures refused { IfErr result
-            (IsMemoryOrOverflow (HasLargeNewest T.below T.joined T.met self.old)) }
+            (IsMemoryOrOverflow (HasLargeNewest T.times self.old)) }
     {
         let newest = self.underway.pop().unwrap();
         let (newest, left) = newest.step(self.list.batches(), fuel)?;

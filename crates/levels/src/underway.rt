@@ -7,7 +7,7 @@
 //! [`step`](Underway::step) and [`put`](Underway::put) are the same for both.
 ghost use Rattle.std.specs.Prelude.{◌≡◌, ◌⊎◌, ◌<◌, ◌+◌, suc, Some, true, false, IfErr, IfOk, OnErr, OnOk, length, slice_get};
 ghost use Rattle.antichain.specs.Antichains.{IsFrontier};
-ghost use Rattle.update.specs.Refusals.{IsMemoryOrOverflow};
+ghost use Rattle.update.specs.Refusals.{OnlyMemory, IsMemoryOrOverflow};
 ghost use Rattle.update.specs.declared.refusal.Refusal.{Refusal};
 ghost use Rattle.batch.specs.Descriptions.{BatchState, Follows};
 ghost use Rattle.levels.specs.Levels.{Change, IsAt, IsBegun, IsChangeAs, IsSameMerge, HasLargeSources, changed, read_of, unread_of, width_of};
@@ -60,12 +60,12 @@ impl<T: Lattice> Underway<T> {
         since: &[T],
     ) -> Result<Underway<T>, Refusal>
         requires within { suc number < length batches.now }
-        requires frontier { IsFrontier T.below T.cmp since.now }
+        requires frontier { IsFrontier T.times T.cmp since.now }
         requires follows { (a b : BatchState T) → slice_get batches.now number ≡ Some a
             → slice_get batches.now (suc number) ≡ Some b → Follows a.description b.description }
-        ensures at { IfOk result (IsAt T.below T.cmp T.joined T.met batches.now) }
+        ensures at { IfOk result (IsAt T.times T.cmp batches.now) }
         ensures begun { IfOk result (IsBegun number false since.now) }
-        ensures only { IfErr result (λ refused. refused ≡ Refusal.OutOfMemory) }
+        ensures only { OnlyMemory result }
     {
         let merging = Merging::of_two(&batches[number], &batches[number + 1], since)?;
         Ok(Underway {
@@ -82,10 +82,10 @@ impl<T: Lattice> Underway<T> {
         since: &[T],
     ) -> Result<Underway<T>, Refusal>
         requires within { number < length batches.now }
-        requires frontier { IsFrontier T.below T.cmp since.now }
-        ensures at { IfOk result (IsAt T.below T.cmp T.joined T.met batches.now) }
+        requires frontier { IsFrontier T.times T.cmp since.now }
+        ensures at { IfOk result (IsAt T.times T.cmp batches.now) }
         ensures begun { IfOk result (IsBegun number true since.now) }
-        ensures only { IfErr result (λ refused. refused ≡ Refusal.OutOfMemory) }
+        ensures only { OnlyMemory result }
     {
         let merging = Merging::of_one(&batches[number], since)?;
         Ok(Underway {
@@ -109,13 +109,13 @@ impl<T: Lattice> Underway<T> {
     // Reads as many more updates as the fuel says, or all that are left, and answers what is left
     // of the fuel.
     pub(crate) fn step(self, batches: &[Batch<T>], fuel: u64) -> Result<(Underway<T>, u64), Refusal>
-        requires { IsAt T.below T.cmp T.joined T.met batches.now self }
-        ensures at { IfOk result (λ new. IsAt T.below T.cmp T.joined T.met batches.now new.0) }
+        requires { IsAt T.times T.cmp batches.now self }
+        ensures at { IfOk result (λ new. IsAt T.times T.cmp batches.now new.0) }
         ensures same { IfOk result (λ new. IsSameMerge self new.0) }
         ensures spent { IfOk result (λ new. read_of new.0 + new.1 ≡ read_of self + fuel) }
         ensures on { IfOk result (λ new. (new.1 ≡ 0) ⊎ (unread_of batches.now new.0 ≡ 0)) }
         ensures refused { IfErr result
-            (IsMemoryOrOverflow (HasLargeSources T.below T.joined T.met batches.now self)) }
+            (IsMemoryOrOverflow (HasLargeSources T.times batches.now self)) }
     {
         if self.is_alone {
             self.step_of_one(batches, fuel)
@@ -126,16 +126,16 @@ impl<T: Lattice> Underway<T> {
 
     // Puts the batch that was made in the place of those that were read.
     pub(crate) fn put(self, list: &mut BatchList<T>) -> Result<(), Refusal>
-        requires at { IsAt T.below T.cmp T.joined T.met list.old.batches self }
+        requires at { IsAt T.times T.cmp list.old.batches self }
         requires read { unread_of list.old.batches self ≡ 0 }
         ensures changed { OnOk result ((c : Change T)
             × (list.new ≡ record list.old {
               batches = changed c list.old.batches;
               reserved = list.new.reserved;
-            }) × IsChangeAs T.below list.old.batches self c) }
+            }) × IsChangeAs T.times list.old.batches self c) }
         ensures same { OnErr result (list.new ≡ list.old) }
         ensures refused { IfErr result
-            (IsMemoryOrOverflow (HasLargeSources T.below T.joined T.met list.old.batches self)) }
+            (IsMemoryOrOverflow (HasLargeSources T.times list.old.batches self)) }
     {
         if self.is_alone {
             self.put_one(list)
@@ -146,14 +146,14 @@ impl<T: Lattice> Underway<T> {
 
     // A step of the merge of two batches.
     fn step_of_two(self, batches: &[Batch<T>], fuel: u64) -> Result<(Underway<T>, u64), Refusal>
-        requires at { IsAt T.below T.cmp T.joined T.met batches.now self }
+        requires at { IsAt T.times T.cmp batches.now self }
         requires two { self.alone ≡ false }
-        ensures at { IfOk result (λ new. IsAt T.below T.cmp T.joined T.met batches.now new.0) }
+        ensures at { IfOk result (λ new. IsAt T.times T.cmp batches.now new.0) }
         ensures same { IfOk result (λ new. IsSameMerge self new.0) }
         ensures spent { IfOk result (λ new. read_of new.0 + new.1 ≡ read_of self + fuel) }
         ensures on { IfOk result (λ new. (new.1 ≡ 0) ⊎ (unread_of batches.now new.0 ≡ 0)) }
         ensures refused { IfErr result
-            (IsMemoryOrOverflow (HasLargeSources T.below T.joined T.met batches.now self)) }
+            (IsMemoryOrOverflow (HasLargeSources T.times batches.now self)) }
     {
         let Underway {
             number,
@@ -171,14 +171,14 @@ impl<T: Lattice> Underway<T> {
 
     // A step of the rewriting of one batch.
     fn step_of_one(self, batches: &[Batch<T>], fuel: u64) -> Result<(Underway<T>, u64), Refusal>
-        requires at { IsAt T.below T.cmp T.joined T.met batches.now self }
+        requires at { IsAt T.times T.cmp batches.now self }
         requires one { self.alone ≡ true }
-        ensures at { IfOk result (λ new. IsAt T.below T.cmp T.joined T.met batches.now new.0) }
+        ensures at { IfOk result (λ new. IsAt T.times T.cmp batches.now new.0) }
         ensures same { IfOk result (λ new. IsSameMerge self new.0) }
         ensures spent { IfOk result (λ new. read_of new.0 + new.1 ≡ read_of self + fuel) }
         ensures on { IfOk result (λ new. (new.1 ≡ 0) ⊎ (unread_of batches.now new.0 ≡ 0)) }
         ensures refused { IfErr result
-            (IsMemoryOrOverflow (HasLargeSources T.below T.joined T.met batches.now self)) }
+            (IsMemoryOrOverflow (HasLargeSources T.times batches.now self)) }
     {
         let Underway {
             number,
@@ -196,17 +196,17 @@ impl<T: Lattice> Underway<T> {
 
     // Puts one batch in the place of two.
     fn put_two(self, list: &mut BatchList<T>) -> Result<(), Refusal>
-        requires at { IsAt T.below T.cmp T.joined T.met list.old.batches self }
+        requires at { IsAt T.times T.cmp list.old.batches self }
         requires two { self.alone ≡ false }
         requires read { unread_of list.old.batches self ≡ 0 }
         ensures changed { OnOk result ((c : Change T)
             × (list.new ≡ record list.old {
               batches = changed c list.old.batches;
               reserved = list.new.reserved;
-            }) × IsChangeAs T.below list.old.batches self c) }
+            }) × IsChangeAs T.times list.old.batches self c) }
         ensures same { OnErr result (list.new ≡ list.old) }
         ensures refused { IfErr result
-            (IsMemoryOrOverflow (HasLargeSources T.below T.joined T.met list.old.batches self)) }
+            (IsMemoryOrOverflow (HasLargeSources T.times list.old.batches self)) }
     {
         let Underway {
             number,
@@ -221,17 +221,17 @@ impl<T: Lattice> Underway<T> {
 
     // Puts the rewritten batch in the place of the old one.
     fn put_one(self, list: &mut BatchList<T>) -> Result<(), Refusal>
-        requires at { IsAt T.below T.cmp T.joined T.met list.old.batches self }
+        requires at { IsAt T.times T.cmp list.old.batches self }
         requires one { self.alone ≡ true }
         requires read { unread_of list.old.batches self ≡ 0 }
         ensures changed { OnOk result ((c : Change T)
             × (list.new ≡ record list.old {
               batches = changed c list.old.batches;
               reserved = list.new.reserved;
-            }) × IsChangeAs T.below list.old.batches self c) }
+            }) × IsChangeAs T.times list.old.batches self c) }
         ensures same { OnErr result (list.new ≡ list.old) }
         ensures refused { IfErr result
-            (IsMemoryOrOverflow (HasLargeSources T.below T.joined T.met list.old.batches self)) }
+            (IsMemoryOrOverflow (HasLargeSources T.times list.old.batches self)) }
     {
         let Underway {
             number,

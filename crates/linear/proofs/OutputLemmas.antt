@@ -1,6 +1,6 @@
 -- The output of a linear node for the lists at all its ports: one list, no larger than the node's
 -- bound, whose sum is the operator's output for the sums.
-use Rattle.std.proofs.Common.{ℕ, ◌≤◌, Bool, List, ◌++◌, IsTrue, refl, ap, sym, arith}
+use Rattle.std.proofs.Common.{ℕ, ◌≤◌, List, ◌++◌, IsTrue, refl, ap, sym, arith}
 use Rattle.std.proofs.lemmas.Bool.{true≢false}
 use Rattle.update.specs.Bags.{Alike, count_of}
 use Rattle.update.specs.Updates.{as_of}
@@ -14,6 +14,7 @@ use Rattle.plan.specs.declared.node.Node.TheVariants.{Concat, Join, Reduce}
 use Rattle.linear.specs.Applied.{linear_output}
 use Rattle.linear.proofs.SizeLemmas.{summed_size_applied}
 use Rattle.linear.proofs.SumLemmas.{as_of-append, applied_sums}
+use Rattle.lattice.specs.Times.{Times}
 
 module _ {T : Type 0} where
   -- the output for all ports; only a concat has two lists, and joins and reductions are not meant
@@ -28,10 +29,10 @@ module _ {T : Type 0} where
   whole_output-le (Reduce kind source) l own lists = absurd (true≢false (sym l))
   whole_output-le node l own lists = summed_size_applied node (lists 0)
 
-  module _ (below : T → T → Bool) (t : T) where
+  module _ (times : Times T) (t : T) where
     -- if the lists sum to bags, then the output sums to the operator's output for the bags
-    pub whole_output_sums : (k : ℕ) (node : Node) → IsTrue (is_linear node) → (lists : ℕ → List (Update T)) → Alike (as_of below t (whole_output node lists)) (operator_output k node (λ port. as_of below t (lists port)))
-    whole_output_sums k (Concat left right) l lists row = ap (λ es. count_of es row) (as_of-append below t (lists 0) (lists 1))
+    pub whole_output_sums : (k : ℕ) (node : Node) → IsTrue (is_linear node) → (lists : ℕ → List (Update T)) → Alike (as_of times t (whole_output node lists)) (operator_output k node (λ port. as_of times t (lists port)))
+    whole_output_sums k (Concat left right) l lists row = ap (λ es. count_of es row) (as_of-append times t (lists 0) (lists 1))
     whole_output_sums k (Join left right) l lists row = absurd (true≢false (sym l))
     whole_output_sums k (Reduce kind source) l lists row = absurd (true≢false (sym l))
-    whole_output_sums k node l lists row = applied_sums below t k node l 0 refl (lists 0) row
+    whole_output_sums k node l lists row = applied_sums times t k node l 0 refl (lists 0) row

@@ -5,7 +5,7 @@ use Rattle.std.specs.List.{filter, list_all, AllByRecursion}
 use Rattle.std.proofs.lemmas.Bool.{cases_lt, and_parts, and_from}
 use Rattle.std.proofs.lemmas.Int.{ints, fits_signed_from_abs}
 use Rattle.std.proofs.lemmas.List.Elements.{All-from_recursion}
-use Rattle.row.specs.Testing.{passes}
+use Rattle.row.specs.Filters.{passes}
 use Rattle.row.specs.declared.projection.Item.{Item}
 use Rattle.update.specs.Updates.{size}
 use Rattle.update.specs.declared.change.Update.{Update}

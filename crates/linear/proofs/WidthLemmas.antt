@@ -4,7 +4,7 @@ use Rattle.std.proofs.lemmas.Bool.{and_parts, and_from, eqb-true, eq-eqb, trueâ‰
 use Rattle.std.proofs.lemmas.List.{length-map}
 use Rattle.std.proofs.lemmas.Option.{none-some, same_Some}
 use Rattle.row.specs.Projection.{projection, item_value, are_within}
-use Rattle.row.specs.Testing.{passes, is_test_within}
+use Rattle.row.specs.Filters.{passes, is_test_within}
 use Rattle.row.specs.declared.projection.Item.{Item}
 use Rattle.update.specs.declared.refusal.Refusal.TheVariants.{BadColumn, WidthMismatch, BadWidth}
 use Rattle.update.specs.declared.change.Update.{Update}

@@ -4,7 +4,7 @@ use Rattle.std.specs.Prelude.{List, map, FitsSigned, neg_ℤ}
 use Rattle.std.specs.Int.{w64}
 use Rattle.std.specs.List.{filter, Any}
 use Rattle.row.specs.Projection.{projection}
-use Rattle.row.specs.Testing.{passes}
+use Rattle.row.specs.Filters.{passes}
 use Rattle.row.specs.declared.projection.Item.{Item}
 use Rattle.update.specs.declared.change.Update.{Update}
 use Rattle.plan.specs.declared.node.Node.{Node}

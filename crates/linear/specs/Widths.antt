@@ -2,7 +2,7 @@
 use Rattle.std.specs.Prelude.{ℕ, Bool, true, ◌&&◌, List, length, eqb}
 use Rattle.std.specs.List.{list_all}
 use Rattle.row.specs.Projection.{are_within}
-use Rattle.row.specs.Testing.{is_test_within}
+use Rattle.row.specs.Filters.{is_test_within}
 use Rattle.row.specs.declared.projection.Item.{Item}
 use Rattle.update.specs.declared.change.Update.{Update}
 use Rattle.plan.specs.Rules.{is_width}

@@ -6,7 +6,7 @@
 //! them already. So no operator allocates.
 ghost use Rattle.std.specs.Prelude.{◌≡◌, ◌≤◌, ◌↔◌, ℕ, Bool, map, length, IfErr, IsErr, OnErr, OnOk, IsTrue, false};
 ghost use Rattle.std.specs.List.{filter, list_all};
-ghost use Rattle.row.specs.Testing.{passes, is_test_within};
+ghost use Rattle.row.specs.Filters.{passes, is_test_within};
 ghost use Rattle.update.specs.Bags.{Alike};
 ghost use Rattle.update.specs.Updates.{as_of, size};
 ghost use Rattle.plan.specs.Operators.{operator_output};
@@ -122,8 +122,8 @@ pub fn apply<T: Lattice>(node: &Node, updates: &mut Vec<Update<T>>) -> Result<()
     ensures applied { OnOk result
         (updates.new.items ≡ linear_output node.now updates.old.items) }
     ensures sums { OnOk result ((k port : ℕ) (t : T) → IsTrue (is_port node.now port)
-        → Alike (as_of T.below t updates.new.items)
-        (operator_output k node.now (at_port port (as_of T.below t updates.old.items)))) }
+        → Alike (as_of T.times t updates.new.items)
+        (operator_output k node.now (at_port port (as_of T.times t updates.old.items)))) }
     ensures times { OnOk result ((p : T → Bool)
         → IsTrue (list_all (λ u. p u.time) updates.old.items)
         → IsTrue (list_all (λ u. p u.time) updates.new.items)) }

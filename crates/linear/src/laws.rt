@@ -26,15 +26,15 @@ pub fn pieces_add_up<T: Lattice>()
         → linear_output node (us ++ vs) ≡ linear_output node us ++ linear_output node vs }
     ensures sums { (k : ℕ) (node : Node) → IsTrue (is_linear node) → (port : ℕ)
         → IsTrue (is_port node port) → (us : List (Update T)) (t : T)
-        → Alike (as_of T.below t (linear_output node us))
-        (operator_output k node (at_port port (as_of T.below t us))) }
+        → Alike (as_of T.times t (linear_output node us))
+        (operator_output k node (at_port port (as_of T.times t us))) }
     ensures goes_on { (k : ℕ) (node : Node) → IsTrue (is_linear node) → (port : ℕ)
         → IsTrue (is_port node port)
         → (received : ℕ → List (Update T)) (emitted us : List (Update T)) (t : T)
-        → Alike (as_of T.below t emitted)
-        (operator_output k node (λ p. as_of T.below t (received p)))
-        → Alike (as_of T.below t (linear_output node us ++ emitted))
-        (operator_output k node (λ p. as_of T.below t (with_more_at port us received p))) }
+        → Alike (as_of T.times t emitted)
+        (operator_output k node (λ p. as_of T.times t (received p)))
+        → Alike (as_of T.times t (linear_output node us ++ emitted))
+        (operator_output k node (λ p. as_of T.times t (with_more_at port us received p))) }
     ensures size { (node : Node) (us : List (Update T)) → size (linear_output node us) ≤ size us }
     ensures large { (node : Node) (us : List (Update T)) → Overflows node us → 2 ^ 63 ≤ size us }
 {}

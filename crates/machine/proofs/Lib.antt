@@ -1,4 +1,4 @@
 -- The proofs of this crate, in two rooms: those of histories, and those of the board, which may use
 -- the former.
 pub mod BoardLemmas
-pub mod CrossingLemmas
+pub mod CrossLemmas

@@ -5,7 +5,8 @@
 pub mod Reads
 pub mod Routings
 pub mod Pieces
-use Rattle.std.specs.Prelude.{◌≡◌, ℕ, suc, ◌<◌, ◌≤◌, Bool, ◌||◌, if◌then◌else◌, List, [], ◌∷◌, ◌++◌, length, set, get_or, replicate, Option, Some, None, IsTrue, ⊤}
+use Rattle.std.specs.Prelude.{◌≡◌, ℕ, suc, ◌<◌, ◌≤◌, ◌||◌, if◌then◌else◌, List, [], ◌∷◌, ◌++◌, length, set, get_or, replicate, Option, Some, None, IsTrue, ⊤}
+use Rattle.lattice.specs.Times.{Times}
 use Rattle.lattice.specs.Frontiers.{is_beyond}
 use Rattle.update.specs.Bags.{Alike, Entry}
 use Rattle.update.specs.Updates.{as_of, size}
@@ -148,18 +149,18 @@ module _ {T : Type 0} where
     last = Take number bundle;
   }
 
-module _ {T : Type 0} (below : T → T → Bool) where
+module _ {T : Type 0} (times : Times T) where
   -- the refusal of a change, and of times as an input's next frontier or as a view's next since, if
   -- there is one
   abbrev pub feed_refusal : BoardState T → Fed T → Option Refusal
   feed_refusal b f = first_refusal
-      (feed_faults below b.dataflow.nodes (front_at f.input b.inputs) (get_or b.accepted f.input 0) f)
+      (feed_faults times b.dataflow.nodes (front_at f.input b.inputs) (get_or b.accepted f.input 0) f)
 
   abbrev pub advance_refusal : BoardState T → ℕ → List T → Option Refusal
-  advance_refusal b i ts = first_refusal (advance_faults below (front_at i b.inputs) ts)
+  advance_refusal b i ts = first_refusal (advance_faults times (front_at i b.inputs) ts)
 
   abbrev pub allow_refusal : BoardState T → ℕ → List T → Option Refusal
-  allow_refusal b v ts = first_refusal (advance_faults below (get_or b.views v no_view).since ts)
+  allow_refusal b v ts = first_refusal (advance_faults times (get_or b.views v no_view).since ts)
 
 -- the dataflow with which the board was opened. No event changes it
 abbrev pub opened_dataflow : {T : Type 0} → BoardState T → Dataflow
@@ -169,21 +170,21 @@ opened_dataflow b = b.dataflow
 abbrev pub plan_on : {T : Type 0} → BoardState T → List (Event T) → Dataflow
 plan_on b h = dataflow_after (opened_dataflow b) h
 
-module _ {T : Type 0} (below : T → T → Bool) (minimum : T) where
+module _ {T : Type 0} (times : Times T) where
   -- the state that a history leaves, if it began with the board's dataflow
   abbrev pub state_on : BoardState T → List (Event T) → State T
-  state_on b h = state_after below minimum (opened_dataflow b) h
+  state_on b h = state_after times (opened_dataflow b) h
 
   -- the frontiers of a node after a history of the board
   abbrev pub frontier_on : BoardState T → List (Event T) → ℕ → List T
-  frontier_on b h n = frontier below (plan_on b h) (state_on b h) n
+  frontier_on b h n = frontier times (plan_on b h) (state_on b h) n
 
   abbrev pub input_frontier_on : BoardState T → List (Event T) → ℕ → List T
-  input_frontier_on b h n = input_frontier below (plan_on b h) (state_on b h) n
+  input_frontier_on b h n = input_frontier times (plan_on b h) (state_on b h) n
 
   -- the input frontier of one port after a history of the board
   abbrev pub port_frontier_on : BoardState T → List (Event T) → ℕ → ℕ → List T
-  port_frontier_on b h n port = port_frontier below (plan_on b h) (state_on b h) n port
+  port_frontier_on b h n port = port_frontier times (plan_on b h) (state_on b h) n port
 
   -- the times that a worker holds at a node after a history of the board
   abbrev pub held_on : BoardState T → List (Event T) → ℕ → ℕ → List T
@@ -194,16 +195,16 @@ module _ {T : Type 0} (below : T → T → Bool) (minimum : T) where
   changes_on b h = changes_in (state_on b h)
 
   abbrev pub query_on : BoardState T → List (Event T) → ℕ → T → List Entry
-  query_on b h view t = query_at below (plan_on b h).nodes (changes_on b h) view t
+  query_on b h view t = query_at times (plan_on b h).nodes (changes_on b h) view t
 
   -- a worker may give this after a history of the board
   abbrev pub IsGiveOn : BoardState T → List (Event T) → Emission T → List T → List (Bundle T)
       → Type 0
-  IsGiveOn b h g ts sent = IsGive below (plan_on b h) (state_on b h) g ts sent
+  IsGiveOn b h g ts sent = IsGive times (plan_on b h) (state_on b h) g ts sent
 
   -- the board is quiet after the history
   abbrev pub IsQuietOn : BoardState T → List (Event T) → Type 0
-  IsQuietOn b h = IsQuiet below (plan_on b h) (state_on b h)
+  IsQuietOn b h = IsQuiet times (plan_on b h) (state_on b h)
 
   -- the board's last event is the newest event of the history
   abbrev pub IsLast : BoardState T → List (Event T) → Type 0
@@ -213,14 +214,14 @@ module _ {T : Type 0} (below : T → T → Bool) (minimum : T) where
   -- what a view keeps of what was given to it: the same sums at each time beyond its since, and at
   -- every time if nothing was given up; and its absolute diffs add up to no more
   pub record IsKeptOf (since : List T) (captured emitted : List (Update T)) : Type 0 where
-    pub sums : (t : T) → IsTrue (is_from_start below minimum since || is_beyond below since t)
-        → Alike (as_of below t captured) (as_of below t emitted)
+    pub sums : (t : T) → IsTrue (is_from_start times since || is_beyond times since t)
+        → Alike (as_of times t captured) (as_of times t emitted)
     pub small : size captured ≤ size emitted
 
   -- the board may stand for a history: the history is legal, and at each place the board has what
   -- the history leaves there. The board may keep the places in any order
   pub record Stands (b : BoardState T) (h : List (Event T)) : Type 0 where
-    pub legal : IsLegal below minimum (opened_dataflow b) h
+    pub legal : IsLegal times (opened_dataflow b) h
     pub queues : (site : Site) → queue_of b.stations site ≡ queue site (state_on b h).in_flight
     pub held : (n k : ℕ) → (lot_of b.stations n k).held ≡ held_at n k (state_on b h).held
     pub open_times : (i : ℕ) → front_at i b.inputs ≡ open_at i (state_on b h).open_times

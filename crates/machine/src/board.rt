@@ -7,8 +7,8 @@
 //! `Stands` says which histories a board may stand for. Every event keeps one invariant: if the
 //! board may stand for a history before the call, it stands afterwards for that history with one
 //! event more.
-ghost use Rattle.std.specs.Prelude.{◌≡◌, ◌≤◌, List, [], ◌∷◌, None, IfErr, IfOk, replicate};
-ghost use Rattle.update.specs.declared.refusal.Refusal.TheVariants.{OutOfMemory};
+ghost use Rattle.std.specs.Prelude.{◌≡◌, ◌≤◌, List, [], ◌∷◌, None, IfOk, replicate};
+ghost use Rattle.update.specs.Refusals.{OnlyMemory};
 ghost use Rattle.histories.specs.Histories.Dataflows.{IsDataflow};
 ghost use Rattle.histories.specs.declared.event.Event.{Event};
 ghost use Rattle.machine.specs.Boards.{BoardState, IsBoard, Stands, first_board, after_look};
@@ -81,9 +81,9 @@ impl<T: Minimum> Board<T> {
     pub fn open(alloc: Global, plan: Plan, workers: usize) -> Result<Board<T>, Refusal>
         requires { 1 ≤ workers }
         ensures first { IfOk result (λ board.
-            board ≡ first_board T.least (record { nodes = plan; workers = workers })) }
-        ensures stands { IfOk result (λ board. Stands T.below T.least board []) }
-        ensures refused { IfErr result (λ refusal. refusal ≡ OutOfMemory) }
+            board ≡ first_board T.times.least (record { nodes = plan; workers = workers })) }
+        ensures stands { IfOk result (λ board. Stands T.times board []) }
+        ensures refused { OnlyMemory result }
     {
         Board::first(alloc, plan, workers)
     }
@@ -92,8 +92,8 @@ impl<T: Minimum> Board<T> {
     fn first(alloc: Global, plan: Plan, workers: usize) -> Result<Board<T>, Refusal>
         requires { 1 ≤ workers }
         ensures first { IfOk result (λ board.
-            board ≡ first_board T.least (record { nodes = plan; workers = workers })) }
-        ensures refused { IfErr result (λ refusal. refusal ≡ OutOfMemory) }
+            board ≡ first_board T.times.least (record { nodes = plan; workers = workers })) }
+        ensures refused { OnlyMemory result }
     {
         let nodes = plan.len();
         let accounts = Accounts::first(alloc, plan, workers)?;
@@ -152,8 +152,8 @@ impl<T: Minimum> Board<T> {
     /// A client or worker looks, and the board stays as it is. Takes no memory.
     pub fn look(&mut self, actor: usize)
         ensures looked { self.new ≡ after_look actor self.old }
-        ensures stands { (h : List (Event T)) → Stands T.below T.least self.old h
-            → Stands T.below T.least self.new (self.new.last ∷ h) }
+        ensures stands { (h : List (Event T)) → Stands T.times self.old h
+            → Stands T.times self.new (self.new.last ∷ h) }
     {
         self.note(Snapshot::of(&Event::Look { actor }));
     }
@@ -162,7 +162,7 @@ impl<T: Minimum> Board<T> {
 // The list of hands when no worker has a piece in hand.
 fn empty_hands(alloc: Global, workers: usize) -> Result<Vec<Option<NodeId>>, Refusal>
     ensures empty { IfOk result (λ hand. hand.items ≡ replicate workers None) }
-    ensures refused { IfErr result (λ refusal. refusal ≡ OutOfMemory) }
+    ensures refused { OnlyMemory result }
 {
     let mut hand = Vec::new(alloc);
     for _worker in 0..workers {
@@ -174,7 +174,7 @@ fn empty_hands(alloc: Global, workers: usize) -> Result<Vec<Option<NodeId>>, Ref
 // The counts when no input has accepted a change.
 fn no_changes(alloc: Global, nodes: usize) -> Result<Vec<usize>, Refusal>
     ensures none { IfOk result (λ accepted. accepted.items ≡ replicate nodes 0) }
-    ensures refused { IfErr result (λ refusal. refusal ≡ OutOfMemory) }
+    ensures refused { OnlyMemory result }
 {
     let mut accepted = Vec::new(alloc);
     for _node in 0..nodes {
@@ -186,8 +186,8 @@ fn no_changes(alloc: Global, nodes: usize) -> Result<Vec<usize>, Refusal>
 // The views before the first event: none has captured anything, and each may be read at all times.
 fn first_views<T: Minimum>(alloc: Global, nodes: usize) -> Result<Vec<View<T>>, Refusal>
     ensures first { IfOk result (λ views.
-        views.items ≡ replicate nodes (record { since = T.least ∷ []; captured = [] })) }
-    ensures refused { IfErr result (λ refusal. refusal ≡ OutOfMemory) }
+        views.items ≡ replicate nodes (record { since = T.times.least ∷ []; captured = [] })) }
+    ensures refused { OnlyMemory result }
 {
     let mut views = Vec::new(alloc);
     for _node in 0..nodes {

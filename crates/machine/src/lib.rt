@@ -20,15 +20,15 @@
 //! counts what is outstanding, and keeps the frontiers that somebody asks about.
 //!
 //! The events and the theorems stand in the crate `histories`. What waits, what is held and the
-//! inputs' frontiers stand in `accounts`, with the tally that counts them, and what is kept of views
-//! in `views`. This crate joins them to a board, and hands their names on.
+//! inputs' frontiers stand in `accounts`, with the tally that counts them, and what is kept of
+//! views in `views`. This crate joins them to a board, and hands their names on.
 //!
 //! A client calls `feed`, `advance`, `close`, `allow` and `look`, and reads by `frontier`, `read`,
 //! `changes` and `is_quiet`. A worker finds work by `waiting_at` or `is_ready` and starts on it by
 //! `take` or `take_held`. It computes up to the node's `input_frontier`, cuts the output by `cut`,
 //! and gives it by `give`. `cut` belongs to a [`Routing`], which is made once from the plan and the
-//! number of workers. How far one port of a node has come, `port_frontier` tells: a worker that knows
-//! it may let go of what only earlier times would need.
+//! number of workers. How far one port of a node has come, `port_frontier` tells: a worker that
+//! knows it may let go of what only earlier times would need.
 //!
 //! A worker that gives has two duties. The first is the node law: at every time that is not beyond
 //! the times it still holds, what it gave is what the node makes of what it received. This makes

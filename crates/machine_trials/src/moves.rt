@@ -1,5 +1,5 @@
-//! What clients and workers do in several of these trials: one call of a board each. The asserts show
-//! what the call requires. The first node of each plan is an input of one column.
+//! What clients and workers do in several of these trials: one call of a board each. The asserts
+//! show what the call requires. The first node of each plan is an input of one column.
 use lattice::Bitime;
 use machine::{Board, Emission, Routing, Site};
 use plan::NodeId;
@@ -72,7 +72,8 @@ pub(crate) fn gave(
     }
 }
 
-// Worker 0 takes the first bundle that waits at the first port of a node, and gives its updates there.
+// Worker 0 takes the first bundle that waits at the first port of a node, and gives its updates
+// there.
 pub(crate) fn passed_on(
     rt: &impl Abort,
     alloc: Global,

@@ -1,6 +1,6 @@
-//! One worker of two goes on as far as it can. What waits for the other keeps the frontier of the view
-//! back, and nothing else does: so the view is right at every pair that this leaves passed, also where
-//! it cannot be compared with what waits.
+//! One worker of two goes on as far as it can. What waits for the other keeps the frontier of the
+//! view back, and nothing else does: so the view is right at every pair that this leaves passed,
+//! also where it cannot be compared with what waits.
 ghost use Rattle.std.specs.Prelude.{◌≡◌, ◌<◌, None, IsTrue, get_or, length};
 ghost use Rattle.plan.specs.Nodes.{is_output};
 ghost use Rattle.histories.specs.Histories.Dataflows.{node_of};
@@ -17,8 +17,8 @@ use std::test::Fail;
 use trials::sketches::{at, built, input, view};
 use update::Refusal;
 
-// A board for two workers, with one input of one column and a view of it. The row 0 goes to worker 0,
-// and the row 1 to worker 1.
+// A board for two workers, with one input of one column and a view of it. The row 0 goes to worker
+// 0, and the row 1 to worker 1.
 fn prepared(rt: &impl Abort, alloc: Global) -> Result<Board<Bitime>, Refusal> {
     let mut board = Board::open(alloc, built(alloc, &[input(1), view(0)])?, 2)?;
     fed(rt, alloc, &mut board, 0, (0, 0))?;
@@ -35,7 +35,7 @@ fn taken<T: Minimum>(
 ) -> Result<Option<Bundle<T>>, Refusal>
     requires worker { worker < board.old.dataflow.workers }
     requires free { get_or board.old.hand worker None ≡ None }
-    requires piece { IsPiece T.below board.old worker piece.now }
+    requires piece { IsPiece T.times board.old worker piece.now }
 {
     match piece {
         Piece::Waiting { site, number } => {
@@ -46,7 +46,8 @@ fn taken<T: Minimum>(
     }
 }
 
-// Worker 0 takes its first bundle, and gives its updates where it was. False if no bundle waits for it.
+// Worker 0 takes its first bundle, and gives its updates where it was. False if no bundle waits for
+// it.
 fn stepped(rt: &impl Abort, alloc: Global, board: &mut Board<Bitime>) -> Result<bool, Refusal> {
     board.known();
     let is_free = board.in_hand(0).is_none();
@@ -79,8 +80,8 @@ fn the_view(rt: &impl Abort, board: &Board<Bitime>) -> NodeId
     view
 }
 
-// The frontier of the view is (1, 0) alone, the time of what waits: an earlier one would also be at or
-// before (0, 9), with which (1, 0) cannot be compared.
+// The frontier of the view is (1, 0) alone, the time of what waits: an earlier one would also be at
+// or before (0, 9), with which (1, 0) cannot be compared.
 fn stands_at_what_waits(rt: &impl Abort, board: &mut Board<Bitime>) -> Result<bool, Refusal> {
     let view = the_view(rt, board);
     let frontier = board.frontier(view)?;

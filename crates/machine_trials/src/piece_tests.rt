@@ -121,7 +121,7 @@ fn an_idle_board_has_no_pieces(rt: HostRuntime) -> Result<(), Fail> {
 fn started<T: Minimum>(board: &mut Board<T>, worker: usize, piece: &Piece) -> Result<(), Refusal>
     requires worker { worker < board.old.dataflow.workers }
     requires free { get_or board.old.hand worker None ≡ None }
-    requires piece { IsPiece T.below board.old worker piece.now }
+    requires piece { IsPiece T.times board.old worker piece.now }
 {
     match piece {
         Piece::Waiting { site, number } => {

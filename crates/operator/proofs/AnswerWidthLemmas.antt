@@ -23,6 +23,7 @@ use Rattle.plan.proofs.OperatorLemmas.{given_alike}
 use Rattle.reduce.specs.Kinds.{kind_answer, kind_reduces}
 use Rattle.operator.specs.Reductions.{HasRoom, have_width, state_key}
 use Rattle.operator.proofs.DistinctLemmas.{by_state_key, state_has_room}
+use Rattle.lattice.specs.Times.{Times}
 
 -- a key that a plan allows has at most 8 columns
 pub few : (kind : Kind) (key width : ℕ) → HasRoom kind key width → key ≤ 8
@@ -128,7 +129,7 @@ output_wide kind k width es h =
     (keys k es) (keys_wide k es)
 
 -- the sum of updates of one width has rows of this width
-pub sum_wide : {T : Type 0} (below : T → T → Bool) (t : T) (width : ℕ) (us : List (Update T)) → IsTrue (have_width width us) → list_all (λ (e : Entry). eqb (length e.row) width) (as_of below t us) ≡ true
-sum_wide {T} below t width us h =
-    list_all-map (λ (e : Entry). eqb (length e.row) width) entry (filter (λ u. below u.time t) us)
-    ∙ all_filter (λ (u : Update T). eqb (length u.row) width) (λ u. below u.time t) us h
+pub sum_wide : {T : Type 0} (times : Times T) (t : T) (width : ℕ) (us : List (Update T)) → IsTrue (have_width width us) → list_all (λ (e : Entry). eqb (length e.row) width) (as_of times t us) ≡ true
+sum_wide {T} times t width us h =
+    list_all-map (λ (e : Entry). eqb (length e.row) width) entry (filter (λ u. times.below u.time t) us)
+    ∙ all_filter (λ (u : Update T). eqb (length u.row) width) (λ u. times.below u.time t) us h

@@ -10,7 +10,7 @@ use Rattle.lattice.proofs.BoundLemmas.{same_test}
 use Rattle.std.proofs.lemmas.List.Sums.{sum_by-cons, sum_by_push}
 use Rattle.trace.specs.Holds.{HoldState}
 use Rattle.trace.proofs.BoundaryLemmas.{some_same, none_some}
-use Rattle.spine.specs.Holding.{AreSameHolds, IsMoved}
+use Rattle.spine.specs.HoldRules.{AreSameHolds, IsMoved}
 use Rattle.spine.proofs.HoldersLemmas.{hold_found, hold_moved}
 
 module _ {X : Type 0} (p : X → Bool) where

@@ -6,6 +6,7 @@ use Rattle.std.proofs.Math.Nat.{mul-le-mul_right}
 use Rattle.std.proofs.lemmas.Bool.{eqb-true, le-leb}
 use Rattle.std.proofs.lemmas.List.{length-drop}
 use Rattle.std.proofs.lemmas.List.Folds.{list_all-map}
+use Rattle.lattice.specs.Times.{Times}
 use Rattle.lattice.specs.Order.{PartialOrderLaws}
 use Rattle.lattice.specs.Frontiers.{is_beyond, all_beyond}
 use Rattle.lattice.proofs.FrontierLemmas.{all_more, beyond_itself}
@@ -20,37 +21,37 @@ use Rattle.batch.specs.Intervals.{all_times_beyond}
 use Rattle.join.specs.Pairs.{pairs, pairs_fit, fits, is_keyed, is_wide}
 use Rattle.join.specs.Sides.{all_rows_have}
 use Rattle.join.proofs.VisibleLemmas.{left_compacted, right_compacted}
-use Rattle.operator_laws.specs.Joining.{IsAnswer}
+use Rattle.operator_laws.specs.JoinNodes.{IsAnswer}
 use Rattle.operator.specs.Joins.{IsBatchOf}
 
-abbrev times : {T : Type 0} → List (Update T) → List T
-times us = map (λ u. u.time) us
+abbrev ts : {T : Type 0} → List (Update T) → List T
+ts us = map (λ u. u.time) us
 
-module _ {T : Type 0} (below : T → T → Bool) where
+module _ {T : Type 0} (times : Times T) where
   -- the times of updates as a list of their own
-  times_beyond : (G : List T) (us : List (Update T)) → all_beyond below G (times us) ≡ all_times_beyond below G us
-  times_beyond G us = list_all-map (is_beyond below G) (λ (u : Update T). u.time) us
+  times_beyond : (G : List T) (us : List (Update T)) → all_beyond times G (ts us) ≡ all_times_beyond times G us
+  times_beyond G us = list_all-map (is_beyond times G) (λ (u : Update T). u.time) us
 
-module _ {T : Type 0} {below : T → T → Bool} (o : PartialOrderLaws below) (joined : T → T → T) (join_below : (a b s : T) → below (joined a b) s ≡ (below a s && below b s)) (k : ℕ) (us bs vs out : List (Update T)) (batch : IsBatchOf below us bs)
-    (beyond : (G : List T) → IsTrue (all_times_beyond below G bs) → IsTrue (all_times_beyond below G out)) where
-  own_times : IsTrue (all_times_beyond below (times vs) vs)
-  own_times = sym (times_beyond below (times vs) vs) ∙ beyond_itself o (times vs)
+module _ {T : Type 0} {times : Times T} (o : PartialOrderLaws times) (join_below : (a b s : T) → times.below (times.joined a b) s ≡ (times.below a s && times.below b s)) (k : ℕ) (us bs vs out : List (Update T)) (batch : IsBatchOf times us bs)
+    (beyond : (G : List T) → IsTrue (all_times_beyond times G bs) → IsTrue (all_times_beyond times G out)) where
+  own_times : IsTrue (all_times_beyond times (ts vs) vs)
+  own_times = sym (times_beyond times (ts vs) vs) ∙ beyond_itself o (ts vs)
 
-  answer_beyond : (G : List T) → IsTrue (all_beyond below G (times us)) → IsTrue (all_beyond below G (times out))
+  answer_beyond : (G : List T) → IsTrue (all_beyond times G (ts us)) → IsTrue (all_beyond times G (ts out))
   answer_beyond G h =
-      times_beyond below G out
-      ∙ beyond G (batch.among (λ row t. is_beyond below G t) (sym (times_beyond below G us) ∙ h))
+      times_beyond times G out
+      ∙ beyond G (batch.among (λ row t. is_beyond times G t) (sym (times_beyond times G us) ∙ h))
 
-  pub left_answer : ((t : T) → Alike (as_of below t out) (as_of below t (pairs joined k bs vs))) → size out ≤ size bs * size vs → IsAnswer below (pairs joined k us vs) us vs out
+  pub left_answer : ((t : T) → Alike (as_of times t out) (as_of times t (pairs times k bs vs))) → size out ≤ size bs * size vs → IsAnswer times (pairs times k us vs) us vs out
   left_answer sums load = record {
-    sums = λ t row. sums t row ∙ left_compacted below joined join_below o k (times vs) bs us vs own_times (λ s _. batch.sums s) t row;
+    sums = λ t row. sums t row ∙ left_compacted times join_below o k (ts vs) bs us vs own_times (λ s _. batch.sums s) t row;
     smaller = let more = mul-le-mul_right (size vs) batch.smaller in omega (arith, load, more);
     beyond = answer_beyond;
   }
 
-  pub right_answer : ((t : T) → Alike (as_of below t out) (as_of below t (pairs joined k vs bs))) → size out ≤ size vs * size bs → IsAnswer below (pairs joined k vs us) us vs out
+  pub right_answer : ((t : T) → Alike (as_of times t out) (as_of times t (pairs times k vs bs))) → size out ≤ size vs * size bs → IsAnswer times (pairs times k vs us) us vs out
   right_answer sums load = record {
-    sums = λ t row. sums t row ∙ right_compacted below joined join_below o k (times vs) vs bs us own_times (λ s _. batch.sums s) t row;
+    sums = λ t row. sums t row ∙ right_compacted times join_below o k (ts vs) vs bs us own_times (λ s _. batch.sums s) t row;
     smaller =
         let more = mul-le-mul_right (size vs) batch.smaller in
         let turned : size vs * size bs ≡ size bs * size vs = turn (size vs) (size bs) in
@@ -63,21 +64,21 @@ module _ {T : Type 0} {below : T → T → Bool} (o : PartialOrderLaws below) (j
 
 -- what a call answers, if it answers
 
-module _ {T X E : Type 0} {below : T → T → Bool} (o : PartialOrderLaws below) (joined : T → T → T) (join_below : (a b s : T) → below (joined a b) s ≡ (below a s && below b s)) (k : ℕ) (us bs vs : List (Update T)) (batch : IsBatchOf below us bs) (items : X → List (Update T)) where
+module _ {T X E : Type 0} {times : Times T} (o : PartialOrderLaws times) (join_below : (a b s : T) → times.below (times.joined a b) s ≡ (times.below a s && times.below b s)) (k : ℕ) (us bs vs : List (Update T)) (batch : IsBatchOf times us bs) (items : X → List (Update T)) where
   pub left_answers : (r : Result X E)
-      → IfOk r (λ out. (t : T) → Alike (as_of below t (items out)) (as_of below t (pairs joined k bs vs)))
+      → IfOk r (λ out. (t : T) → Alike (as_of times t (items out)) (as_of times t (pairs times k bs vs)))
       → IfOk r (λ out. size (items out) ≤ size bs * size vs)
-      → IfOk r (λ out. (G : List T) → IsTrue (all_times_beyond below G bs) → IsTrue (all_times_beyond below G (items out)))
-      → IfOk r (λ out. IsAnswer below (pairs joined k us vs) us vs (items out))
-  left_answers (Ok out) sums load beyond = left_answer o joined join_below k us bs vs (items out) batch beyond sums load
+      → IfOk r (λ out. (G : List T) → IsTrue (all_times_beyond times G bs) → IsTrue (all_times_beyond times G (items out)))
+      → IfOk r (λ out. IsAnswer times (pairs times k us vs) us vs (items out))
+  left_answers (Ok out) sums load beyond = left_answer o join_below k us bs vs (items out) batch beyond sums load
   left_answers (Err e) sums load beyond = tt
 
   pub right_answers : (r : Result X E)
-      → IfOk r (λ out. (t : T) → Alike (as_of below t (items out)) (as_of below t (pairs joined k vs bs)))
+      → IfOk r (λ out. (t : T) → Alike (as_of times t (items out)) (as_of times t (pairs times k vs bs)))
       → IfOk r (λ out. size (items out) ≤ size vs * size bs)
-      → IfOk r (λ out. (G : List T) → IsTrue (all_times_beyond below G bs) → IsTrue (all_times_beyond below G (items out)))
-      → IfOk r (λ out. IsAnswer below (pairs joined k vs us) us vs (items out))
-  right_answers (Ok out) sums load beyond = right_answer o joined join_below k us bs vs (items out) batch beyond sums load
+      → IfOk r (λ out. (G : List T) → IsTrue (all_times_beyond times G bs) → IsTrue (all_times_beyond times G (items out)))
+      → IfOk r (λ out. IsAnswer times (pairs times k vs us) us vs (items out))
+  right_answers (Ok out) sums load beyond = right_answer o join_below k us bs vs (items out) batch beyond sums load
   right_answers (Err e) sums load beyond = tt
 
 -- what holds after an answer and after a refusal holds after the call
@@ -93,13 +94,13 @@ seal_refused (Err e) none large (inr (inl stray)) = absurd (none (ap (λ x. Err 
 seal_refused (Err e) none large (inr (inr overflow)) = inr (overflow, large (ap (λ x. Err x) overflow))
 
 -- what is sealed of updates stands in for them
-pub sealed_stands : {T X E : Type 0} (below : T → T → Bool) (items : X → List (Update T)) (us pushed : List (Update T)) → pushed ≡ us → (r : Result X E)
-    → IfOk r (λ b. (t : T) → Alike (as_of below t (items b)) (as_of below t pushed))
+pub sealed_stands : {T X E : Type 0} (times : Times T) (items : X → List (Update T)) (us pushed : List (Update T)) → pushed ≡ us → (r : Result X E)
+    → IfOk r (λ b. (t : T) → Alike (as_of times t (items b)) (as_of times t pushed))
     → IfOk r (λ b. size (items b) ≤ size pushed)
     → IfOk r (λ b. (p : List ℤ → T → Bool) → IsTrue (list_all (λ u. p u.row u.time) pushed) → IsTrue (list_all (λ u. p u.row u.time) (items b)))
-    → IfOk r (λ b. IsBatchOf below us (items b))
-sealed_stands below items us pushed e (Ok b) sums smaller among = subst (λ ws. IsBatchOf below ws (items b)) e (record { sums = sums; smaller = smaller; among = among })
-sealed_stands below items us pushed e (Err x) sums smaller among = tt
+    → IfOk r (λ b. IsBatchOf times us (items b))
+sealed_stands times items us pushed e (Ok b) sums smaller among = subst (λ ws. IsBatchOf times ws (items b)) e (record { sums = sums; smaller = smaller; among = among })
+sealed_stands times items us pushed e (Err x) sums smaller among = tt
 
 -- a product of sizes grows with its first factor
 pub grown_left : (n a b c : ℕ) → n ≤ a * c → a ≤ b → n ≤ b * c
@@ -140,5 +141,5 @@ pub pair_width : (k w v : ℕ) → k ≤ v → w + (v - k) ≡ w + v - k
 pair_width k w v g = omega (arith, g)
 
 -- rows of a batch have the width of the rows that it stands in for
-pub rows_of_batch : {T : Type 0} (below : T → T → Bool) (w : ℕ) (us bs : List (Update T)) → IsBatchOf below us bs → IsTrue (all_rows_have w us) → IsTrue (all_rows_have w bs)
-rows_of_batch below w us bs batch h = batch.among (λ row t. eqb (length row) w) h
+pub rows_of_batch : {T : Type 0} (times : Times T) (w : ℕ) (us bs : List (Update T)) → IsBatchOf times us bs → IsTrue (all_rows_have w us) → IsTrue (all_rows_have w bs)
+rows_of_batch times w us bs batch h = batch.among (λ row t. eqb (length row) w) h

@@ -1,7 +1,9 @@
--- Where insertions ended, a spine keeps each boundary that some reader may ask for, whatever is done.
+-- Where insertions ended, a spine keeps each boundary that some reader may ask for, whatever is
+-- done.
 use Rattle.std.proofs.Common.{◌≡◌, ◌⊎◌, ℕ, zero, suc, Bool, List, [], ◌∷◌, ◌++◌, set, slice_get, Some, IsTrue, inl, inr, ⊎_elim, refl, sym, ◌∙◌, ap, subst, true≢false}
 use Rattle.std.specs.List.{Contains, list_any}
 use Rattle.std.proofs.lemmas.Bool.{or_cases, or_left, or_right}
+use Rattle.lattice.specs.Times.{Times}
 use Rattle.lattice.specs.Order.{PartialOrderLaws}
 use Rattle.lattice.specs.Frontiers.{all_beyond}
 use Rattle.lattice.proofs.FrontierLemmas.{beyond_itself, all_beyond_later}
@@ -11,9 +13,9 @@ use Rattle.trace.specs.Readings.{Insertion, reached}
 use Rattle.trace.specs.BatchLists.{BatchListState, ends_of, insertion_of}
 use Rattle.trace.proofs.BatchListLemmas.{reached_boundary}
 use Rattle.trace.proofs.BoundaryLemmas.{end-append, none_some, some_same}
-use Rattle.spine.specs.Holding.{IsMoved, forbids}
+use Rattle.spine.specs.HoldRules.{IsMoved, forbids}
 use Rattle.spine.specs.Spines.{SpineState, IsWorked, Stands, boundaries}
-use Rattle.operator_laws.specs.Joining.{on_top}
+use Rattle.operator_laws.specs.JoinNodes.{on_top}
 use Rattle.operator.specs.Arrangements.{AreInTurn, IsOpen, upper_of}
 use Rattle.operator.proofs.ArrangementLemmas.{boundary_more, with_batch}
 use Rattle.operator.proofs.TurnLemmas.{firsts, none_between}
@@ -55,9 +57,9 @@ module _ {T : Type 0} where
       (λ r. inr (j ∷ r.0, r.1))
       (on_top_cases later (j ∷ taken) h i e)
 
-  module _ (below : T → T → Bool) where
+  module _ (times : Times T) where
     -- with one more batch
-    pub open_inserted : (s : SpineState T) (b : BatchState T) (reserved : Bool) (h : List (Insertion T)) → IsOpen below s h → IsOpen below (with_batch s b reserved) (insertion_of b ∷ h)
+    pub open_inserted : (s : SpineState T) (b : BatchState T) (reserved : Bool) (h : List (Insertion T)) → IsOpen times s h → IsOpen times (with_batch s b reserved) (insertion_of b ∷ h)
     open_inserted s b reserved h is later taken e asked =
         let t = with_batch s b reserved in
         ⊎_elim
@@ -66,34 +68,34 @@ module _ {T : Type 0} where
         (on_top_cases later taken h (insertion_of b) e)
 
     -- after merges
-    pub open_worked : (n lost : ℕ) (s t : SpineState T) (h : List (Insertion T)) → IsWorked below n lost s t → IsOpen below s h → IsOpen below t h
+    pub open_worked : (n lost : ℕ) (s t : SpineState T) (h : List (Insertion T)) → IsWorked times n lost s t → IsOpen times s h → IsOpen times t h
     open_worked n lost s t h work is later taken e asked =
         let start : t.list.start ≡ s.list.start = ap (λ (x : SpineState T). x.list.start) work.kept in
         let holds : t.holds ≡ s.holds = ap (λ (x : SpineState T). x.holds) work.kept in
-        let before : IsTrue (forbids below s.holds (reached s.list.start taken)) =
-        subst (λ hs. IsTrue (forbids below hs (reached s.list.start taken))) holds
-        (subst (λ F. IsTrue (forbids below t.holds (reached F taken))) start asked) in
+        let before : IsTrue (forbids times s.holds (reached s.list.start taken)) =
+        subst (λ hs. IsTrue (forbids times hs (reached s.list.start taken))) holds
+        (subst (λ F. IsTrue (forbids times t.holds (reached F taken))) start asked) in
         subst (λ F. Contains (boundaries t) (reached F taken)) (sym start)
         (work.kept_open (reached s.list.start taken) (is later taken e before) before)
 
-module _ {T : Type 0} {below : T → T → Bool} (o : PartialOrderLaws below) where
+module _ {T : Type 0} {times : Times T} (o : PartialOrderLaws times) where
   -- after a hold has moved on
-  pub open_moved : (s t : SpineState T) (from to : HoldState T) (h : List (Insertion T)) → t.list ≡ s.list → IsMoved from to s.holds t.holds → IsTrue (all_beyond below from.physical to.physical) → IsOpen below s h → IsOpen below t h
+  pub open_moved : (s t : SpineState T) (from to : HoldState T) (h : List (Insertion T)) → t.list ≡ s.list → IsMoved from to s.holds t.holds → IsTrue (all_beyond times from.physical to.physical) → IsOpen times s h → IsOpen times t h
   open_moved s t from to h list moved on is later taken e asked =
       let u = reached s.list.start taken in
       let start : t.list.start ≡ s.list.start = ap (λ (l : BatchListState T). l.start) list in
-      let now : IsTrue (forbids below (set s.holds moved.number to) u) =
-      subst (λ hs. IsTrue (forbids below hs u)) moved.moved
-      (subst (λ F. IsTrue (forbids below t.holds (reached F taken))) start asked) in
-      let before : IsTrue (forbids below s.holds u) =
-      any_set (λ (k : HoldState T). all_beyond below k.physical u) s.holds moved.number from to moved.is
+      let now : IsTrue (forbids times (set s.holds moved.number to) u) =
+      subst (λ hs. IsTrue (forbids times hs u)) moved.moved
+      (subst (λ F. IsTrue (forbids times t.holds (reached F taken))) start asked) in
+      let before : IsTrue (forbids times s.holds u) =
+      any_set (λ (k : HoldState T). all_beyond times k.physical u) s.holds moved.number from to moved.is
       (λ k. all_beyond_later o from.physical to.physical u on k) now in
       subst (λ F. Contains (boundaries t) (reached F taken)) (sym start)
       (subst (λ (l : BatchListState T). Contains (ends_of l) u) (sym list) (is later taken e before))
 
   module _ (start : List T) where
     -- more insertions end further on
-    ends_on : (later h : List (Insertion T)) → AreInTurn below start (on_top later h) → IsTrue (all_beyond below (reached start h) (reached start (on_top later h)))
+    ends_on : (later h : List (Insertion T)) → AreInTurn times start (on_top later h) → IsTrue (all_beyond times (reached start h) (reached start (on_top later h)))
     ends_on [] h all = beyond_itself o (reached start h)
     ends_on (i ∷ later) h all =
         all_beyond_later o (reached start h) i.upper (reached start (on_top later (i ∷ h)))
@@ -101,7 +103,7 @@ module _ {T : Type 0} {below : T → T → Bool} (o : PartialOrderLaws below) wh
         (ends_on later (i ∷ h) all)
 
     -- where the oldest insertions ended is where all did, if it is that far
-    ends_there : (later taken : List (Insertion T)) → AreInTurn below start (on_top later taken) → IsTrue (all_beyond below (reached start (on_top later taken)) (reached start taken)) → reached start (on_top later taken) ≡ reached start taken
+    ends_there : (later taken : List (Insertion T)) → AreInTurn times start (on_top later taken) → IsTrue (all_beyond times (reached start (on_top later taken)) (reached start taken)) → reached start (on_top later taken) ≡ reached start taken
     ends_there [] taken all back = refl
     ends_there (i ∷ later) taken all back =
         let turn = (firsts o start later (i ∷ taken) all).0 in
@@ -110,19 +112,19 @@ module _ {T : Type 0} {below : T → T → Bool} (o : PartialOrderLaws below) wh
         absurd (turn.some (none_between o i.upper (reached start taken) over i.updates turn.between))
 
   -- with one more hold, which begins at the frontier that the spine has reached
-  pub open_held : (s t : SpineState T) (k : HoldState T) (h : List (Insertion T)) → k.physical ≡ upper_of s → t ≡ record s { holds = s.holds ++ k ∷ [] } → Stands below s h → AreInTurn below s.list.start h → IsOpen below s h → IsOpen below t h
+  pub open_held : (s t : SpineState T) (k : HoldState T) (h : List (Insertion T)) → k.physical ≡ upper_of s → t ≡ record s { holds = s.holds ++ k ∷ [] } → Stands times s h → AreInTurn times s.list.start h → IsOpen times s h → IsOpen times t h
   open_held s t k h at e stands in_turn is =
-      subst (λ (x : SpineState T). IsOpen below x h) (sym e) now
+      subst (λ (x : SpineState T). IsOpen times x h) (sym e) now
     where
-      now : IsOpen below (record s { holds = s.holds ++ k ∷ [] }) h
+      now : IsOpen times (record s { holds = s.holds ++ k ∷ [] }) h
       now later taken whole asked =
           let start = s.list.start in
           let u = reached start taken in
-          let newest : IsTrue (all_beyond below k.physical u) → Contains (boundaries s) u = λ on.
+          let newest : IsTrue (all_beyond times k.physical u) → Contains (boundaries s) u = λ on.
           let upper : k.physical ≡ reached start (on_top later taken) = at ∙ stands.upper ∙ ap (reached start) whole in
-          let same = ends_there start later taken (subst (AreInTurn below start) whole in_turn) (subst (λ F. IsTrue (all_beyond below F u)) upper on) in
+          let same = ends_there start later taken (subst (AreInTurn times start) whole in_turn) (subst (λ F. IsTrue (all_beyond times F u)) upper on) in
           subst (Contains (boundaries s)) (stands.upper ∙ ap (reached start) whole ∙ same) (reached_boundary s.list) in
           ⊎_elim
           (λ old. is later taken whole old)
           newest
-          (any_last (λ (x : HoldState T). all_beyond below x.physical u) s.holds k asked)
+          (any_last (λ (x : HoldState T). all_beyond times x.physical u) s.holds k asked)

@@ -10,6 +10,7 @@ use Rattle.std.proofs.lemmas.Int.{ints, fits_signed_from_abs}
 use Rattle.std.proofs.lemmas.List.{length-take-le}
 use Rattle.std.proofs.lemmas.List.Folds.{list_all-append, list_all-map}
 use Rattle.std.proofs.lemmas.List.Sorted.{IsPermutation-append_comm, IsPermutation-refl}
+use Rattle.lattice.specs.Times.{Times}
 use Rattle.lattice.specs.Order.{PartialOrderLaws, LatticeLaws}
 use Rattle.lattice.specs.Frontiers.{is_beyond, all_beyond}
 use Rattle.lattice.proofs.FrontierLemmas.{all_more, beyond_up, all_beyond_from}
@@ -27,14 +28,14 @@ use Rattle.plan.specs.Reductions.{has_key, reduction_answer}
 use Rattle.plan.specs.Widths.{reduced_width}
 use Rattle.plan.proofs.CountLemmas.{row_same, row_itself, count_of-filter}
 use Rattle.plan.proofs.ReductionLemmas.{by_key_at}
-use Rattle.histories.specs.Histories.States.{times}
+use Rattle.histories.specs.Histories.States.{update_times}
 use Rattle.histories.proofs.HistoryLemmas.FlowLemmas.{sum_at-append, not_beyond, is_passed}
 use Rattle.histories.proofs.HistoryLemmas.KeptLemmas.{as_of-passed}
-use Rattle.trace.proofs.ReadingLemmas.{size-append}
+use Rattle.trace.proofs.ReadLemmas.{size-append}
 use Rattle.reduce.specs.Joined.{Member, IsFresh, times_of, of_key}
 use Rattle.reduce.specs.Histories.{HistoryState, due_of, IsWaiting}
-use Rattle.reduce.specs.Standing.{are_wide}
-use Rattle.reduce.specs.Owing.{IsOwed, IsOverfull}
+use Rattle.reduce.specs.Duties.{are_wide}
+use Rattle.reduce.specs.Debts.{IsOwed, IsOverfull}
 use Rattle.reduce.specs.Kinds.{kind_answer, kind_reduces}
 use Rattle.reduce.specs.Reductions.{StandsFor, IsOpenTo, IsQuietAt, SumsToTaken}
 use Rattle.key_history.proofs.ApartLemmas.{doubled, doubled_is, own_total, apart_both}
@@ -46,7 +47,7 @@ use Rattle.reduce.proofs.LawLemmas.{settled_law}
 use Rattle.joined_times.proofs.MemberLemmas.{in_left, in_right, in_either, member_from_contains}
 use Rattle.reduce.proofs.PermutedLemmas.{stands_permuted}
 use Rattle.reduce.proofs.RowLemmas.{rows_answered}
-use Rattle.operator_laws.specs.Reducing.{IsPendingWith}
+use Rattle.operator_laws.specs.ReduceNodes.{IsPendingWith}
 use Rattle.operator.specs.Reductions.{ReducingView, HasRoom, StandIn, AreAmong, SumsToReceived, IsAnswerAt, IsPendingAfter, AreOwedOf, IsOverfullWith, IsReduced, pending_in, pending_of, have_width, output_width, state_key}
 use Rattle.operator.proofs.DistinctLemmas.{same_output_width}
 use Rattle.operator.proofs.AnswerWidthLemmas.{plan_answers, alike_answers, output_wide, sum_wide}
@@ -118,75 +119,75 @@ module _ {T : Type 0} where
       (λ b. let r = pending_of_key hs t b in (r.0, in_right t (cond (same_row h.key r.0) h.due []) (due_of r.0 hs) r.1))
       (in_either t h.due (pending_in hs) m)
 
-module _ {T : Type 0} (below : T → T → Bool) where
-  pub beyond_has : (F : List T) (s t : T) → Member s F → below s t ≡ true → is_beyond below F t ≡ true
+module _ {T : Type 0} (times : Times T) where
+  pub beyond_has : (F : List T) (s t : T) → Member s F → times.below s t ≡ true → is_beyond times F t ≡ true
   beyond_has [] s t m h = absurd m
-  beyond_has (f ∷ F) s t (inl e) h = or_left (below f t) (is_beyond below F t) (ap (λ z. below z t) (sym e) ∙ h)
-  beyond_has (f ∷ F) s t (inr m) h = or_right (below f t) (is_beyond below F t) (beyond_has F s t m h)
+  beyond_has (f ∷ F) s t (inl e) h = or_left (times.below f t) (is_beyond times F t) (ap (λ z. times.below z t) (sym e) ∙ h)
+  beyond_has (f ∷ F) s t (inr m) h = or_right (times.below f t) (is_beyond times F t) (beyond_has F s t m h)
 
   -- no pending time is at or before a time that all of them have passed
-  pub quiet : (hs : List (HistoryState T)) (t : T) → has_passed below (pending_in hs) t ≡ true → IsQuietAt below hs t
-  quiet hs t h key s m b = absurd (true≢false (sym (beyond_has (pending_in hs) s t (pending_has hs key s m) b) ∙ not_beyond (is_beyond below (pending_in hs) t) h))
+  pub quiet : (hs : List (HistoryState T)) (t : T) → has_passed times (pending_in hs) t ≡ true → IsQuietAt times hs t
+  quiet hs t h key s m b = absurd (true≢false (sym (beyond_has (pending_in hs) s t (pending_has hs key s m) b) ∙ not_beyond (is_beyond times (pending_in hs) t) h))
 
   -- times of updates
-  pub times_beyond : (F : List T) (us : List (Update T)) → all_beyond below F (times us) ≡ list_all (λ u. is_beyond below F u.time) us
-  times_beyond F us = list_all-map (λ t. is_beyond below F t) (λ (u : Update T). u.time) us
+  pub times_beyond : (F : List T) (us : List (Update T)) → all_beyond times F (update_times us) ≡ list_all (λ u. is_beyond times F u.time) us
+  times_beyond F us = list_all-map (λ t. is_beyond times F t) (λ (u : Update T). u.time) us
 
   -- what stays pending
-  module _ (F : List T) (hs new : List (HistoryState T)) (e : (key : List ℤ) → due_of key new ≡ filter (λ t. is_beyond below F t) (due_of key hs)) where
-    rest_of : (t : T) → Member t (pending_in new) → Member t (pending_in hs) × (is_beyond below F t ≡ true)
+  module _ (F : List T) (hs new : List (HistoryState T)) (e : (key : List ℤ) → due_of key new ≡ filter (λ t. is_beyond times F t) (due_of key hs)) where
+    rest_of : (t : T) → Member t (pending_in new) → Member t (pending_in hs) × (is_beyond times F t ≡ true)
     rest_of t m =
         let r = pending_of_key new t m in
-        let k = filter_in (is_beyond below F) (due_of r.0 hs) t (subst (Member t) (e r.0) r.1) in
+        let k = filter_in (is_beyond times F) (due_of r.0 hs) t (subst (Member t) (e r.0) r.1) in
         (pending_has hs r.0 t k.0, k.1)
 
-    pub rest_later : all_beyond below F (pending_in new) ≡ true
-    rest_later = all_of (is_beyond below F) (pending_in new) (λ t m. (rest_of t m).1)
+    pub rest_later : all_beyond times F (pending_in new) ≡ true
+    rest_later = all_of (is_beyond times F) (pending_in new) (λ t m. (rest_of t m).1)
 
-    pub rest_beyond : (G : List T) → all_beyond below G (pending_in hs) ≡ true → all_beyond below G (pending_in new) ≡ true
-    rest_beyond G h = all_of (is_beyond below G) (pending_in new) (λ t m. each_of (is_beyond below G) (pending_in hs) h t (rest_of t m).0)
+    pub rest_beyond : (G : List T) → all_beyond times G (pending_in hs) ≡ true → all_beyond times G (pending_in new) ≡ true
+    rest_beyond G h = all_of (is_beyond times G) (pending_in new) (λ t m. each_of (is_beyond times G) (pending_in hs) h t (rest_of t m).0)
 
   -- what is given at times that were pending
-  module _ (F : List T) (k : ℕ) (hs : List (HistoryState T)) (out : List (Update T)) (at : (u : Update T) → Member u out → Member u.time (due_of (take k u.row) hs) × (is_beyond below F u.time ≡ false)) where
-    pub out_settled : list_all (λ (u : Update T). has_passed below F u.time) out ≡ true
-    out_settled = all_of (λ (u : Update T). has_passed below F u.time) out (λ u m. is_passed (is_beyond below F u.time) (at u m).1)
+  module _ (F : List T) (k : ℕ) (hs : List (HistoryState T)) (out : List (Update T)) (at : (u : Update T) → Member u out → Member u.time (due_of (take k u.row) hs) × (is_beyond times F u.time ≡ false)) where
+    pub out_settled : list_all (λ (u : Update T). has_passed times F u.time) out ≡ true
+    out_settled = all_of (λ (u : Update T). has_passed times F u.time) out (λ u m. is_passed (is_beyond times F u.time) (at u m).1)
 
-    pub out_beyond : (G : List T) → all_beyond below G (pending_in hs) ≡ true → all_beyond below G (times out) ≡ true
-    out_beyond G h = times_beyond G out ∙ all_of (λ (u : Update T). is_beyond below G u.time) out (λ u m. each_of (is_beyond below G) (pending_in hs) h u.time (pending_has hs (take k u.row) u.time (at u m).0))
+    pub out_beyond : (G : List T) → all_beyond times G (pending_in hs) ≡ true → all_beyond times G (update_times out) ≡ true
+    out_beyond G h = times_beyond G out ∙ all_of (λ (u : Update T). is_beyond times G u.time) out (λ u m. each_of (is_beyond times G) (pending_in hs) h u.time (pending_has hs (take k u.row) u.time (at u m).0))
 
 -- ---- the least of some times
 
-module _ {T : Type 0} {below : T → T → Bool} (o : PartialOrderLaws below) where
+module _ {T : Type 0} {times : Times T} (o : PartialOrderLaws times) where
   -- ---- what is held
 
-  under_pending : (hs : List (HistoryState T)) (t : T) (i : ℕ) → under_in below t (slice_get hs i) ≡ true → is_beyond below (pending_in hs) t ≡ true
+  under_pending : (hs : List (HistoryState T)) (t : T) (i : ℕ) → under_in times t (slice_get hs i) ≡ true → is_beyond times (pending_in hs) t ≡ true
   under_pending [] t i u = absurd (false≢true u)
-  under_pending (h ∷ hs) t zero u = any_append (λ f. below f t) h.due (pending_in hs) ∙ or_left (is_beyond below h.due t) (is_beyond below (pending_in hs) t) u
-  under_pending (h ∷ hs) t (suc i) u = any_append (λ f. below f t) h.due (pending_in hs) ∙ or_right (is_beyond below h.due t) (is_beyond below (pending_in hs) t) (under_pending hs t i u)
+  under_pending (h ∷ hs) t zero u = any_append (λ f. times.below f t) h.due (pending_in hs) ∙ or_left (is_beyond times h.due t) (is_beyond times (pending_in hs) t) u
+  under_pending (h ∷ hs) t (suc i) u = any_append (λ f. times.below f t) h.due (pending_in hs) ∙ or_right (is_beyond times h.due t) (is_beyond times (pending_in hs) t) (under_pending hs t i u)
 
-  pending_place : (hs : List (HistoryState T)) (t : T) → is_beyond below (pending_in hs) t ≡ true → (i : ℕ) × (under_in below t (slice_get hs i) ≡ true)
+  pending_place : (hs : List (HistoryState T)) (t : T) → is_beyond times (pending_in hs) t ≡ true → (i : ℕ) × (under_in times t (slice_get hs i) ≡ true)
   pending_place [] t b = absurd (false≢true b)
-  pending_place (h ∷ hs) t b = step (is_beyond below h.due t) refl (sym (any_append (λ f. below f t) h.due (pending_in hs)) ∙ b) (pending_place hs t)
+  pending_place (h ∷ hs) t b = step (is_beyond times h.due t) refl (sym (any_append (λ f. times.below f t) h.due (pending_in hs)) ∙ b) (pending_place hs t)
     where
-      step : (c : Bool) → is_beyond below h.due t ≡ c → (c || is_beyond below (pending_in hs) t) ≡ true → (is_beyond below (pending_in hs) t ≡ true → (i : ℕ) × (under_in below t (slice_get hs i) ≡ true))
-          → (i : ℕ) × (under_in below t (slice_get (h ∷ hs) i) ≡ true)
+      step : (c : Bool) → is_beyond times h.due t ≡ c → (c || is_beyond times (pending_in hs) t) ≡ true → (is_beyond times (pending_in hs) t ≡ true → (i : ℕ) × (under_in times t (slice_get hs i) ≡ true))
+          → (i : ℕ) × (under_in times t (slice_get (h ∷ hs) i) ≡ true)
       step true e b ih = (0, e)
       step false e b ih = let r = ih b in (suc r.0, r.1)
 
-  not_empty : (t : T) (h : Option (HistoryState T)) → under_in below t h ≡ true → IsSomeAnd h (λ h. h.due ≢ [])
+  not_empty : (t : T) (h : Option (HistoryState T)) → under_in times t h ≡ true → IsSomeAnd h (λ h. h.due ≢ [])
   not_empty t None u = absurd (false≢true u)
-  not_empty t (Some h) u = λ e. false≢true (sym (ap (λ d. is_beyond below d t) e) ∙ u)
+  not_empty t (Some h) u = λ e. false≢true (sym (ap (λ d. is_beyond times d t) e) ∙ u)
 
   module _ (hs : List (HistoryState T)) (places : List ℕ) (w : IsWaiting hs places) (i : ℕ) (end : length places ≤ i) (held : List T)
-      (is : (t : T) → is_beyond below held t ≡ list_any (pending_under below hs t) (take i places)) where
-    whole : (t : T) → is_beyond below held t ≡ list_any (pending_under below hs t) places
-    whole t = is t ∙ ap (list_any (pending_under below hs t)) (take_all i places end)
+      (is : (t : T) → is_beyond times held t ≡ list_any (pending_under times hs t) (take i places)) where
+    whole : (t : T) → is_beyond times held t ≡ list_any (pending_under times hs t) places
+    whole t = is t ∙ ap (list_any (pending_under times hs t)) (take_all i places end)
 
-    pub held_covers : all_beyond below held (pending_in hs) ≡ true
-    held_covers = all_beyond_from o held (pending_in hs) (λ t b. let r = pending_place hs t b in whole t ∙ any_has (pending_under below hs t) places r.0 ((w.exact r.0).1 (not_empty t (slice_get hs r.0) r.1)) r.1)
+    pub held_covers : all_beyond times held (pending_in hs) ≡ true
+    held_covers = all_beyond_from o held (pending_in hs) (λ t b. let r = pending_place hs t b in whole t ∙ any_has (pending_under times hs t) places r.0 ((w.exact r.0).1 (not_empty t (slice_get hs r.0) r.1)) r.1)
 
-    pub held_tight : all_beyond below (pending_in hs) held ≡ true
-    held_tight = all_beyond_from o (pending_in hs) held (λ t b. let r = any_some (pending_under below hs t) places (sym (whole t) ∙ b) in under_pending hs t r.0 r.2)
+    pub held_tight : all_beyond times (pending_in hs) held ≡ true
+    held_tight = all_beyond_from o (pending_in hs) held (λ t b. let r = any_some (pending_under times hs t) places (sym (whole t) ∙ b) in under_pending hs t r.0 r.2)
 
 -- ---- what is taken is wide enough
 
@@ -211,9 +212,9 @@ module _ {T : Type 0} where
         | false ↦ omega (arith, ints)
       ]
 
-  pub large_size : (below : T → T → Bool) (us : List (Update T)) → HasLargeTotal below us → 2 ^ 63 ≤ size us
-  large_size below us h =
-      let q = λ (r : List ℤ) (s : T). same_row r h.0 && (below s h.1 && below h.1 s) in
+  pub large_size : (times : Times T) (us : List (Update T)) → HasLargeTotal times us → 2 ^ 63 ≤ size us
+  large_size times us h =
+      let q = λ (r : List ℤ) (s : T). same_row r h.0 && (times.below s h.1 && times.below h.1 s) in
       let large = not_fits (total_where q us) h.2 in
       let within = total_within q us in
       let same = summed_size_is us in
@@ -227,15 +228,15 @@ seal_refused (Err e) a b (inr (inl s)) = absurd (a (ap (λ z. Err z) s))
 seal_refused (Err e) a b (inr (inr f)) = inr (f, b (ap (λ z. Err z) f))
 
 -- no frontier ends the times from a start on
-pub from_start : {T : Type 0} (below : T → T → Bool) (start : List T) (us : List (Update T)) → list_all (λ (u : Update T). is_beyond below start u.time) us ≡ true → is_interval_of below start [] us ≡ true
-from_start {T} below start us h = all_more (λ (u : Update T). is_beyond below start u.time) (λ (u : Update T). is_beyond below start u.time && true) (λ u e. and_from (is_beyond below start u.time) true e refl) us h
+pub from_start : {T : Type 0} (times : Times T) (start : List T) (us : List (Update T)) → list_all (λ (u : Update T). is_beyond times start u.time) us ≡ true → is_interval_of times start [] us ≡ true
+from_start {T} times start us h = all_more (λ (u : Update T). is_beyond times start u.time) (λ (u : Update T). is_beyond times start u.time && true) (λ u e. and_from (is_beyond times start u.time) true e refl) us h
 
 -- ---- standing in
 
-module _ {T : Type 0} (below : T → T → Bool) where
-  pub stand_in_append : (a b c d : List (Update T)) → StandIn below a b → StandIn below c d → StandIn below (a ++ c) (b ++ d)
+module _ {T : Type 0} (times : Times T) where
+  pub stand_in_append : (a b c d : List (Update T)) → StandIn times a b → StandIn times c d → StandIn times (a ++ c) (b ++ d)
   stand_in_append a b c d x y = record {
-    sums = λ t row. sum_at-append below t a c row ∙ ((λ i. x.sums t row i +ℤ y.sums t row i) ∙ sym (sum_at-append below t b d row));
+    sums = λ t row. sum_at-append times t a c row ∙ ((λ i. x.sums t row i +ℤ y.sums t row i) ∙ sym (sum_at-append times t b d row));
     among = λ p h.
         let q = λ (u : Update T). p u.row u.time in
         let e = and_parts (list_all q b) (list_all q d) (sym (list_all-append q b d) ∙ h) in
@@ -248,12 +249,12 @@ module _ {T : Type 0} (below : T → T → Bool) where
         omega (arith, m, n, i, j);
   }
 
-  pub stand_in_nothing : StandIn below [] []
+  pub stand_in_nothing : StandIn times [] []
   stand_in_nothing = record { sums = λ t row. refl; among = λ p h. h; smaller = omega arith }
 
 -- ---- lists in the other order
 
-module _ {T : Type 0} {below : T → T → Bool} (o : PartialOrderLaws below) where
+module _ {T : Type 0} {times : Times T} (o : PartialOrderLaws times) where
   any_of : (p : Update T → Bool) (us : List (Update T)) → list_any p us ≡ false → (v : Update T) → Member v us → p v ≡ false
   any_of p us h v m = step (p v) refl
     where
@@ -277,62 +278,62 @@ module _ {T : Type 0} {below : T → T → Bool} (o : PartialOrderLaws below) wh
           step true e f = refl
           step false e f = f e
 
-  apart_first : (us vs : List (Update T)) → AreApart below (us ++ vs) → AreApart below us
+  apart_first : (us vs : List (Update T)) → AreApart times (us ++ vs) → AreApart times us
   apart_first [] vs a = tt
-  apart_first (u ∷ us) vs a = (none_left (is_doubled below u) us vs a.0, apart_first us vs a.1)
+  apart_first (u ∷ us) vs a = (none_left (is_doubled times u) us vs a.0, apart_first us vs a.1)
 
-  apart_second : (us vs : List (Update T)) → AreApart below (us ++ vs) → AreApart below vs
+  apart_second : (us vs : List (Update T)) → AreApart times (us ++ vs) → AreApart times vs
   apart_second [] vs a = a
   apart_second (u ∷ us) vs a = apart_second us vs a.1
 
-  apart_across : (us vs : List (Update T)) → AreApart below (us ++ vs) → (u v : Update T) → Member u us → Member v vs → is_doubled below u v ≡ false
+  apart_across : (us vs : List (Update T)) → AreApart times (us ++ vs) → (u v : Update T) → Member u us → Member v vs → is_doubled times u v ≡ false
   apart_across [] vs a u v m n = absurd m
-  apart_across (w ∷ us) vs a u v (inl e) n = ap (λ z. is_doubled below z v) e ∙ any_of (is_doubled below w) (us ++ vs) a.0 v (in_right v us vs n)
+  apart_across (w ∷ us) vs a u v (inl e) n = ap (λ z. is_doubled times z v) e ∙ any_of (is_doubled times w) (us ++ vs) a.0 v (in_right v us vs n)
   apart_across (w ∷ us) vs a u v (inr m) n = apart_across us vs a.1 u v m n
 
-  turned : (u v : Update T) → is_doubled below u v ≡ false → is_doubled below v u ≡ false
-  turned u v h = false_from_ne_true (is_doubled below v u) (λ e. let r = doubled_is o v u e in true≢false (sym (doubled o u v (sym r.0) (sym r.1)) ∙ h))
+  turned : (u v : Update T) → is_doubled times u v ≡ false → is_doubled times v u ≡ false
+  turned u v h = false_from_ne_true (is_doubled times v u) (λ e. let r = doubled_is o v u e in true≢false (sym (doubled o u v (sym r.0) (sym r.1)) ∙ h))
 
-  pub apart_swapped : (us vs : List (Update T)) → AreApart below (us ++ vs) → AreApart below (vs ++ us)
+  pub apart_swapped : (us vs : List (Update T)) → AreApart times (us ++ vs) → AreApart times (vs ++ us)
   apart_swapped us vs a = apart_both o vs us (apart_second us vs a) (apart_first us vs a) (λ v u n m. turned u v (apart_across us vs a u v m n))
 
-  pub open_swapped : (k : ℕ) (us vs : List (Update T)) (hs : List (HistoryState T)) → IsOpenTo below k (us ++ vs) hs → IsOpenTo below k (vs ++ us) hs
+  pub open_swapped : (k : ℕ) (us vs : List (Update T)) (hs : List (HistoryState T)) → IsOpenTo times k (us ++ vs) hs → IsOpenTo times k (vs ++ us) hs
   open_swapped k us vs hs h g m = h g (⊎_elim (in_right g us vs) (in_left g us vs) (in_either g vs us m))
 
 -- ---- what stands
 
-module _ {T : Type 0} {below : T → T → Bool} {joined met : T → T → T} (o : PartialOrderLaws below) (l : LatticeLaws below joined met) where
+module _ {T : Type 0} {times : Times T} (o : PartialOrderLaws times) (l : LatticeLaws times) where
   -- where nothing is pending, what was given is what the plan's reduction makes of what was
   -- received
-  pub answer_at : {minimum : T} (r : ReducingView T) (received emitted : List (Update T)) → HasRoom r.state.reducer r.key r.width → r.state.key ≡ state_key r.state.reducer r.key r.width → IsReduced below joined minimum r received emitted
-      → (t : T) → IsTrue (has_passed below (pending_of r) t) → IsAnswerAt below r received emitted t
-  answer_at {minimum} r received emitted room goes w t h row =
-      settled_law o l r.state.key (kind_answer r.state.reducer) (kind_reduces r.state.reducer r.state.key) (minimum ∷ []) r.state.histories w.taken emitted w.stands t (quiet below r.state.histories t h) row
-      ∙ (plan_answers r.state.reducer r.state.key r.key r.width goes room (as_of below t w.taken) (sum_wide below t r.width w.taken (w.same.among (λ row s. eqb (length row) r.width) w.wide)) row
-      ∙ alike_answers r.state.reducer r.key (as_of below t w.taken) (as_of below t received) (w.same.sums t) row)
+  pub answer_at : (r : ReducingView T) (received emitted : List (Update T)) → HasRoom r.state.reducer r.key r.width → r.state.key ≡ state_key r.state.reducer r.key r.width → IsReduced times r received emitted
+      → (t : T) → IsTrue (has_passed times (pending_of r) t) → IsAnswerAt times r received emitted t
+  answer_at r received emitted room goes w t h row =
+      settled_law o l r.state.key (kind_answer r.state.reducer) (kind_reduces r.state.reducer r.state.key) (times.least ∷ []) r.state.histories w.taken emitted w.stands t (quiet times r.state.histories t h) row
+      ∙ (plan_answers r.state.reducer r.state.key r.key r.width goes room (as_of times t w.taken) (sum_wide times t r.width w.taken (w.same.among (λ row s. eqb (length row) r.width) w.wide)) row
+      ∙ alike_answers r.state.reducer r.key (as_of times t w.taken) (as_of times t received) (w.same.sums t) row)
 
   -- ---- taking
 
   -- what is taken is beyond each frontier that what was received is beyond
-  pub taken_beyond : (content us : List (Update T)) (F : List T) → AreAmong content us → IsTrue (all_beyond below F (times us)) → IsTrue (list_all (λ u. is_beyond below F u.time) content)
-  taken_beyond content us F among later = among (λ row t. is_beyond below F t) (sym (times_beyond below F us) ∙ later)
+  pub taken_beyond : (content us : List (Update T)) (F : List T) → AreAmong content us → IsTrue (all_beyond times F (update_times us)) → IsTrue (list_all (λ u. is_beyond times F u.time) content)
+  taken_beyond content us F among later = among (λ row t. is_beyond times F t) (sym (times_beyond times F us) ∙ later)
 
   -- what is taken comes after what was given
-  pub behind : (k : ℕ) (content us emitted : List (Update T)) (upper : List T) → AreAmong content us → all_beyond below upper (times us) ≡ true
-      → list_all (λ (u : Update T). has_passed below upper u.time) emitted ≡ true
-      → (u g : Update T) → Member u content → Member g emitted → take k u.row ≡ take k g.row → below u.time g.time ≡ false
+  pub behind : (k : ℕ) (content us emitted : List (Update T)) (upper : List T) → AreAmong content us → all_beyond times upper (update_times us) ≡ true
+      → list_all (λ (u : Update T). has_passed times upper u.time) emitted ≡ true
+      → (u g : Update T) → Member u content → Member g emitted → take k u.row ≡ take k g.row → times.below u.time g.time ≡ false
   behind k content us emitted upper among later passed u g m n e =
-      let b = each_of (λ (u : Update T). is_beyond below upper u.time) content (among (λ row t. is_beyond below upper t) (sym (times_beyond below upper us) ∙ later)) u m in
-      let c = each_of (λ (u : Update T). has_passed below upper u.time) emitted passed g n in
-      false_from_ne_true (below u.time g.time) (λ h. true≢false (sym (beyond_up o upper u.time g.time b h) ∙ not_beyond (is_beyond below upper g.time) c))
+      let b = each_of (λ (u : Update T). is_beyond times upper u.time) content (among (λ row t. is_beyond times upper t) (sym (times_beyond times upper us) ∙ later)) u m in
+      let c = each_of (λ (u : Update T). has_passed times upper u.time) emitted passed g n in
+      false_from_ne_true (times.below u.time g.time) (λ h. true≢false (sym (beyond_up o upper u.time g.time b h) ∙ not_beyond (is_beyond times upper g.time) c))
 
-  pub took : {minimum : T} (r : ReducingView T) (content us received emitted : List (Update T)) (hs : List (HistoryState T)) (waiting : List ℕ) → StandIn below content us
-      → (w : IsReduced below joined minimum r received emitted) → IsTrue (have_width r.width us)
-      → StandsFor below (minimum ∷ []) joined r.state.key (kind_answer r.state.reducer) hs (content ++ w.taken) emitted → IsOpenTo below r.state.key emitted hs
-      → IsReduced below joined minimum (record r { state = record r.state { histories = hs; waiting = waiting } }) (us ++ received) emitted
-  took {minimum} r content us received emitted hs waiting same w wide st ahead = record {
+  pub took : (r : ReducingView T) (content us received emitted : List (Update T)) (hs : List (HistoryState T)) (waiting : List ℕ) → StandIn times content us
+      → (w : IsReduced times r received emitted) → IsTrue (have_width r.width us)
+      → StandsFor times (times.least ∷ []) r.state.key (kind_answer r.state.reducer) hs (content ++ w.taken) emitted → IsOpenTo times r.state.key emitted hs
+      → IsReduced times (record r { state = record r.state { histories = hs; waiting = waiting } }) (us ++ received) emitted
+  took r content us received emitted hs waiting same w wide st ahead = record {
     taken = content ++ w.taken;
-    same = stand_in_append below content us w.taken received same w.same;
+    same = stand_in_append times content us w.taken received same w.same;
     stands = st;
     apart = w.apart;
     ahead = ahead;
@@ -342,17 +343,17 @@ module _ {T : Type 0} {below : T → T → Bool} {joined met : T → T → T} (o
 
   -- what is pending after a take comes after what was pending or was taken
   pub later_beyond : (k : ℕ) (content us : List (Update T)) (hs new : List (HistoryState T)) → AreAmong content us
-      → ((key : List ℤ) (t : T) → Member t (due_of key new) → Member t (due_of key hs) ⊎ ((u : Update T) × Member u content × (take k u.row ≡ key) × (below u.time t ≡ true)))
-      → (F : List T) → all_beyond below F (pending_in hs) ≡ true → all_beyond below F (times us) ≡ true → all_beyond below F (pending_in new) ≡ true
-  later_beyond k content us hs new among later F h f = all_of (is_beyond below F) (pending_in new) (λ t m. let r = pending_of_key new t m in at t r.0 (later r.0 t r.1))
+      → ((key : List ℤ) (t : T) → Member t (due_of key new) → Member t (due_of key hs) ⊎ ((u : Update T) × Member u content × (take k u.row ≡ key) × (times.below u.time t ≡ true)))
+      → (F : List T) → all_beyond times F (pending_in hs) ≡ true → all_beyond times F (update_times us) ≡ true → all_beyond times F (pending_in new) ≡ true
+  later_beyond k content us hs new among later F h f = all_of (is_beyond times F) (pending_in new) (λ t m. let r = pending_of_key new t m in at t r.0 (later r.0 t r.1))
     where
-      at : (t : T) (key : List ℤ) → Member t (due_of key hs) ⊎ ((u : Update T) × Member u content × (take k u.row ≡ key) × (below u.time t ≡ true)) → is_beyond below F t ≡ true
-      at t key (inl m) = each_of (is_beyond below F) (pending_in hs) h t (pending_has hs key t m)
-      at t key (inr r) = beyond_up o F (r.0).time t (each_of (λ (u : Update T). is_beyond below F u.time) content (among (λ row s. is_beyond below F s) (sym (times_beyond below F us) ∙ f)) r.0 r.1) r.3
+      at : (t : T) (key : List ℤ) → Member t (due_of key hs) ⊎ ((u : Update T) × Member u content × (take k u.row ≡ key) × (times.below u.time t ≡ true)) → is_beyond times F t ≡ true
+      at t key (inl m) = each_of (is_beyond times F) (pending_in hs) h t (pending_has hs key t m)
+      at t key (inr r) = beyond_up o F (r.0).time t (each_of (λ (u : Update T). is_beyond times F u.time) content (among (λ row s. is_beyond times F s) (sym (times_beyond times F us) ∙ f)) r.0 r.1) r.3
 
-  module _ (k : ℕ) (content us taken : List (Update T)) (hs new : List (HistoryState T)) (same : StandIn below content us)
-      (now : (key : List ℤ) (t : T) → Member t (due_of key new) ↔ (Member t (due_of key hs) ⊎ IsFresh joined (times_of k key content) (times_of k key taken) t))
-      (later : (key : List ℤ) (t : T) → Member t (due_of key new) → Member t (due_of key hs) ⊎ ((u : Update T) × Member u content × (take k u.row ≡ key) × (below u.time t ≡ true))) where
+  module _ (k : ℕ) (content us taken : List (Update T)) (hs new : List (HistoryState T)) (same : StandIn times content us)
+      (now : (key : List ℤ) (t : T) → Member t (due_of key new) ↔ (Member t (due_of key hs) ⊎ IsFresh times (times_of k key content) (times_of k key taken) t))
+      (later : (key : List ℤ) (t : T) → Member t (due_of key new) → Member t (due_of key hs) ⊎ ((u : Update T) × Member u content × (take k u.row ≡ key) × (times.below u.time t ≡ true))) where
     -- the time of an update that was taken is pending
     own_time : (us : List (Update T)) (u : Update T) → Member u us → Member u.time (times_of k (take k u.row) us)
     own_time [] u m = absurd m
@@ -368,32 +369,32 @@ module _ {T : Type 0} {below : T → T → Bool} {joined met : T → T → T} (o
     is_pending : (u : Update T) → Member u content → Member u.time (pending_in new)
     is_pending u m =
         let key = take k u.row in
-        pending_has new key u.time ((now key u.time).1 (inr (inl (joins_have joined (times_of k key content) u.time (own_time content u m)))))
+        pending_has new key u.time ((now key u.time).1 (inr (inl (joins_have times (times_of k key content) u.time (own_time content u m)))))
 
-    early : (t : T) → has_passed below (pending_in new) t ≡ true → is_beyond below (times content) t ≡ false
-    early t h = false_from_ne_true (is_beyond below (times content) t) (λ e. let r = some_time content e in true≢false (sym (beyond_has below (pending_in new) (r.0).time t (is_pending r.0 r.1) r.2) ∙ not_beyond (is_beyond below (pending_in new) t) h))
+    early : (t : T) → has_passed times (pending_in new) t ≡ true → is_beyond times (update_times content) t ≡ false
+    early t h = false_from_ne_true (is_beyond times (update_times content) t) (λ e. let r = some_time content e in true≢false (sym (beyond_has times (pending_in new) (r.0).time t (is_pending r.0 r.1) r.2) ∙ not_beyond (is_beyond times (pending_in new) t) h))
       where
-        some_time : (us : List (Update T)) → is_beyond below (times us) t ≡ true → (u : Update T) × Member u us × (below u.time t ≡ true)
+        some_time : (us : List (Update T)) → is_beyond times (update_times us) t ≡ true → (u : Update T) × Member u us × (times.below u.time t ≡ true)
         some_time [] e = absurd (false≢true e)
-        some_time (u ∷ us) e = step (below u.time t) refl e (some_time us)
+        some_time (u ∷ us) e = step (times.below u.time t) refl e (some_time us)
           where
-            step : (b : Bool) → below u.time t ≡ b → (b || is_beyond below (times us) t) ≡ true → (is_beyond below (times us) t ≡ true → (v : Update T) × Member v us × (below v.time t ≡ true))
-                → (v : Update T) × Member v (u ∷ us) × (below v.time t ≡ true)
+            step : (b : Bool) → times.below u.time t ≡ b → (b || is_beyond times (update_times us) t) ≡ true → (is_beyond times (update_times us) t ≡ true → (v : Update T) × Member v us × (times.below v.time t ≡ true))
+                → (v : Update T) × Member v (u ∷ us) × (times.below v.time t ≡ true)
             step true f e ih = (u, inl refl, f)
             step false f e ih = let r = ih e in (r.0, inr r.1, r.2)
 
-    pub pending_after : IsPendingAfter below (pending_in hs) us (pending_in new)
+    pub pending_after : IsPendingAfter times (pending_in hs) us (pending_in new)
     pending_after = record {
-      old = all_of (is_beyond below (pending_in new)) (pending_in hs) (λ t m. let r = pending_of_key hs t m in beyond_has below (pending_in new) t t (pending_has new r.0 t ((now r.0 t).1 (inl r.1))) (o.reflexive t));
-      none = λ t h row. sym (same.sums t row) ∙ ap (λ es. count_of es row) (as_of-passed below t content (early t h));
+      old = all_of (is_beyond times (pending_in new)) (pending_in hs) (λ t m. let r = pending_of_key hs t m in beyond_has times (pending_in new) t t (pending_has new r.0 t ((now r.0 t).1 (inl r.1))) (o.reflexive t));
+      none = λ t h row. sym (same.sums t row) ∙ ap (λ es. count_of es row) (as_of-passed times t content (early t h));
       beyond = later_beyond k content us hs new same.among later;
     }
 
     -- where no update cancels another, some pending time is at or before the time of each
-    pub pending_with : ((p : List ℤ → T → Bool) → total_where p content ≡ total_where p us) → AreApart below us → AllByRecursion (λ u. u.diff ≢ pos 0) us → IsPendingWith below (pending_in hs) us (pending_in new)
+    pub pending_with : ((p : List ℤ → T → Bool) → total_where p content ≡ total_where p us) → AreApart times us → AllByRecursion (λ u. u.diff ≢ pos 0) us → IsPendingWith times (pending_in hs) us (pending_in new)
     pending_with totals apart nonzero = record {
       old = pending_after.old;
-      new = times_beyond below (pending_in new) us ∙ all_of (λ (u : Update T). is_beyond below (pending_in new) u.time) us each;
+      new = times_beyond times (pending_in new) us ∙ all_of (λ (u : Update T). is_beyond times (pending_in new) u.time) us each;
       beyond = pending_after.beyond;
     }
       where
@@ -411,32 +412,32 @@ module _ {T : Type 0} {below : T → T → Bool} {joined met : T → T → T} (o
             step true e n ih = (v, inl refl, e)
             step false e n ih = let r = ih (λ z. n (+ℤ_idl (total_where p vs) ∙ z)) in (r.0, inr r.1, r.2)
 
-        each : (u : Update T) → Member u us → is_beyond below (pending_in new) u.time ≡ true
+        each : (u : Update T) → Member u us → is_beyond times (pending_in new) u.time ≡ true
         each u m =
-            let p : List ℤ → T → Bool = λ row s. same_row row u.row && (below s u.time && below u.time s) in
+            let p : List ℤ → T → Bool = λ row s. same_row row u.row && (times.below s u.time && times.below u.time s) in
             let r = some_part p content (λ z. differs us nonzero u m (sym (own_total o us apart u m) ∙ (sym (totals p) ∙ z))) in
-            let b = and_parts (below (r.0).time u.time) (below u.time (r.0).time) (and_parts (same_row (r.0).row u.row) (below (r.0).time u.time && below u.time (r.0).time) r.2).1 in
-            beyond_has below (pending_in new) (r.0).time u.time (is_pending r.0 r.1) b.0
+            let b = and_parts (times.below (r.0).time u.time) (times.below u.time (r.0).time) (and_parts (same_row (r.0).row u.row) (times.below (r.0).time u.time && times.below u.time (r.0).time) r.2).1 in
+            beyond_has times (pending_in new) (r.0).time u.time (is_pending r.0 r.1) b.0
 
 -- ---- giving
 
 -- what sums to what was received sums to what was taken
-pub sums_taken : {T : Type 0} (below : T → T → Bool) (since frontier : List T) (inserted received taken : List (Update T)) → SumsToReceived below frontier inserted received → StandIn below taken received
-    → SumsToTaken below since frontier inserted taken
-sums_taken below since frontier inserted received taken h same t s f row = h t (is_passed (is_beyond below frontier t) f) row ∙ sym (same.sums t row)
+pub sums_taken : {T : Type 0} (times : Times T) (since frontier : List T) (inserted received taken : List (Update T)) → SumsToReceived times frontier inserted received → StandIn times taken received
+    → SumsToTaken times since frontier inserted taken
+sums_taken times since frontier inserted received taken h same t s f row = h t (is_passed (is_beyond times frontier t) f) row ∙ sym (same.sums t row)
 
-module _ {T : Type 0} {below : T → T → Bool} {joined met : T → T → T} {cmp : T → T → Ordering} (o : PartialOrderLaws below) (l : LatticeLaws below joined met) (total : IsTotalOrder cmp) where
-  pub gave : {minimum : T} (r : ReducingView T) (received emitted out : List (Update T)) (frontier : List T) (hs : List (HistoryState T)) (waiting : List ℕ) (looked : ℕ)
-      → r.state.key ≡ state_key r.state.reducer r.key r.width → (w : IsReduced below joined minimum r received emitted)
-      → StandsFor below (minimum ∷ []) joined r.state.key (kind_answer r.state.reducer) hs w.taken (emitted ++ out)
-      → AreApart below (emitted ++ out) → IsOpenTo below r.state.key (emitted ++ out) hs
-      → ((t : T) → IsTrue (has_passed below frontier t) → IsQuietAt below hs t)
-      → AreApart below out → AllByRecursion (λ u. u.diff ≢ pos 0) out → IsTrue (list_all (λ u. has_passed below frontier u.time) out)
-      → IsReduced below joined minimum (record r { state = record r.state { histories = hs; waiting = waiting; looked = looked } }) received (out ++ emitted)
-  gave {minimum} r received emitted out frontier hs waiting looked goes w st apart ahead calm once nonzero passed = record {
+module _ {T : Type 0} {times : Times T} {cmp : T → T → Ordering} (o : PartialOrderLaws times) (l : LatticeLaws times) (total : IsTotalOrder cmp) where
+  pub gave : (r : ReducingView T) (received emitted out : List (Update T)) (frontier : List T) (hs : List (HistoryState T)) (waiting : List ℕ) (looked : ℕ)
+      → r.state.key ≡ state_key r.state.reducer r.key r.width → (w : IsReduced times r received emitted)
+      → StandsFor times (times.least ∷ []) r.state.key (kind_answer r.state.reducer) hs w.taken (emitted ++ out)
+      → AreApart times (emitted ++ out) → IsOpenTo times r.state.key (emitted ++ out) hs
+      → ((t : T) → IsTrue (has_passed times frontier t) → IsQuietAt times hs t)
+      → AreApart times out → AllByRecursion (λ u. u.diff ≢ pos 0) out → IsTrue (list_all (λ u. has_passed times frontier u.time) out)
+      → IsReduced times (record r { state = record r.state { histories = hs; waiting = waiting; looked = looked } }) received (out ++ emitted)
+  gave r received emitted out frontier hs waiting looked goes w st apart ahead calm once nonzero passed = record {
     taken = w.taken;
     same = w.same;
-    stands = stands_permuted o l r.state.key (kind_answer r.state.reducer) (kind_reduces r.state.reducer r.state.key) hs w.taken w.taken (emitted ++ out) (out ++ emitted) (IsPermutation-refl w.taken) (IsPermutation-append_comm emitted out) (minimum ∷ []) st;
+    stands = stands_permuted o l r.state.key (kind_answer r.state.reducer) (kind_reduces r.state.reducer r.state.key) hs w.taken w.taken (emitted ++ out) (out ++ emitted) (IsPermutation-refl w.taken) (IsPermutation-append_comm emitted out) (times.least ∷ []) st;
     apart = apart_swapped o emitted out apart;
     ahead = open_swapped o r.state.key emitted out hs ahead;
     wide = w.wide;
@@ -449,10 +450,10 @@ module _ {T : Type 0} {below : T → T → Bool} {joined met : T → T → T} {c
 
       rows : IsTrue (have_width (output_width r) out)
       rows =
-          rows_answered o l total r.state.key (kind_answer r.state.reducer) (kind_reduces r.state.reducer r.state.key) (λ row. eqb (length row) (output_width r)) frontier (minimum ∷ []) hs w.taken emitted out st calm once nonzero passed w.answered
+          rows_answered o l total r.state.key (kind_answer r.state.reducer) (kind_reduces r.state.reducer r.state.key) (λ row. eqb (length row) (output_width r)) frontier (times.least ∷ []) hs w.taken emitted out st calm once nonzero passed w.answered
           (λ t h.
-          subst (λ n. list_all (λ (e : Entry). eqb (length e.row) n) (reduction_output r.state.key (kind_answer r.state.reducer) (as_of below t w.taken)) ≡ true) same_width
-          (output_wide r.state.reducer r.state.key r.width (as_of below t w.taken) (sum_wide below t r.width w.taken (w.same.among (λ row s. eqb (length row) r.width) w.wide))))
+          subst (λ n. list_all (λ (e : Entry). eqb (length e.row) n) (reduction_output r.state.key (kind_answer r.state.reducer) (as_of times t w.taken)) ≡ true) same_width
+          (output_wide r.state.reducer r.state.key r.width (as_of times t w.taken) (sum_wide times t r.width w.taken (w.same.among (λ row s. eqb (length row) r.width) w.wide))))
 
 -- ---- what is owed
 
@@ -469,7 +470,7 @@ wider k a b e w = step (nat_le k (length b)) refl
         let same : length (take k a) ≡ length (take k b) = ap length e in
         absurd (omega (arith, n, m, same, short))
 
-module _ {T : Type 0} (below : T → T → Bool) (r : ReducingView T) (room : HasRoom r.state.reducer r.key r.width) (goes : r.state.key ≡ state_key r.state.reducer r.key r.width) where
+module _ {T : Type 0} (times : Times T) (r : ReducingView T) (room : HasRoom r.state.reducer r.key r.width) (goes : r.state.key ≡ state_key r.state.reducer r.key r.width) where
   abbrev key_width : ℕ
   key_width = r.state.key
 
@@ -477,69 +478,69 @@ module _ {T : Type 0} (below : T → T → Bool) (r : ReducingView T) (room : Ha
   answer = kind_answer r.state.reducer
 
   -- a row that is narrower than a key is no row that was taken
-  narrow : (t : T) (row : List ℤ) (us : List (Update T)) → IsTrue (are_wide key_width us) → nat_le key_width (length row) ≡ false → filter (has_key key_width (take key_width row)) (as_of below t us) ≡ []
+  narrow : (t : T) (row : List ℤ) (us : List (Update T)) → IsTrue (are_wide key_width us) → nat_le key_width (length row) ≡ false → filter (has_key key_width (take key_width row)) (as_of times t us) ≡ []
   narrow t row [] w n = refl
   narrow t row (u ∷ us) w n =
       let p = and_parts (nat_le key_width (length u.row)) (are_wide key_width us) w in
-      step (below u.time t) (same_row (take key_width u.row) (take key_width row)) refl p.0 (narrow t row us p.1 n)
+      step (times.below u.time t) (same_row (take key_width u.row) (take key_width row)) refl p.0 (narrow t row us p.1 n)
     where
       no : same_row (take key_width u.row) (take key_width row) ≡ true → nat_le key_width (length u.row) ≡ true → ⊥
       no e w = true≢false (sym (wider key_width u.row row (row_same (take key_width u.row) (take key_width row) e) w) ∙ n)
 
-      step : (b : Bool) (c : Bool) → same_row (take key_width u.row) (take key_width row) ≡ c → nat_le key_width (length u.row) ≡ true → filter (has_key key_width (take key_width row)) (as_of below t us) ≡ []
-          → filter (has_key key_width (take key_width row)) (map Rattle.update.specs.Updates.entry (cond b (u ∷ filter (λ v. below v.time t) us) (filter (λ v. below v.time t) us))) ≡ []
+      step : (b : Bool) (c : Bool) → same_row (take key_width u.row) (take key_width row) ≡ c → nat_le key_width (length u.row) ≡ true → filter (has_key key_width (take key_width row)) (as_of times t us) ≡ []
+          → filter (has_key key_width (take key_width row)) (map Rattle.update.specs.Updates.entry (cond b (u ∷ filter (λ v. times.below v.time t) us) (filter (λ v. times.below v.time t) us))) ≡ []
       step false c e w h = h
       step true true e w h = absurd (no e w)
       step true false e w h = rw e h
 
   -- the answers for a row are those for its key
   of_its_key : (t : T) (row : List ℤ) (taken : List (Update T)) → IsTrue (are_wide key_width taken)
-      → count_of (answer (take key_width row) (filter (has_key key_width (take key_width row)) (as_of below t taken))) row ≡ count_of (reduction_output key_width answer (as_of below t taken)) row
+      → count_of (answer (take key_width row) (filter (has_key key_width (take key_width row)) (as_of times t taken))) row ≡ count_of (reduction_output key_width answer (as_of times t taken)) row
   of_its_key t row taken wide =
-      sym (by_key_at key_width answer (kind_reduces r.state.reducer key_width) (as_of below t taken) row ∙ step (nat_le key_width (length row)) refl)
+      sym (by_key_at key_width answer (kind_reduces r.state.reducer key_width) (as_of times t taken) row ∙ step (nat_le key_width (length row)) refl)
     where
-      step : (b : Bool) → nat_le key_width (length row) ≡ b → cond b (count_of (answer (take key_width row) (filter (has_key key_width (take key_width row)) (as_of below t taken))) row) (pos 0) ≡ count_of (answer (take key_width row) (filter (has_key key_width (take key_width row)) (as_of below t taken))) row
+      step : (b : Bool) → nat_le key_width (length row) ≡ b → cond b (count_of (answer (take key_width row) (filter (has_key key_width (take key_width row)) (as_of times t taken))) row) (pos 0) ≡ count_of (answer (take key_width row) (filter (has_key key_width (take key_width row)) (as_of times t taken))) row
       step true e = refl
       step false e = sym (ap (λ z. count_of (answer (take key_width row) z) row) (narrow t row taken wide e) ∙ (kind_reduces r.state.reducer key_width).nothing (take key_width row) row)
 
-  pub owed : (received taken : List (Update T)) (frontier : List T) (key : List ℤ) (us : List (Update T)) → StandIn below taken received → IsTrue (are_wide key_width taken) → IsTrue (have_width r.width taken)
-      → IsOwed below key_width answer taken key frontier us → AreOwedOf below r received frontier key us
+  pub owed : (received taken : List (Update T)) (frontier : List T) (key : List ℤ) (us : List (Update T)) → StandIn times taken received → IsTrue (are_wide key_width taken) → IsTrue (have_width r.width taken)
+      → IsOwed times key_width answer taken key frontier us → AreOwedOf times r received frontier key us
   owed received taken frontier key us same wide own z = record {
     apart = z.apart;
     passed = z.passed;
     sums = λ u c t b row.
         step u c t b row (same_row (take key_width row) key) refl
-        ∙ sym (count_of-filter (λ row. same_row (take key_width row) key) (reduction_output r.key (reduction_answer r.state.reducer) (as_of below t received)) row);
+        ∙ sym (count_of-filter (λ row. same_row (take key_width row) key) (reduction_output r.key (reduction_answer r.state.reducer) (as_of times t received)) row);
   }
     where
-      step : (u : Update T) → Contains us u → (t : T) → IsTrue (below t u.time) → (row : List ℤ) (b : Bool) → same_row (take key_width row) key ≡ b
-          → count_of (as_of below t us) row ≡ cond (same_row (take key_width row) key) (count_of (reduction_output r.key (reduction_answer r.state.reducer) (as_of below t received)) row) (pos 0)
+      step : (u : Update T) → Contains us u → (t : T) → IsTrue (times.below t u.time) → (row : List ℤ) (b : Bool) → same_row (take key_width row) key ≡ b
+          → count_of (as_of times t us) row ≡ cond (same_row (take key_width row) key) (count_of (reduction_output r.key (reduction_answer r.state.reducer) (as_of times t received)) row) (pos 0)
       step u c t b row true e =
           z.sums u (member_from_contains us u c) t b row e
-          ∙ (ap (λ y. count_of (answer y (filter (has_key key_width y) (as_of below t taken))) row) (sym (row_same (take key_width row) key e))
+          ∙ (ap (λ y. count_of (answer y (filter (has_key key_width y) (as_of times t taken))) row) (sym (row_same (take key_width row) key e))
           ∙ (of_its_key t row taken wide
-          ∙ (plan_answers r.state.reducer key_width r.key r.width goes room (as_of below t taken) (sum_wide below t r.width taken own) row
-          ∙ (alike_answers r.state.reducer r.key (as_of below t taken) (as_of below t received) (same.sums t) row
-          ∙ ap (λ y. cond y (count_of (reduction_output r.key (reduction_answer r.state.reducer) (as_of below t received)) row) (pos 0)) (sym e)))))
+          ∙ (plan_answers r.state.reducer key_width r.key r.width goes room (as_of times t taken) (sum_wide times t r.width taken own) row
+          ∙ (alike_answers r.state.reducer r.key (as_of times t taken) (as_of times t received) (same.sums t) row
+          ∙ ap (λ y. cond y (count_of (reduction_output r.key (reduction_answer r.state.reducer) (as_of times t received)) row) (pos 0)) (sym e)))))
       step u c t b row false e =
-          absent_row (λ row. same_row (take key_width row) key) (as_of below t us) row (keyed us z.keyed) e
-          ∙ ap (λ y. cond y (count_of (reduction_output r.key (reduction_answer r.state.reducer) (as_of below t received)) row) (pos 0)) (sym e)
+          absent_row (λ row. same_row (take key_width row) key) (as_of times t us) row (keyed us z.keyed) e
+          ∙ ap (λ y. cond y (count_of (reduction_output r.key (reduction_answer r.state.reducer) (as_of times t received)) row) (pos 0)) (sym e)
         where
-          keyed : (us : List (Update T)) → IsTrue (list_all (of_key key_width key) us) → IsTrue (list_all (λ (e : Entry). same_row (take key_width e.row) key) (as_of below t us))
+          keyed : (us : List (Update T)) → IsTrue (list_all (of_key key_width key) us) → IsTrue (list_all (λ (e : Entry). same_row (take key_width e.row) key) (as_of times t us))
           keyed [] h = refl
           keyed (v ∷ us) h =
               let p = and_parts (of_key key_width key v) (list_all (of_key key_width key) us) h in
-              more (below v.time t) p.0 (keyed us p.1)
+              more (times.below v.time t) p.0 (keyed us p.1)
             where
-              more : (b : Bool) → of_key key_width key v ≡ true → IsTrue (list_all (λ (e : Entry). same_row (take key_width e.row) key) (as_of below t us))
-                  → IsTrue (list_all (λ (e : Entry). same_row (take key_width e.row) key) (map Rattle.update.specs.Updates.entry (cond b (v ∷ filter (λ w. below w.time t) us) (filter (λ w. below w.time t) us))))
-              more true e h = and_from (same_row (take key_width v.row) key) (list_all (λ (e : Entry). same_row (take key_width e.row) key) (as_of below t us)) e h
+              more : (b : Bool) → of_key key_width key v ≡ true → IsTrue (list_all (λ (e : Entry). same_row (take key_width e.row) key) (as_of times t us))
+                  → IsTrue (list_all (λ (e : Entry). same_row (take key_width e.row) key) (map Rattle.update.specs.Updates.entry (cond b (v ∷ filter (λ w. times.below w.time t) us) (filter (λ w. times.below w.time t) us))))
+              more true e h = and_from (same_row (take key_width v.row) key) (list_all (λ (e : Entry). same_row (take key_width e.row) key) (as_of times t us)) e h
               more false e h = h
 
-  pub overfull : PartialOrderLaws below → (received taken : List (Update T)) (frontier : List T) → StandIn below taken received → IsTrue (are_wide key_width taken) → IsTrue (have_width r.width taken)
-      → IsOverfull below key_width answer taken frontier → IsOverfullWith below r received frontier
+  pub overfull : PartialOrderLaws times → (received taken : List (Update T)) (frontier : List T) → StandIn times taken received → IsTrue (are_wide key_width taken) → IsTrue (have_width r.width taken)
+      → IsOverfull times key_width answer taken frontier → IsOverfullWith times r received frontier
   overfull o received taken frontier same wide own h = large (overfull_is_large o key_width answer (kind_reduces r.state.reducer key_width) taken frontier h)
     where
-      large : (2 ^ 63 ≤ size taken) ⊎ ((key : List ℤ) × (us : List (Update T)) × IsOwed below key_width answer taken key frontier us × (2 ^ 63 ≤ size us)) → IsOverfullWith below r received frontier
+      large : (2 ^ 63 ≤ size taken) ⊎ ((key : List ℤ) × (us : List (Update T)) × IsOwed times key_width answer taken key frontier us × (2 ^ 63 ≤ size us)) → IsOverfullWith times r received frontier
       large (inl big) = let m = same.smaller in inl (omega (arith, big, m))
       large (inr z) = inr (z.0, z.1, owed received taken frontier z.0 z.1 same wide own z.2, z.3)

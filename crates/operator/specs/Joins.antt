@@ -8,7 +8,8 @@ use Rattle.trace.specs.Readings.{Insertion, reached}
 use Rattle.spine.specs.Spines.{SpineState, Stands, boundaries}
 use Rattle.join.specs.Sides.{Acknowledged}
 use Rattle.operator.specs.Arrangements.{AreInTurn}
-use Rattle.operator_laws.specs.Joining.{on_top}
+use Rattle.operator_laws.specs.JoinNodes.{on_top}
+use Rattle.lattice.specs.Times.{Times}
 
 -- how far each side was acknowledged, the number of the hold at each side's arrangement, and the
 -- columns of each side's rows
@@ -29,21 +30,21 @@ pub record IsFitting (k left right : ℕ) : Type 0 where
 
 -- the updates of a batch stand in for some updates: they have the same sums, no other rows or
 -- times, and are no larger
-pub record IsBatchOf {T : Type 0} (below : T → T → Bool) (us batch : List (Update T)) : Type 0 where
-  pub sums : (t : T) → Alike (as_of below t batch) (as_of below t us)
+pub record IsBatchOf {T : Type 0} (times : Times T) (us batch : List (Update T)) : Type 0 where
+  pub sums : (t : T) → Alike (as_of times t batch) (as_of times t us)
   pub smaller : size batch ≤ size us
   pub among : (p : List ℤ → T → Bool)
       → IsTrue (list_all (λ u. p u.row u.time) us)
       → IsTrue (list_all (λ u. p u.row u.time) batch)
 
-module _ {T : Type 0} (below : T → T → Bool) (minimum : T) where
+module _ {T : Type 0} (times : Times T) where
   -- a side of a join has taken the oldest of the insertions for which its spine stands, up to its
   -- boundary
   pub record IsSide (s : SpineState T) (inserted taken : List (Insertion T)) (boundary : List T) : Type 0 where
-    pub stands : Stands below s inserted
-    pub start : s.list.start ≡ minimum ∷ []
-    pub in_turn : AreInTurn below (minimum ∷ []) inserted
+    pub stands : Stands times s inserted
+    pub start : s.list.start ≡ times.least ∷ []
+    pub in_turn : AreInTurn times (times.least ∷ []) inserted
     pub later : List (Insertion T)
     pub all : inserted ≡ on_top later taken
-    pub ends : boundary ≡ reached (minimum ∷ []) taken
+    pub ends : boundary ≡ reached (times.least ∷ []) taken
     pub readable : Contains (boundaries s) boundary

@@ -10,12 +10,12 @@
 //!
 //! The invariant is the record `IsArrangement`: the holds are the spine's, each asks for a boundary
 //! that the spine has, and rows and times are as the plan says.
-ghost use Rattle.std.specs.Prelude.{◌≡◌, ◌≢◌, ◌<◌, ◌≤◌, ◌∷◌, ◌++◌, ◌^◌, ◌↔◌, [], true, suc, set, length, slice_get, vec_len, vec_capacity, List, Some, ℤ, Bool, IfOk, IfErr, OnOk, OnErr, IsTrue};
+ghost use Rattle.std.specs.Prelude.{◌≡◌, ◌<◌, ◌≤◌, ◌∷◌, ◌++◌, ◌^◌, ◌↔◌, [], true, suc, set, length, slice_get, vec_len, vec_capacity, List, Some, ℤ, Bool, IfOk, IfErr, OnOk, OnErr, IsTrue};
 ghost use Rattle.std.specs.List.{Contains};
 ghost use Rattle.lattice.specs.Frontiers.{all_beyond};
 ghost use Rattle.antichain.specs.Antichains.{IsFrontier};
 ghost use Rattle.update.specs.declared.refusal.Refusal.{Refusal};
-ghost use Rattle.update.specs.Refusals.{IsMemoryOrOverflow};
+ghost use Rattle.update.specs.Refusals.{OnlyMemory, IsMemoryOrOverflow};
 ghost use Rattle.update.specs.Updates.{total_where, HasLargeTotal, size};
 ghost use Rattle.batch.specs.Batches.{IsSealed};
 ghost use Rattle.batch.specs.Intervals.{all_between, is_interval_of, passed_updates, open_updates};
@@ -64,7 +64,7 @@ impl<T: Minimum> Model for Arrangement<T> {
       holds = a.holds.items;
     } };
 
-    ghost invariant = { λ a. IsArrangement T.below T.least (record {
+    ghost invariant = { λ a. IsArrangement T.times (record {
       width = a.width;
       spine = a.spine;
       waiting = a.waiting.updates;
@@ -91,7 +91,7 @@ impl<T: Minimum> Drop for Arrangement<T> {
 // nothing.
 fn known_forward<T: Lattice>(batch: &Batch<T>)
     ensures { IsTrue
-        (all_beyond T.below batch.now.description.lower batch.now.description.upper) }
+        (all_beyond T.times batch.now.description.lower batch.now.description.upper) }
 {
     let _lower = batch.description().lower();
 }
@@ -106,7 +106,7 @@ fn fuel_for(updates: u64, batches: u64) -> u64 {
 fn room_for_one<T: Lattice>(alloc: Global) -> Result<Vec<Hold<T>>, Refusal>
     ensures empty { IfOk result (λ holds. (holds.items ≡ []) × (vec_len holds ≡ 0)) }
     ensures room { IfOk result (λ holds. vec_len holds < vec_capacity holds) }
-    ensures only { IfErr result (λ refused. refused ≡ Refusal.OutOfMemory) }
+    ensures only { OnlyMemory result }
 {
     let mut holds = Vec::new(alloc);
     match holds.reserve(1) {
@@ -130,8 +130,8 @@ impl<T: Minimum> Arrangement<T> {
         readers: usize,
     ) -> Result<Arrangement<T>, Refusal>
         ensures begun { IfOk result
-            (IsNew T.below T.least worker node width (suc readers)) }
-        ensures only { IfErr result (λ refused. refused ≡ Refusal.OutOfMemory) }
+            (IsNew T.times worker node width (suc readers)) }
+        ensures only { OnlyMemory result }
     {
         let mut made = Arrangement::without_readers(alloc, worker, node, width)?;
         for _reader in 0..readers {
@@ -148,8 +148,8 @@ impl<T: Minimum> Arrangement<T> {
         width: usize,
     ) -> Result<Arrangement<T>, Refusal>
         ensures begun { IfOk result
-            (IsNew T.below T.least worker node width 1) }
-        ensures only { IfErr result (λ refused. refused ≡ Refusal.OutOfMemory) }
+            (IsNew T.times worker node width 1) }
+        ensures only { OnlyMemory result }
     {
         let mut holds = room_for_one(alloc)?;
         match Spine::new(alloc, worker, node) {
@@ -169,8 +169,8 @@ impl<T: Minimum> Arrangement<T> {
         }
     }
 
-    /// One more hold, from the upper frontier of the spine on and at the times that may be read, and
-    /// its number. If it is refused, then nothing has changed: [`Refusal::OutOfMemory`] only.
+    /// One more hold, from the upper frontier of the spine on and at the times that may be read,
+    /// and its number. If it is refused, then nothing has changed: [`Refusal::OutOfMemory`] only.
     pub fn add_reader(&mut self, alloc: Global) -> Result<usize, Refusal>
         ensures number { IfOk result
             (λ number. (number ≡ length self.old.holds) × (0 < number)) }
@@ -181,13 +181,13 @@ impl<T: Minimum> Arrangement<T> {
             physical = upper_of self.old.spine;
           } ∷ [];
         }) }
-        ensures stands { OnOk result ((h : List (Insertion T)) → Stands T.below self.old.spine h
-            → Stands T.below self.new.spine h) }
-        ensures open { OnOk result ((h : List (Insertion T)) → Stands T.below self.old.spine h
-            → AreInTurn T.below self.old.spine.list.start h → IsOpen T.below self.old.spine h
-            → IsOpen T.below self.new.spine h) }
+        ensures stands { OnOk result ((h : List (Insertion T)) → Stands T.times self.old.spine h
+            → Stands T.times self.new.spine h) }
+        ensures open { OnOk result ((h : List (Insertion T)) → Stands T.times self.old.spine h
+            → AreInTurn T.times self.old.spine.list.start h → IsOpen T.times self.old.spine h
+            → IsOpen T.times self.new.spine h) }
         ensures same { OnErr result (self.new ≡ self.old) }
-        ensures only { IfErr result (λ refused. refused ≡ Refusal.OutOfMemory) }
+        ensures only { OnlyMemory result }
     {
         let number = self.holds.len();
         self.holds.reserve(1)?;
@@ -196,21 +196,21 @@ impl<T: Minimum> Arrangement<T> {
         Ok(number)
     }
 
-    /// Moves updates into the arrangement, which keeps them until the input frontier has passed their
-    /// times. Their list is empty then. Their rows have the width of the arrangement, and their times
-    /// are at or after the least one. If memory was refused, then nothing has changed, and the list has
-    /// all of them: [`Refusal::OutOfMemory`] only.
+    /// Moves updates into the arrangement, which keeps them until the input frontier has passed
+    /// their times. Their list is empty then. Their rows have the width of the arrangement, and
+    /// their times are at or after the least one. If memory was refused, then nothing has changed,
+    /// and the list has all of them: [`Refusal::OutOfMemory`] only.
     ///
     /// Cost: each time is compared with all times of which none is before another.
     pub fn take_in(&mut self, updates: &mut Vec<Update<T>>) -> Result<(), Refusal>
         requires rows { IsTrue (rows_have self.old.width updates.old.items) }
-        requires times { IsTrue (times_from T.below T.least updates.old.items) }
+        requires times { IsTrue (times_from T.times updates.old.items) }
         ensures waiting { OnOk result
             (self.new ≡ record self.old { waiting = self.old.waiting ++ updates.old.items }) }
         ensures moved { OnOk result (updates.new.items ≡ []) }
         ensures same { OnErr result (self.new ≡ self.old) }
         ensures left { OnErr result (updates.new.items ≡ updates.old.items) }
-        ensures only { IfErr result (λ refused. refused ≡ Refusal.OutOfMemory) }
+        ensures only { OnlyMemory result }
     {
         self.waiting.take_in(updates)
     }
@@ -219,10 +219,10 @@ impl<T: Minimum> Arrangement<T> {
     /// [`Refusal::OutOfMemory`] only if memory for these times was refused.
     pub fn held(&self, alloc: Global) -> Result<Vec<T>, Refusal>
         ensures covers { IfOk result (λ held. IsTrue
-            (all_beyond T.below held.items (times_of self.now.waiting))) }
+            (all_beyond T.times held.items (times_of self.now.waiting))) }
         ensures tight { IfOk result (λ held. IsTrue
-            (all_beyond T.below (times_of self.now.waiting) held.items)) }
-        ensures only { IfErr result (λ refused. refused ≡ Refusal.OutOfMemory) }
+            (all_beyond T.times (times_of self.now.waiting) held.items)) }
+        ensures only { OnlyMemory result }
     {
         self.waiting.held(alloc)
     }
@@ -240,35 +240,35 @@ impl<T: Minimum> Arrangement<T> {
     /// Cost: n log n comparisons in the number of passed updates, and a constant number of
     /// comparisons of each update that waits with each element of the frontiers.
     pub fn seal(&mut self, upper: &Antichain<T>) -> Result<Batch<T>, Refusal>
-        requires { IsTrue (is_interval_of T.below (upper_of self.old.spine) upper.now
-            (passed_updates T.below upper.now self.old.waiting)) }
+        requires { IsTrue (is_interval_of T.times (upper_of self.old.spine) upper.now
+            (passed_updates T.times upper.now self.old.waiting)) }
         ensures described { IfOk result (λ batch. batch.description ≡ record {
           worker = self.old.spine.list.worker;
           node = self.old.spine.list.node;
           lower = upper_of self.old.spine;
           upper = upper.now;
-          since = T.least ∷ [];
+          since = T.times.least ∷ [];
         }) }
         ensures continues { IfOk result (λ batch. Continues self.old.spine.list.worker
             self.old.spine.list.node (upper_of self.old.spine) batch) }
         ensures sealed { IfOk result (λ batch. IsSealed T.cmp batch.updates) }
         ensures between { IfOk result (λ batch. IsTrue
-            (all_between T.below (upper_of self.old.spine) upper.now batch.updates)) }
+            (all_between T.times (upper_of self.old.spine) upper.now batch.updates)) }
         ensures totals { IfOk result (λ batch. (p : List ℤ → T → Bool)
             → total_where p batch.updates
-            ≡ total_where p (passed_updates T.below upper.now self.old.waiting)) }
+            ≡ total_where p (passed_updates T.times upper.now self.old.waiting)) }
         ensures size { IfOk result (λ batch.
-            size batch.updates ≤ size (passed_updates T.below upper.now self.old.waiting)) }
+            size batch.updates ≤ size (passed_updates T.times upper.now self.old.waiting)) }
         ensures rows { IfOk result
             (λ batch. IsTrue (rows_have self.old.width batch.updates)) }
         ensures times { IfOk result
-            (λ batch. IsTrue (times_from T.below T.least batch.updates)) }
+            (λ batch. IsTrue (times_from T.times batch.updates)) }
         ensures rest { OnOk result (self.new ≡ record self.old {
-          waiting = open_updates T.below upper.now self.old.waiting;
+          waiting = open_updates T.times upper.now self.old.waiting;
         }) }
         ensures same { OnErr result (self.new ≡ self.old) }
         ensures refused { IfErr result (IsMemoryOrOverflow
-            (HasLargeTotal T.below (passed_updates T.below upper.now self.old.waiting))) }
+            (HasLargeTotal T.times (passed_updates T.times upper.now self.old.waiting))) }
     {
         let batch = self.waiting.seal(self.spine.upper(), upper)?;
         Ok(batch)
@@ -282,12 +282,12 @@ impl<T: Minimum> Arrangement<T> {
             list = record self.old.spine.list { reserved = true };
           };
         }) }
-        ensures stands { (h : List (Insertion T)) → Stands T.below self.old.spine h
-            → Stands T.below self.new.spine h }
-        ensures open { (h : List (Insertion T)) → IsOpen T.below self.old.spine h
-            → IsOpen T.below self.new.spine h }
+        ensures stands { (h : List (Insertion T)) → Stands T.times self.old.spine h
+            → Stands T.times self.new.spine h }
+        ensures open { (h : List (Insertion T)) → IsOpen T.times self.old.spine h
+            → IsOpen T.times self.new.spine h }
         ensures same { OnErr result (self.new ≡ self.old) }
-        ensures only { IfErr result (λ refused. refused ≡ Refusal.OutOfMemory) }
+        ensures only { OnlyMemory result }
     {
         self.spine.reserve()?;
         Ok(())
@@ -302,7 +302,7 @@ impl<T: Minimum> Arrangement<T> {
         requires continues { Continues self.old.spine.list.worker self.old.spine.list.node
             (upper_of self.old.spine) batch }
         requires rows { IsTrue (rows_have self.old.width batch.updates) }
-        requires times { IsTrue (times_from T.below T.least batch.updates) }
+        requires times { IsTrue (times_from T.times batch.updates) }
         ensures inserted { self.new ≡ record self.old {
           spine = record self.old.spine {
             list = record self.old.spine.list {
@@ -312,10 +312,10 @@ impl<T: Minimum> Arrangement<T> {
           };
         } }
         ensures upper { upper_of self.new.spine ≡ batch.description.upper }
-        ensures stands { (h : List (Insertion T)) → Stands T.below self.old.spine h
-            → Stands T.below self.new.spine (insertion_of batch ∷ h) }
-        ensures open { (h : List (Insertion T)) → IsOpen T.below self.old.spine h
-            → IsOpen T.below self.new.spine (insertion_of batch ∷ h) }
+        ensures stands { (h : List (Insertion T)) → Stands T.times self.old.spine h
+            → Stands T.times self.new.spine (insertion_of batch ∷ h) }
+        ensures open { (h : List (Insertion T)) → IsOpen T.times self.old.spine h
+            → IsOpen T.times self.new.spine (insertion_of batch ∷ h) }
     {
         known_forward(&batch);
         self.spine.insert(batch).unwrap();
@@ -339,22 +339,24 @@ impl<T: Minimum> Arrangement<T> {
           };
         } }
         ensures upper { upper_of self.new.spine ≡ upper_of self.old.spine }
-        ensures stands { (h : List (Insertion T)) → Stands T.below self.old.spine h
-            → Stands T.below self.new.spine h }
-        ensures open { (h : List (Insertion T)) → IsOpen T.below self.old.spine h
-            → IsOpen T.below self.new.spine h }
+        ensures stands { (h : List (Insertion T)) → Stands T.times self.old.spine h
+            → Stands T.times self.new.spine h }
+        ensures open { (h : List (Insertion T)) → IsOpen T.times self.old.spine h
+            → IsOpen T.times self.new.spine h }
     {
         let batches = all_batches(&self.spine).len() as u64;
         let _done = self.spine.work(fuel_for(more as u64, batches));
     }
 
-    /// Lets the spine merge batches with so much fuel, one unit for each update that is copied. True if
-    /// and only if nothing is left to do: some reader may ask for each boundary between two batches. A
-    /// merge that is not whole when the fuel ends goes on with the next call. No reader notices.
+    /// Lets the spine merge batches with so much fuel, one unit for each update that is copied.
+    /// True if and only if nothing is left to do: some reader may ask for each boundary between two
+    /// batches. A merge that is not whole when the fuel ends goes on with the next call. No reader
+    /// notices.
     ///
     /// If it is refused, then some may have been done, and the merge that was refused is given up.
     ///
-    /// - [`Refusal::Overflow`] only if the absolute diffs of all that was inserted sum to 2^63 or more.
+    /// - [`Refusal::Overflow`] only if the absolute diffs of all that was inserted sum to 2^63 or
+    ///   more.
     /// - [`Refusal::OutOfMemory`] only if memory for a merged batch was refused.
     ///
     /// Cost: that of [`Spine::work`].
@@ -369,14 +371,14 @@ impl<T: Minimum> Arrangement<T> {
           };
         } }
         ensures upper { upper_of self.new.spine ≡ upper_of self.old.spine }
-        ensures stands { (h : List (Insertion T)) → Stands T.below self.old.spine h
-            → Stands T.below self.new.spine h }
-        ensures open { (h : List (Insertion T)) → IsOpen T.below self.old.spine h
-            → IsOpen T.below self.new.spine h }
-        ensures done { IfOk result (λ done. (done ≡ true) ↔ IsDone T.below self.new.spine) }
+        ensures stands { (h : List (Insertion T)) → Stands T.times self.old.spine h
+            → Stands T.times self.new.spine h }
+        ensures open { (h : List (Insertion T)) → IsOpen T.times self.old.spine h
+            → IsOpen T.times self.new.spine h }
+        ensures done { IfOk result (λ done. (done ≡ true) ↔ IsDone T.times self.new.spine) }
         ensures idle { fuel ≡ 0 → self.new ≡ self.old }
         ensures refused { IfErr result (IsMemoryOrOverflow ((h : List (Insertion T))
-            → Stands T.below self.old.spine h → 2 ^ 63 ≤ size (all_updates h))) }
+            → Stands T.times self.old.spine h → 2 ^ 63 ≤ size (all_updates h))) }
     {
         self.spine.work(fuel)
     }
@@ -386,18 +388,19 @@ impl<T: Minimum> Arrangement<T> {
         requires reader { reader < length self.now.holds }
         ensures value { (hold : HoldState T) → slice_get self.now.holds reader ≡ Some hold
             → result.now ≡ hold.logical }
-        ensures frontier { IsFrontier T.below T.cmp result.now }
+        ensures frontier { IsFrontier T.times T.cmp result.now }
     {
         self.holds[reader].logical()
     }
 
-    /// Moves the hold of a reader on, by its number. From then on the reader sums at times beyond the
-    /// logical frontier alone, and the spine may advance times that are before. The reader has taken all
-    /// that was inserted up to the boundary: one that the spine has. It asks for boundaries from there
-    /// on, and the spine may merge what is before. Neither may go back. If memory for frontiers was
-    /// refused, then nothing has changed: [`Refusal::OutOfMemory`] only.
+    /// Moves the hold of a reader on, by its number. From then on the reader sums at times beyond
+    /// the logical frontier alone, and the spine may advance times that are before. The reader has
+    /// taken all that was inserted up to the boundary: one that the spine has. It asks for
+    /// boundaries from there on, and the spine may merge what is before. Neither may go back. If
+    /// memory for frontiers was refused, then nothing has changed: [`Refusal::OutOfMemory`] only.
     ///
-    /// Cost: each element of the logical frontiers of all holds is compared with the least ones so far.
+    /// Cost: each element of the logical frontiers of all holds is compared with the least ones so
+    /// far.
     pub fn advance(
         &mut self,
         alloc: Global,
@@ -407,11 +410,11 @@ impl<T: Minimum> Arrangement<T> {
     ) -> Result<(), Refusal>
         requires reader { reader < length self.old.holds }
         requires onward { (hold : HoldState T) → slice_get self.old.holds reader ≡ Some hold
-            → IsTrue (all_beyond T.below hold.logical logical.now) }
+            → IsTrue (all_beyond T.times hold.logical logical.now) }
         requires boundary { Contains (boundaries self.old.spine) boundary.now }
         requires forward { (hold : HoldState T) → slice_get self.old.holds reader ≡ Some hold
-            → IsTrue (all_beyond T.below hold.physical boundary.now) }
-        requires behind { IsTrue (all_beyond T.below boundary.now (upper_of self.old.spine)) }
+            → IsTrue (all_beyond T.times hold.physical boundary.now) }
+        requires behind { IsTrue (all_beyond T.times boundary.now (upper_of self.old.spine)) }
         ensures moved { OnOk result (self.new ≡ record self.old {
           spine = record self.old.spine {
             since = self.new.spine.since;
@@ -422,20 +425,20 @@ impl<T: Minimum> Arrangement<T> {
             physical = boundary.now;
           };
         }) }
-        ensures stands { (h : List (Insertion T)) → Stands T.below self.old.spine h
-            → Stands T.below self.new.spine h }
-        ensures open { OnOk result ((h : List (Insertion T)) → IsOpen T.below self.old.spine h
-            → IsOpen T.below self.new.spine h) }
+        ensures stands { (h : List (Insertion T)) → Stands T.times self.old.spine h
+            → Stands T.times self.new.spine h }
+        ensures open { OnOk result ((h : List (Insertion T)) → IsOpen T.times self.old.spine h
+            → IsOpen T.times self.new.spine h) }
         ensures same { OnErr result (self.new ≡ self.old) }
-        ensures only { IfErr result (λ refused. refused ≡ Refusal.OutOfMemory) }
+        ensures only { OnlyMemory result }
     {
         let hold = &mut self.holds[reader];
         self.spine.advance_hold(alloc, hold, logical, boundary)?;
         Ok(())
     }
 
-    /// Moves the hold of a reader on that has taken all that was inserted, up to the frontier that the
-    /// spine has reached. Otherwise it is [`advance`](Arrangement::advance).
+    /// Moves the hold of a reader on that has taken all that was inserted, up to the frontier that
+    /// the spine has reached. Otherwise it is [`advance`](Arrangement::advance).
     pub fn acknowledge(
         &mut self,
         alloc: Global,
@@ -445,7 +448,7 @@ impl<T: Minimum> Arrangement<T> {
     ) -> Result<(), Refusal>
         requires reader { reader < length self.old.holds }
         requires onward { (hold : HoldState T) → slice_get self.old.holds reader ≡ Some hold
-            → IsTrue (all_beyond T.below hold.logical logical.now) }
+            → IsTrue (all_beyond T.times hold.logical logical.now) }
         requires upper { upper.now ≡ upper_of self.old.spine }
         ensures moved { OnOk result (self.new ≡ record self.old {
           spine = record self.old.spine {
@@ -457,12 +460,12 @@ impl<T: Minimum> Arrangement<T> {
             physical = upper_of self.old.spine;
           };
         }) }
-        ensures stands { (h : List (Insertion T)) → Stands T.below self.old.spine h
-            → Stands T.below self.new.spine h }
-        ensures open { OnOk result ((h : List (Insertion T)) → IsOpen T.below self.old.spine h
-            → IsOpen T.below self.new.spine h) }
+        ensures stands { (h : List (Insertion T)) → Stands T.times self.old.spine h
+            → Stands T.times self.new.spine h }
+        ensures open { OnOk result ((h : List (Insertion T)) → IsOpen T.times self.old.spine h
+            → IsOpen T.times self.new.spine h) }
         ensures same { OnErr result (self.new ≡ self.old) }
-        ensures only { IfErr result (λ refused. refused ≡ Refusal.OutOfMemory) }
+        ensures only { OnlyMemory result }
     {
         let _spine = self.trace();
         self.advance(alloc, reader, logical, upper)?;
@@ -473,17 +476,17 @@ impl<T: Minimum> Arrangement<T> {
     /// it has more than four elements.
     pub fn upper(&self, alloc: Global) -> Result<Antichain<T>, Refusal>
         ensures is { IfOk result (λ upper. upper ≡ upper_of self.now.spine) }
-        ensures only { IfErr result (λ refused. refused ≡ Refusal.OutOfMemory) }
+        ensures only { OnlyMemory result }
     {
         antichain_of(alloc, self.spine.upper())
     }
 
-    /// The spine, for its readers. All rows have the width of the arrangement, and each hold asks for
-    /// a boundary of the spine. The times may be read that are beyond the logical frontier of some
-    /// hold. Takes no memory.
+    /// The spine, for its readers. All rows have the width of the arrangement, and each hold asks
+    /// for a boundary of the spine. The times may be read that are beyond the logical frontier of
+    /// some hold. Takes no memory.
     pub fn trace(&self) -> &Spine<T>
         ensures value { result.now ≡ self.now.spine }
-        ensures known { IsArrangement T.below T.least self.now }
+        ensures known { IsArrangement T.times self.now }
     {
         &self.spine
     }

@@ -3,8 +3,9 @@
 //! What a worker holds at a node is the least of the times that wait there. The list has no time at
 //! or after another one of it, and the same times are beyond it as are at or after one of those
 //! that were put in.
-ghost use Rattle.std.specs.Prelude.{◌≡◌, ◌||◌, IfOk, IfErr, IfSome, IsTrue, None, OnOk};
+ghost use Rattle.std.specs.Prelude.{◌≡◌, ◌||◌, IfOk, IfSome, None, OnOk};
 ghost use Rattle.std.specs.List.{list_all};
+ghost use Rattle.update.specs.Refusals.{OnlyMemory};
 ghost use Rattle.lattice.specs.Frontiers.{is_beyond};
 ghost use Rattle.antichain.specs.Antichains.{IsFrontier};
 ghost use Rattle.antichain.specs.Insertion.{not_above};
@@ -19,9 +20,9 @@ use update::{Refusal, Update};
 
 // The antichain of a frontier.
 pub fn antichain_of<T: Lattice>(alloc: Global, frontier: &[T]) -> Result<Antichain<T>, Refusal>
-    requires { IsFrontier T.below T.cmp frontier.now }
+    requires { IsFrontier T.times T.cmp frontier.now }
     ensures is { IfOk result (λ made. made ≡ frontier.now) }
-    ensures only { IfErr result (λ refused. refused ≡ Refusal.OutOfMemory) }
+    ensures only { OnlyMemory result }
 {
     let made = Antichain::least_of(alloc, frontier)?;
     made.known();
@@ -30,16 +31,16 @@ pub fn antichain_of<T: Lattice>(alloc: Global, frontier: &[T]) -> Result<Anticha
 
 // Removes the times that `t` is at or before.
 fn drop_later<T: Lattice>(front: &mut Vec<T>, t: T)
-    ensures { front.new.items ≡ not_above T.below t front.old.items }
+    ensures { front.new.items ≡ not_above T.times t front.old.items }
 {
     front.retain(|e| !t.less_equal(e));
 }
 
 // Takes in one more time, unless another one is at or before it.
 fn put_in<T: Lattice>(front: &mut Vec<T>, t: T) -> Result<(), Refusal>
-    ensures beyond { OnOk result ((s : T) → is_beyond T.below front.new.items s
-        ≡ (T.below t s || is_beyond T.below front.old.items s)) }
-    ensures only { IfErr result (λ refused. refused ≡ Refusal.OutOfMemory) }
+    ensures beyond { OnOk result ((s : T) → is_beyond T.times front.new.items s
+        ≡ (T.times.below t s || is_beyond T.times front.old.items s)) }
+    ensures only { OnlyMemory result }
 {
     if !is_beyond(front.as_slice(), &t) {
         drop_later(front, t);
@@ -50,9 +51,9 @@ fn put_in<T: Lattice>(front: &mut Vec<T>, t: T) -> Result<(), Refusal>
 
 // Takes in all of these times.
 pub(crate) fn put_in_all<T: Lattice>(front: &mut Vec<T>, times: &[T]) -> Result<(), Refusal>
-    ensures beyond { OnOk result ((t : T) → is_beyond T.below front.new.items t
-        ≡ (is_beyond T.below front.old.items t || is_beyond T.below times.now t)) }
-    ensures only { IfErr result (λ refused. refused ≡ Refusal.OutOfMemory) }
+    ensures beyond { OnOk result ((t : T) → is_beyond T.times front.new.items t
+        ≡ (is_beyond T.times front.old.items t || is_beyond T.times times.now t)) }
+    ensures only { OnlyMemory result }
 {
     for time in times {
         put_in(front, *time)?;
@@ -61,12 +62,12 @@ pub(crate) fn put_in_all<T: Lattice>(front: &mut Vec<T>, times: &[T]) -> Result<
 }
 
 // Takes in the times of all of these updates: the same times are beyond `front` afterwards as were
-// before, or are at or after one of these. If memory was refused, then some of the times may have been
-// taken in.
+// before, or are at or after one of these. If memory was refused, then some of the times may have
+// been taken in.
 fn put_in_updates<T: Lattice>(front: &mut Vec<T>, updates: &[Update<T>]) -> Result<(), Refusal>
-    ensures beyond { OnOk result ((t : T) → is_beyond T.below front.new.items t
-        ≡ (is_beyond T.below front.old.items t || is_beyond T.below (times_of updates.now) t)) }
-    ensures only { IfErr result (λ refused. refused ≡ Refusal.OutOfMemory) }
+    ensures beyond { OnOk result ((t : T) → is_beyond T.times front.new.items t
+        ≡ (is_beyond T.times front.old.items t || is_beyond T.times (times_of updates.now) t)) }
+    ensures only { OnlyMemory result }
 {
     for update in updates {
         put_in(front, update.time)?;
@@ -76,7 +77,7 @@ fn put_in_updates<T: Lattice>(front: &mut Vec<T>, updates: &[Update<T>]) -> Resu
 
 // Whether the time of each update is at or after one of these times.
 fn covers<T: Lattice>(times: &[T], updates: &[Update<T>]) -> bool
-    ensures { result ≡ list_all (λ u. is_beyond T.below times.now u.time) updates.now }
+    ensures { result ≡ list_all (λ u. is_beyond T.times times.now u.time) updates.now }
 {
     updates.iter().all(|update| is_beyond(times, &update.time))
 }
@@ -91,11 +92,11 @@ pub fn front_with<T: Lattice>(
     updates: &[Update<T>],
 ) -> Result<Option<Vec<T>>, Refusal>
     ensures more { IfOk result (λ more. IfSome more (λ front. (t : T)
-        → is_beyond T.below front.items t
-        ≡ (is_beyond T.below times.now t || is_beyond T.below (times_of updates.now) t))) }
-    ensures none { IfOk result (λ more. more ≡ None → (t : T) → is_beyond T.below times.now t
-        ≡ (is_beyond T.below times.now t || is_beyond T.below (times_of updates.now) t)) }
-    ensures only { IfErr result (λ refused. refused ≡ Refusal.OutOfMemory) }
+        → is_beyond T.times front.items t
+        ≡ (is_beyond T.times times.now t || is_beyond T.times (times_of updates.now) t))) }
+    ensures none { IfOk result (λ more. more ≡ None → (t : T) → is_beyond T.times times.now t
+        ≡ (is_beyond T.times times.now t || is_beyond T.times (times_of updates.now) t)) }
+    ensures only { OnlyMemory result }
 {
     if covers(times, updates) {
         return Ok(None);
@@ -121,9 +122,9 @@ pub(crate) fn front_of_open<T: Lattice>(
     updates: &[Update<T>],
     upper: &[T],
 ) -> Result<Vec<T>, Refusal>
-    ensures beyond { IfOk result (λ front. (t : T) → is_beyond T.below front.items t
-        ≡ is_beyond T.below (times_of (open_updates T.below upper.now updates.now)) t) }
-    ensures only { IfErr result (λ refused. refused ≡ Refusal.OutOfMemory) }
+    ensures beyond { IfOk result (λ front. (t : T) → is_beyond T.times front.items t
+        ≡ is_beyond T.times (times_of (open_updates T.times upper.now updates.now)) t) }
+    ensures only { OnlyMemory result }
 {
     let mut front = Vec::new(alloc);
     for update in updates {

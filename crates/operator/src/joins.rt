@@ -11,7 +11,7 @@ ghost use Rattle.std.specs.Prelude.{◌≡◌, ◌≤◌, ◌+◌, ◌-◌, ◌*
 ghost use Rattle.std.specs.List.{Contains};
 ghost use Rattle.antichain.specs.Antichains.{IsFrontier};
 ghost use Rattle.update.specs.Updates.{size, IsConsolidated};
-ghost use Rattle.update.specs.Refusals.{IsMemoryOrOverflow};
+ghost use Rattle.update.specs.Refusals.{OnlyMemory, IsMemoryOrOverflow};
 ghost use Rattle.update.specs.declared.refusal.Refusal.{Refusal};
 ghost use Rattle.batch.specs.Intervals.{all_times_beyond, is_interval_of};
 ghost use Rattle.trace.specs.Readings.{Insertion, all_updates};
@@ -19,7 +19,7 @@ ghost use Rattle.spine.specs.Spines.{boundaries, stored};
 ghost use Rattle.join.specs.Pairs.{pairs};
 ghost use Rattle.join.specs.Sides.{all_rows_have};
 ghost use Rattle.operator.specs.Arrangements.{times_from};
-ghost use Rattle.operator_laws.specs.Joining.{IsAnswer};
+ghost use Rattle.operator_laws.specs.JoinNodes.{IsAnswer};
 ghost use Rattle.operator.specs.Joins.{IsSide, IsBatchOf, IsFitting};
 
 use crate::frontier::antichain_of;
@@ -64,9 +64,9 @@ impl<T: Minimum> Model for Joining<T> {
 
 // The frontier that has the least time alone.
 fn least_time<T: Minimum>(alloc: Global) -> Result<Vec<T>, Refusal>
-    ensures is { IfOk result (λ times. times.items ≡ T.least ∷ []) }
-    ensures frontier { IfOk result (λ times. IsFrontier T.below T.cmp times.items) }
-    ensures only { IfErr result (λ refused. refused ≡ Refusal.OutOfMemory) }
+    ensures is { IfOk result (λ times. times.items ≡ T.times.least ∷ []) }
+    ensures frontier { IfOk result (λ times. IsFrontier T.times T.cmp times.items) }
+    ensures only { OnlyMemory result }
 {
     let mut times = Vec::new(alloc);
     times.push(T::minimum())?;
@@ -80,11 +80,11 @@ fn sealed_between<T: Minimum>(
     lower: &[T],
     upper: &Antichain<T>,
 ) -> Result<Batch<T>, Refusal>
-    requires frontier { IsFrontier T.below T.cmp lower.now }
-    requires interval { IsTrue (is_interval_of T.below lower.now upper.now updates.now) }
+    requires frontier { IsFrontier T.times T.cmp lower.now }
+    requires interval { IsTrue (is_interval_of T.times lower.now upper.now updates.now) }
     ensures lower { IfOk result (λ batch. batch.description.lower ≡ lower.now) }
     ensures upper { IfOk result (λ batch. batch.description.upper ≡ upper.now) }
-    ensures stands { IfOk result (λ batch. IsBatchOf T.below updates.now batch.updates) }
+    ensures stands { IfOk result (λ batch. IsBatchOf T.times updates.now batch.updates) }
     ensures refused { IfErr result (IsMemoryOrOverflow (2 ^ 63 ≤ size updates.now)) }
 {
     let from = antichain_of(alloc, lower)?;
@@ -106,13 +106,18 @@ impl<T: Minimum> Joining<T> {
     ) -> Result<Joining<T>, Refusal>
         requires { IsFitting key left_width right_width }
         ensures made { IfOk result (λ made. made ≡ record {
-          state = record { key = key; left = T.least ∷ []; right = T.least ∷ []; looked = 0 };
+          state = record {
+            key = key;
+            left = T.times.least ∷ [];
+            right = T.times.least ∷ [];
+            looked = 0;
+          };
           left_hold = left_hold;
           right_hold = right_hold;
           left_width = left_width;
           right_width = right_width;
         }) }
-        ensures only { IfErr result (λ refused. refused ≡ Refusal.OutOfMemory) }
+        ensures only { OnlyMemory result }
     {
         let left = least_time(alloc)?;
         let right = least_time(alloc)?;
@@ -142,7 +147,7 @@ impl<T: Minimum> Joining<T> {
     /// The boundary up to which the left side was taken, a frontier. Takes no memory.
     pub fn left(&self) -> &[T]
         ensures value { result.now ≡ self.now.state.left }
-        ensures frontier { IsFrontier T.below T.cmp self.now.state.left }
+        ensures frontier { IsFrontier T.times T.cmp self.now.state.left }
     {
         self.state.left()
     }
@@ -150,7 +155,7 @@ impl<T: Minimum> Joining<T> {
     /// The boundary up to which the right side was taken, a frontier. Takes no memory.
     pub fn right(&self) -> &[T]
         ensures value { result.now ≡ self.now.state.right }
-        ensures frontier { IsFrontier T.below T.cmp self.now.state.right }
+        ensures frontier { IsFrontier T.times T.cmp self.now.state.right }
     {
         self.state.right()
     }
@@ -159,8 +164,8 @@ impl<T: Minimum> Joining<T> {
     /// nothing.
     pub fn known(&self)
         ensures fitting { IsFitting self.now.state.key self.now.left_width self.now.right_width }
-        ensures left { IsFrontier T.below T.cmp self.now.state.left }
-        ensures right { IsFrontier T.below T.cmp self.now.state.right }
+        ensures left { IsFrontier T.times T.cmp self.now.state.left }
+        ensures right { IsFrontier T.times T.cmp self.now.state.right }
     {
         let _left = self.state.left();
         let _right = self.state.right();
@@ -174,9 +179,9 @@ impl<T: Minimum> Joining<T> {
         self.state.looked()
     }
 
-    /// Takes the updates of a list that comes to the left port, and returns their pairs with all that the
-    /// right side has acknowledged, consolidated. `upper` is the frontier that the left spine has
-    /// reached: the left side is then acknowledged up to it.
+    /// Takes the updates of a list that comes to the left port, and returns their pairs with all
+    /// that the right side has acknowledged, consolidated. `upper` is the frontier that the left
+    /// spine has reached: the left side is then acknowledged up to it.
     ///
     /// The times of the updates are between the left boundary and `upper`. The right spine has the
     /// right boundary and may be read at these times. Rows have the widths of their sides. If the
@@ -186,8 +191,8 @@ impl<T: Minimum> Joining<T> {
     ///   the right side has acknowledged, is at least 2^63.
     /// - [`Refusal::OutOfMemory`] only if memory was refused: for pairs, or for frontiers.
     ///
-    /// Cost: as for [`seal_list`], and then as [`JoinState::take_left`]. Updates that an arrangement gave
-    /// are not sorted again.
+    /// Cost: as for [`seal_list`], and then as [`JoinState::take_left`]. Updates that an
+    /// arrangement gave are not sorted again.
     pub fn take_left(
         &mut self,
         alloc: Global,
@@ -196,16 +201,16 @@ impl<T: Minimum> Joining<T> {
         right: &Spine<T>,
     ) -> Result<Vec<Update<T>>, Refusal>
         requires rows { IsTrue (all_rows_have self.old.left_width updates.now) }
-        requires times { IsTrue (times_from T.below T.least updates.now) }
-        requires interval { IsTrue (is_interval_of T.below self.old.state.left
+        requires times { IsTrue (times_from T.times updates.now) }
+        requires interval { IsTrue (is_interval_of T.times self.old.state.left
             upper.now updates.now) }
         requires readable { Contains (boundaries right.now) self.old.state.right }
         requires right_rows { IsTrue (all_rows_have self.old.right_width (stored right.now)) }
-        requires later { IsTrue (all_times_beyond T.below right.now.since updates.now) }
+        requires later { IsTrue (all_times_beyond T.times right.now.since updates.now) }
         ensures answer { (inserted taken : List (Insertion T))
-            → IsSide T.below T.least right.now inserted taken self.old.state.right
-            → IfOk result (λ out. IsAnswer T.below
-            (pairs T.joined self.old.state.key updates.now (all_updates taken))
+            → IsSide T.times right.now inserted taken self.old.state.right
+            → IfOk result (λ out. IsAnswer T.times
+            (pairs T.times self.old.state.key updates.now (all_updates taken))
             updates.now (all_updates taken) out.items) }
         ensures consolidated { IfOk result (λ out. IsConsolidated T.cmp out.items) }
         ensures width { IfOk result (λ out. IsTrue (all_rows_have
@@ -218,7 +223,7 @@ impl<T: Minimum> Joining<T> {
         }) }
         ensures same { OnErr result (self.new ≡ self.old) }
         ensures refused { IfErr result (IsMemoryOrOverflow ((inserted taken : List (Insertion T))
-            → IsSide T.below T.least right.now inserted taken self.old.state.right
+            → IsSide T.times right.now inserted taken self.old.state.right
             → (2 ^ 63 ≤ size updates.now)
             ⊎ (2 ^ 63 ≤ size updates.now * size (all_updates taken)))) }
     {
@@ -237,16 +242,16 @@ impl<T: Minimum> Joining<T> {
         left: &Spine<T>,
     ) -> Result<Vec<Update<T>>, Refusal>
         requires rows { IsTrue (all_rows_have self.old.right_width updates.now) }
-        requires times { IsTrue (times_from T.below T.least updates.now) }
-        requires interval { IsTrue (is_interval_of T.below self.old.state.right
+        requires times { IsTrue (times_from T.times updates.now) }
+        requires interval { IsTrue (is_interval_of T.times self.old.state.right
             upper.now updates.now) }
         requires readable { Contains (boundaries left.now) self.old.state.left }
         requires left_rows { IsTrue (all_rows_have self.old.left_width (stored left.now)) }
-        requires later { IsTrue (all_times_beyond T.below left.now.since updates.now) }
+        requires later { IsTrue (all_times_beyond T.times left.now.since updates.now) }
         ensures answer { (inserted taken : List (Insertion T))
-            → IsSide T.below T.least left.now inserted taken self.old.state.left
-            → IfOk result (λ out. IsAnswer T.below
-            (pairs T.joined self.old.state.key (all_updates taken) updates.now)
+            → IsSide T.times left.now inserted taken self.old.state.left
+            → IfOk result (λ out. IsAnswer T.times
+            (pairs T.times self.old.state.key (all_updates taken) updates.now)
             updates.now (all_updates taken) out.items) }
         ensures consolidated { IfOk result (λ out. IsConsolidated T.cmp out.items) }
         ensures width { IfOk result (λ out. IsTrue (all_rows_have
@@ -259,7 +264,7 @@ impl<T: Minimum> Joining<T> {
         }) }
         ensures same { OnErr result (self.new ≡ self.old) }
         ensures refused { IfErr result (IsMemoryOrOverflow ((inserted taken : List (Insertion T))
-            → IsSide T.below T.least left.now inserted taken self.old.state.left
+            → IsSide T.times left.now inserted taken self.old.state.left
             → (2 ^ 63 ≤ size updates.now)
             ⊎ (2 ^ 63 ≤ size updates.now * size (all_updates taken)))) }
     {

@@ -17,13 +17,13 @@
 #![tactic(auto)]
 
 mod arrangement;
-mod copying;
+mod copies;
 mod frontier;
 mod joins;
 mod reduction;
 
 pub use arrangement::{Arrangement, what_is_taken_is_up_to_a_boundary};
-pub use copying::updates_of;
+pub use copies::updates_of;
 pub use frontier::{antichain_of, front_with, renew};
 pub use joins::Joining;
 pub use reduction::Reducing;

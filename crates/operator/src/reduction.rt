@@ -6,8 +6,8 @@
 //! only stands in for it. The contracts speak of what was received and of what was given, each as
 //! one list with the newest first.
 //!
-//! The invariant: no pending time comes before the least time. What the state keeps is as of the least
-//! time. The trace need not be: a reader's hold keeps it readable at the pending times.
+//! The invariant: no pending time comes before the least time. What the state keeps is as of the
+//! least time. The trace need not be: a reader's hold keeps it readable at the pending times.
 //!
 //! A distinct goes by whole rows, whatever the plan's key is: of each row it answers from the count
 //! of that row alone. So a correction looks at one row, and not at all rows of a key. It costs a
@@ -15,15 +15,15 @@
 ghost use Rattle.std.specs.Prelude.{◌≡◌, ◌≢◌, ◌≤◌, ◌^◌, ◌++◌, ◌∷◌, [], List, Bool, ℤ, pos, IfErr, IfOk, OnErr, OnOk, IsTrue};
 ghost use Rattle.std.specs.List.{AllByRecursion, list_all};
 ghost use Rattle.lattice.specs.Frontiers.{all_beyond};
-ghost use Rattle.update.specs.Refusals.{IsMemoryOrOverflow};
+ghost use Rattle.update.specs.Refusals.{OnlyMemory, IsMemoryOrOverflow};
 ghost use Rattle.update.specs.Updates.{size, total_where, AreApart};
 ghost use Rattle.update.specs.declared.change.Update.{Update};
 ghost use Rattle.plan.specs.Changes.{has_passed};
-ghost use Rattle.histories.specs.Histories.States.{times};
+ghost use Rattle.histories.specs.Histories.States.{update_times};
 ghost use Rattle.trace.specs.Readings.{Insertion, all_updates};
 ghost use Rattle.spine.specs.Spines.{Stands};
-ghost use Rattle.operator_laws.specs.Reducing.{IsPendingWith};
-ghost use Rattle.operator.specs.Reductions.{HasRoom, StandIn, SumsToReceived, IsAnswerAt, IsPendingAfter, IsOverfullWith, IsReduced, pending_of, have_width, output_width, state_key};
+ghost use Rattle.operator_laws.specs.ReduceNodes.{IsPendingWith};
+ghost use Rattle.operator.specs.Reductions.{HasRoom, StandIn, SumsToReceived, IsAnswerAt, IsPendingAfter, IsOverfullWith, IsReduced, pending_of, have_width, state_key};
 
 use crate::frontier::put_in_all;
 use antichain::Antichain;
@@ -57,7 +57,7 @@ impl<T: Minimum> Model for Reducing<T> {
 
     ghost invariant = { λ r. HasRoom r.state.reducer r.key r.width
         × (r.state.key ≡ state_key r.state.reducer r.key r.width)
-        × IsTrue (all_beyond T.below (T.least ∷ []) (pending_in r.state.histories)) };
+        × IsTrue (all_beyond T.times (T.times.least ∷ []) (pending_in r.state.histories)) };
 }
 
 // By how many columns the state of a reduction goes whose plan reduces by `key` columns: a distinct
@@ -77,9 +77,9 @@ fn sealed<T: Minimum>(
     start: &Antichain<T>,
     updates: &UpdateList<T>,
 ) -> Result<Batch<T>, Refusal>
-    requires start { start.now ≡ T.least ∷ [] }
-    requires later { IsTrue (all_beyond T.below (T.least ∷ []) (times updates.now)) }
-    ensures same { IfOk result (λ batch. StandIn T.below batch.updates updates.now) }
+    requires start { start.now ≡ T.times.least ∷ [] }
+    requires later { IsTrue (all_beyond T.times (T.times.least ∷ []) (update_times updates.now)) }
+    ensures same { IfOk result (λ batch. StandIn T.times batch.updates updates.now) }
     ensures totals { IfOk result (λ batch. (p : List ℤ → T → Bool)
         → total_where p batch.updates ≡ total_where p updates.now) }
     ensures refused { IfErr result (IsMemoryOrOverflow (2 ^ 63 ≤ size updates.now)) }
@@ -98,7 +98,7 @@ impl<T: Minimum> Reducing<T> {
         ensures state { result.state.key ≡ state_key kind key width }
         ensures kind { result.state.reducer ≡ kind }
         ensures width { result.width ≡ width }
-        ensures stands { IsReduced T.below T.joined T.least result [] [] }
+        ensures stands { IsReduced T.times result [] [] }
         ensures pending { pending_of result ≡ [] }
     {
         Reducing {
@@ -122,10 +122,10 @@ impl<T: Minimum> Reducing<T> {
     /// Cost: each pending time is compared with the least ones so far.
     pub fn held(&self, alloc: Global) -> Result<Vec<T>, Refusal>
         ensures covers { IfOk result
-            (λ held. IsTrue (all_beyond T.below held.items (pending_of self.now))) }
+            (λ held. IsTrue (all_beyond T.times held.items (pending_of self.now))) }
         ensures tight { IfOk result
-            (λ held. IsTrue (all_beyond T.below (pending_of self.now) held.items)) }
-        ensures only { IfErr result (λ refused. refused ≡ Refusal.OutOfMemory) }
+            (λ held. IsTrue (all_beyond T.times (pending_of self.now) held.items)) }
+        ensures only { OnlyMemory result }
     {
         let mut held = Vec::new(alloc);
         for place in self.state.waiting() {
@@ -143,30 +143,30 @@ impl<T: Minimum> Reducing<T> {
     /// - [`Refusal::OutOfMemory`] only if memory for the times, or for the histories of the keys,
     ///   was refused.
     ///
-    /// Cost: as for [`seal_list`]; for each of their keys that of [`ReduceState::take`]. Updates that an
-    /// arrangement gave are not sorted again.
+    /// Cost: as for [`seal_list`]; for each of their keys that of [`ReduceState::take`]. Updates
+    /// that an arrangement gave are not sorted again.
     pub fn take(
         &mut self,
         alloc: Global,
         start: &Antichain<T>,
         updates: &UpdateList<T>,
     ) -> Result<(), Refusal>
-        requires start { start.now ≡ T.least ∷ [] }
-        requires later { IsTrue (all_beyond T.below (T.least ∷ []) (times updates.now)) }
+        requires start { start.now ≡ T.times.least ∷ [] }
+        requires later { IsTrue (all_beyond T.times (T.times.least ∷ []) (update_times updates.now)) }
         requires wide { IsTrue (have_width self.old.width updates.now) }
         ensures stands { OnOk result ((received emitted : List (Update T)) (upper : List T)
-            → IsReduced T.below T.joined T.least self.old received emitted
-            → IsTrue (all_beyond T.below upper (times updates.now))
-            → IsTrue (list_all (λ u. has_passed T.below upper u.time) emitted)
-            → IsReduced T.below T.joined T.least self.new (updates.now ++ received) emitted) }
+            → IsReduced T.times self.old received emitted
+            → IsTrue (all_beyond T.times upper (update_times updates.now))
+            → IsTrue (list_all (λ u. has_passed T.times upper u.time) emitted)
+            → IsReduced T.times self.new (updates.now ++ received) emitted) }
         ensures pending { OnOk result ((received emitted : List (Update T))
-            → IsReduced T.below T.joined T.least self.old received emitted
-            → IsPendingAfter T.below (pending_of self.old) updates.now (pending_of self.new)) }
+            → IsReduced T.times self.old received emitted
+            → IsPendingAfter T.times (pending_of self.old) updates.now (pending_of self.new)) }
         ensures uncancelled { OnOk result ((received emitted : List (Update T))
-            → IsReduced T.below T.joined T.least self.old received emitted
-            → AreApart T.below updates.now
+            → IsReduced T.times self.old received emitted
+            → AreApart T.times updates.now
             → AllByRecursion (λ u. u.diff ≢ pos 0) updates.now
-            → IsPendingWith T.below (pending_of self.old) updates.now (pending_of self.new)) }
+            → IsPendingWith T.times (pending_of self.old) updates.now (pending_of self.new)) }
         ensures kept { OnOk result (self.new ≡ record self.old {
           state = record self.old.state {
             histories = self.new.state.histories;
@@ -185,9 +185,9 @@ impl<T: Minimum> Reducing<T> {
     /// pending no longer. They come column by column. If the call is refused, then nothing has
     /// changed.
     ///
-    /// The trace is the arrangement that the reduction reads. It may be read at the pending times. That
-    /// it sums, at the times that the frontier has passed, to what was received is a premise of the
-    /// promises and not a condition of the call.
+    /// The trace is the arrangement that the reduction reads. It may be read at the pending times.
+    /// That it sums, at the times that the frontier has passed, to what was received is a premise
+    /// of the promises and not a condition of the call.
     ///
     /// - [`Refusal::Overflow`] only if the absolute diffs of what was received add up to 2^63 or
     ///   more, or those of a list of updates of one key that is owed: up to some step of the
@@ -201,31 +201,31 @@ impl<T: Minimum> Reducing<T> {
         frontier: &[T],
         trace: &Spine<T>,
     ) -> Result<Columns<T>, Refusal>
-        requires begun { IsTrue (all_beyond T.below (T.least ∷ []) trace.now.since) }
-        requires held { IsTrue (all_beyond T.below trace.now.since (pending_of self.old)) }
+        requires begun { IsTrue (all_beyond T.times (T.times.least ∷ []) trace.now.since) }
+        requires held { IsTrue (all_beyond T.times trace.now.since (pending_of self.old)) }
         ensures stands { IfOk result (λ out. (inserted : List (Insertion T))
             (received emitted : List (Update T))
-            → Stands T.below trace.now inserted
-            → SumsToReceived T.below frontier.now (all_updates inserted) received
-            → IsReduced T.below T.joined T.least self.old received emitted
-            → IsReduced T.below T.joined T.least self.new received (out ++ emitted)) }
+            → Stands T.times trace.now inserted
+            → SumsToReceived T.times frontier.now (all_updates inserted) received
+            → IsReduced T.times self.old received emitted
+            → IsReduced T.times self.new received (out ++ emitted)) }
         ensures law { IfOk result (λ out. (inserted : List (Insertion T))
             (received emitted : List (Update T))
-            → Stands T.below trace.now inserted
-            → SumsToReceived T.below frontier.now (all_updates inserted) received
-            → IsReduced T.below T.joined T.least self.old received emitted
-            → (t : T) → IsTrue (has_passed T.below (pending_of self.new) t)
-            → IsAnswerAt T.below self.old received (out ++ emitted) t) }
+            → Stands T.times trace.now inserted
+            → SumsToReceived T.times frontier.now (all_updates inserted) received
+            → IsReduced T.times self.old received emitted
+            → (t : T) → IsTrue (has_passed T.times (pending_of self.new) t)
+            → IsAnswerAt T.times self.old received (out ++ emitted) t) }
         ensures settled { IfOk result
-            (λ out. IsTrue (list_all (λ u. has_passed T.below frontier.now u.time) out)) }
+            (λ out. IsTrue (list_all (λ u. has_passed T.times frontier.now u.time) out)) }
         ensures later { OnOk result
-            (IsTrue (all_beyond T.below frontier.now (pending_of self.new))) }
+            (IsTrue (all_beyond T.times frontier.now (pending_of self.new))) }
         ensures out_beyond { IfOk result (λ out. (other : List T)
-            → IsTrue (all_beyond T.below other (pending_of self.old))
-            → IsTrue (all_beyond T.below other (times out))) }
+            → IsTrue (all_beyond T.times other (pending_of self.old))
+            → IsTrue (all_beyond T.times other (update_times out))) }
         ensures rest_beyond { OnOk result ((other : List T)
-            → IsTrue (all_beyond T.below other (pending_of self.old))
-            → IsTrue (all_beyond T.below other (pending_of self.new))) }
+            → IsTrue (all_beyond T.times other (pending_of self.old))
+            → IsTrue (all_beyond T.times other (pending_of self.new))) }
         ensures kept { OnOk result (self.new ≡ record self.old {
           state = record self.old.state {
             histories = self.new.state.histories;
@@ -236,11 +236,11 @@ impl<T: Minimum> Reducing<T> {
         ensures same { OnErr result (self.new ≡ self.old) }
         ensures refused { IfErr result (IsMemoryOrOverflow ((inserted : List (Insertion T))
             (received emitted : List (Update T))
-            → Stands T.below trace.now inserted
-            → SumsToReceived T.below frontier.now (all_updates inserted) received
-            → IsReduced T.below T.joined T.least self.old received emitted
-            → IsTrue (list_all (λ u. has_passed T.below frontier.now u.time) emitted)
-            → IsOverfullWith T.below self.old received frontier.now)) }
+            → Stands T.times trace.now inserted
+            → SumsToReceived T.times frontier.now (all_updates inserted) received
+            → IsReduced T.times self.old received emitted
+            → IsTrue (list_all (λ u. has_passed T.times frontier.now u.time) emitted)
+            → IsOverfullWith T.times self.old received frontier.now)) }
     {
         let out = self.state.ready_columns(alloc, frontier, trace)?;
         Ok(out)

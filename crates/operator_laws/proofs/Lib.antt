@@ -1,7 +1,7 @@
-pub mod GatheringLemmas
-pub mod ArrangingLemmas
-pub mod ReducingLemmas
+pub mod GatheredLemmas
+pub mod ArrangeLemmas
+pub mod ReduceLemmas
 pub mod QueueLemmas
-pub mod JoiningLemmas
-pub mod WorkingLemmas
+pub mod JoinLemmas
+pub mod WorkerLemmas
 pub mod PortLemmas

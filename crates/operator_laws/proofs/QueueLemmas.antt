@@ -23,8 +23,9 @@ use Rattle.histories.specs.Histories.{alone, without, next_state, give_state, Is
 use Rattle.histories.specs.Histories.Cuts.{bundled, cut_along, cut}
 use Rattle.histories.proofs.HistoryLemmas.FlowLemmas.{place_same}
 use Rattle.histories.proofs.HistoryLemmas.KeptLemmas.{no_totals}
-use Rattle.histories.proofs.HistoryLemmas.CuttingLemmas.{one_below}
-use Rattle.operator_laws.specs.Joining.{IsQueued, is_at_port, on_top}
+use Rattle.histories.proofs.HistoryLemmas.CutLemmas.{one_below}
+use Rattle.operator_laws.specs.JoinNodes.{IsQueued, is_at_port, on_top}
+use Rattle.lattice.specs.Times.{Times}
 
 module _ {T : Type 0} where
   -- what waits at a place, of two lists
@@ -67,7 +68,7 @@ module _ {T : Type 0} where
 
 -- Events elsewhere
 
-module _ {T : Type 0} (below : T → T → Bool) (p : Dataflow) (n port k source : ℕ) (reads : source_of p n port ≡ Some source) (stays : arranged_by (node_of p n) ≡ None) where
+module _ {T : Type 0} (times : Times T) (p : Dataflow) (n port k source : ℕ) (reads : source_of p n port ≡ Some source) (stays : arranged_by (node_of p n) ≡ None) where
   share_here : (g : Emission T) → share p (place n port k) g ≡ cond (eqb g.node source) (cond (eqb g.worker k) g.updates []) []
   share_here g = (λ i. share_from p (reads i) (stays i) k g)
 
@@ -79,7 +80,7 @@ module _ {T : Type 0} (below : T → T → Bool) (p : Dataflow) (n port k source
       step true false e = refl
       step false b e = refl
 
-  same_queue : (w : State T) (e : Event T) → IsAllowed below p w e → is_at_port n port k source e ≡ false → queue (place n port k) (next_state below p w e).in_flight ≡ queue (place n port k) w.in_flight
+  same_queue : (w : State T) (e : Event T) → IsAllowed times p w e → is_at_port n port k source e ≡ false → queue (place n port k) (next_state times p w e).in_flight ≡ queue (place n port k) w.in_flight
   same_queue w (Feed c f) a d =
       queue_both (place n port k) w.in_flight (alone p f ∷ [])
       ∙ (ap (λ b. queue (place n port k) w.in_flight ++ (cond (b && (eqb 0 port && eqb (route p f.update.row) k)) (alone p f ∷ []) [] ++ []))
@@ -94,7 +95,7 @@ module _ {T : Type 0} (below : T → T → Bool) (p : Dataflow) (n port k source
   same_queue w e a d = refl
 
   -- the law for what waits at a port, for events elsewhere
-  pub queued_on : (w : State T) (inserted taken : List (Insertion T)) → IsQueued w n port k inserted taken → (e : Event T) → IsAllowed below p w e → is_at_port n port k source e ≡ false → IsQueued (next_state below p w e) n port k inserted taken
+  pub queued_on : (w : State T) (inserted taken : List (Insertion T)) → IsQueued w n port k inserted taken → (e : Event T) → IsAllowed times p w e → is_at_port n port k source e ≡ false → IsQueued (next_state times p w e) n port k inserted taken
   queued_on w inserted taken q e a d = record { later = q.later; all = q.all; queued = ap (map (λ (b : Bundle T). b.updates)) (same_queue w e a d) ∙ q.queued }
 
 -- A cut has one bundle for each place
@@ -127,29 +128,29 @@ no_bundle : (T : Type 0) (b : Bool) → cond b (no_bundles {T = T}) [] ≡ no_bu
 no_bundle T true = refl
 no_bundle T false = refl
 
-bundle_there : {T : Type 0} (below : T → T → Bool) (site other : Site) (us : List (Update T)) → queue site (bundled below other us) ≡ cond (same_place other site) (bundled below other us) []
-bundle_there {T} below site other [] = sym (no_bundle T (same_place other site))
-bundle_there below site other (u ∷ us) = append-nil (cond (same_place other site) (bundled below other (u ∷ us)) [])
+bundle_there : {T : Type 0} (times : Times T) (site other : Site) (us : List (Update T)) → queue site (bundled times other us) ≡ cond (same_place other site) (bundled times other us) []
+bundle_there {T} times site other [] = sym (no_bundle T (same_place other site))
+bundle_there times site other (u ∷ us) = append-nil (cond (same_place other site) (bundled times other (u ∷ us)) [])
 
-module _ {T : Type 0} (below : T → T → Bool) (p : Dataflow) (g : Emission T) (site : Site) (reads : source_of p site.node site.port ≡ Some g.node) where
+module _ {T : Type 0} (times : Times T) (p : Dataflow) (g : Emission T) (site : Site) (reads : source_of p site.node site.port ≡ Some g.node) where
   abbrev mine : List (Bundle T)
-  mine = bundled below site (share p site g)
+  mine = bundled times site (share p site g)
 
-  one_place : (other : Site) → queue site (bundled below other (share p other g)) ≡ cond (same_place other site) mine []
-  one_place other = bundle_there below site other (share p other g) ∙ step (same_place other site) refl
+  one_place : (other : Site) → queue site (bundled times other (share p other g)) ≡ cond (same_place other site) mine []
+  one_place other = bundle_there times site other (share p other g) ∙ step (same_place other site) refl
     where
-      step : (b : Bool) → same_place other site ≡ b → cond b (bundled below other (share p other g)) [] ≡ cond b mine []
-      step true e = ap (λ z. bundled below z (share p z g)) (place_same other site e)
+      step : (b : Bool) → same_place other site ≡ b → cond b (bundled times other (share p other g)) [] ≡ cond b mine []
+      step true e = ap (λ z. bundled times z (share p z g)) (place_same other site e)
       step false e = refl
 
   abbrev from_edge : Edge → List (Bundle T)
-  from_edge edge = queue site (cut_along below p g edge)
+  from_edge edge = queue site (cut_along times p g edge)
 
   -- along one edge a place gets its bundle if the edge ends there, and else nothing
   edge_some : site.worker < p.workers → (edge : Edge) → from_edge edge ≡ cond (eqb edge.reader site.node && eqb edge.port site.port) mine []
   edge_some l edge =
-      queue_over site (λ k. bundled below (place edge.reader edge.port k) (share p (place edge.reader edge.port k) g)) (numbers_below p.workers)
-      ∙ (one_below p.workers site.worker (λ k. queue site (bundled below (place edge.reader edge.port k) (share p (place edge.reader edge.port k) g)))
+      queue_over site (λ k. bundled times (place edge.reader edge.port k) (share p (place edge.reader edge.port k) g)) (numbers_below p.workers)
+      ∙ (one_below p.workers site.worker (λ k. queue site (bundled times (place edge.reader edge.port k) (share p (place edge.reader edge.port k) g)))
       (λ k d. one_place (place edge.reader edge.port k) ∙ ap (λ b. cond b mine []) (other (eqb edge.reader site.node) (eqb edge.port site.port) (eqb k site.worker) (ne_eqb k site.worker d))) l
       ∙ (one_place (place edge.reader edge.port site.worker) ∙ ap (λ b. cond b mine []) (same (eqb edge.reader site.node) (eqb edge.port site.port) (eqb site.worker site.worker) (eq-eqb site.worker site.worker refl))))
     where
@@ -174,9 +175,9 @@ module _ {T : Type 0} (below : T → T → Bool) (p : Dataflow) (g : Emission T)
           let here : source_of p edge.reader edge.port ≡ Some g.node = (λ i. source_of p (eqb-true edge.reader site.node parts.0 i) (eqb-true edge.port site.port parts.1 i)) ∙ reads in
           absurd (false≢true (sym h ∙ (ap (is_number g.node) here ∙ eq-eqb g.node g.node refl)))
 
-  cut_queue : site.worker < p.workers → site.node < length p.nodes → site.port < 2 → queue site (cut below p g) ≡ mine
+  cut_queue : site.worker < p.workers → site.node < length p.nodes → site.port < 2 → queue site (cut times p g) ≡ mine
   cut_queue l m few =
-      queue_over site (cut_along below p g) (edges_from p.nodes g.node)
+      queue_over site (cut_along times p g) (edges_from p.nodes g.node)
       ∙ (over_passing (leads_from p.nodes g.node) from_edge (edge_none l) (flat_map ports_of (numbers_below (length p.nodes)))
       ∙ (over_ports from_edge (numbers_below (length p.nodes))
       ∙ (one_below (length p.nodes) site.node (λ n. from_edge (edge_at n 0) ++ from_edge (edge_at n 1)) (λ n d. rw (edge_some l (edge_at n 0), edge_some l (edge_at n 1), ne_eqb n site.node d) refl) m
@@ -187,28 +188,28 @@ module _ {T : Type 0} (below : T → T → Bool) (p : Dataflow) (g : Emission T)
       ends (suc zero) bs k = refl
       ends (suc (suc port)) bs k = absurd (omega arith)
 
-module _ {T : Type 0} (below : T → T → Bool) (p : Dataflow) (n port : ℕ) (g : Emission T) (reads : source_of p n port ≡ Some g.node) (stays : arranged_by (node_of p n) ≡ None)
+module _ {T : Type 0} (times : Times T) (p : Dataflow) (n port : ℕ) (g : Emission T) (reads : source_of p n port ≡ Some g.node) (stays : arranged_by (node_of p n) ≡ None)
     (worker : g.worker < p.workers) (within : n < length p.nodes) (few : port < 2) where
   -- the law for batches that are given and cut
   pub queued_more : (w : State T) (ts : List T) (upper : List T) (inserted taken : List (Insertion T)) → g.updates ≢ [] → IsQueued w n port g.worker inserted taken
-      → IsQueued (give_state below p w g ts (cut below p g)) n port g.worker (record { upper = upper; updates = g.updates } ∷ inserted) taken
+      → IsQueued (give_state times p w g ts (cut times p g)) n port g.worker (record { upper = upper; updates = g.updates } ∷ inserted) taken
   queued_more w ts upper inserted taken some q =
       let i : Insertion T = record { upper = upper; updates = g.updates } in
       let site = place n port g.worker in
       let updates_of : List (Bundle T) → List (List (Update T)) = map (λ (b : Bundle T). b.updates) in
       let here : share p site g ≡ g.updates =
-      share_here below p n port g.worker g.node reads stays g
+      share_here times p n port g.worker g.node reads stays g
       ∙ (λ i. cond (eq-eqb g.node g.node refl i) (cond (eq-eqb g.worker g.worker refl i) g.updates []) []) in
       record {
         later = q.later ++ i ∷ [];
         all = ap (λ is. i ∷ is) q.all ∙ sym (on_top_more q.later taken i);
         queued =
-            ap updates_of (queue_both site w.in_flight (cut below p g))
-            ∙ (map-append (λ (b : Bundle T). b.updates) (queue site w.in_flight) (queue site (cut below p g))
-            ∙ ((λ x. q.queued x ++ (ap updates_of (cut_queue below p g site reads worker within few ∙ ap (bundled below site) here) ∙ whole g.updates some) x)
+            ap updates_of (queue_both site w.in_flight (cut times p g))
+            ∙ (map-append (λ (b : Bundle T). b.updates) (queue site w.in_flight) (queue site (cut times p g))
+            ∙ ((λ x. q.queued x ++ (ap updates_of (cut_queue times p g site reads worker within few ∙ ap (bundled times site) here) ∙ whole g.updates some) x)
             ∙ sym (map-append (λ (j : Insertion T). j.updates) q.later (i ∷ []))));
       }
     where
-      whole : (us : List (Update T)) → us ≢ [] → map (λ (b : Bundle T). b.updates) (bundled below (place n port g.worker) us) ≡ us ∷ []
+      whole : (us : List (Update T)) → us ≢ [] → map (λ (b : Bundle T). b.updates) (bundled times (place n port g.worker) us) ≡ us ∷ []
       whole [] s = absurd (s refl)
       whole (u ∷ us) s = refl

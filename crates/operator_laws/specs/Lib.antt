@@ -1,7 +1,7 @@
 -- The definitions of the laws: of which states what a worker keeps at a node is right.
 pub use Rattle.lattice.specs.Frontiers
-pub mod Gathering
-pub mod Arranging
-pub mod Joining
-pub mod Reducing
-pub mod Working
+pub mod GatheredUpdates
+pub mod ArrangeNodes
+pub mod JoinNodes
+pub mod ReduceNodes
+pub mod Workers

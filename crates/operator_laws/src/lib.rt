@@ -25,30 +25,30 @@
 //! board (crate `shared_board`).
 #![tactic(auto)]
 
-mod arranging;
-mod gathering;
-mod joining;
-mod reducing;
-mod working;
+mod arrange_nodes;
+mod gathered_updates;
+mod join_nodes;
+mod reduce_nodes;
+mod workers;
 
-pub use arranging::{
+pub use arrange_nodes::{
     arranged_elsewhere, arranged_holds_back, arranged_in_any_order, arranged_inserts,
     arranged_takes, arranging_begins, may_seal, sealed_splits,
 };
-pub use gathering::{
+pub use gathered_updates::{
     consolidated_splits, gathered_elsewhere, gathering_begins, gathering_gives,
     gathering_holds_back, gathering_takes, linear_piece, waiting_bundles_are_stamped,
     waits_in_any_order,
 };
-pub use joining::{
+pub use join_nodes::{
     join_piece, joined_elsewhere, joined_gives, joined_takes_left, joined_takes_right,
     queued_elsewhere, queued_inserts,
 };
-pub use reducing::{
+pub use reduce_nodes::{
     reduced_elsewhere, reduced_gives, reduced_holds_back, reduced_takes, reducing_begins,
     turning_leaves_it,
 };
-pub use working::{
+pub use workers::{
     gives_at_one_node, inserts_at_one_node, joins_read_arranged_nodes, quiet_while_it_waits,
     reader_has_all, takes_at_one_node, workers_are_apart, working_begins,
 };

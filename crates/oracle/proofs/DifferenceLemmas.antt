@@ -14,6 +14,7 @@ use Rattle.std.proofs.lemmas.Int.{ints}
 use Rattle.std.proofs.lemmas.List.{map-append, take_more, get_or_default, get_or-take, take-append-drop, append-nil, flat_map_more}
 use Rattle.std.proofs.lemmas.List.Elements.{All-from_recursion, recursion_from_All, filter-append, Contains-push, Contains-push_cases, Contains-append_left}
 use Rattle.antichain.proofs.AntichainLemmas.{not_true}
+use Rattle.lattice.specs.Times.{Times}
 use Rattle.lattice.specs.Frontiers.{is_beyond}
 use Rattle.lattice.specs.Order.{PartialOrderLaws, LatticeLaws, ExtendsLaws}
 use Rattle.lattice.proofs.FrontierLemmas.{beyond_up}
@@ -62,31 +63,31 @@ sorted_both c (x ∷ xs) ys s t a = (all_both (λ y. c x y ≡ Less) xs ys s.0 a
 
 -- ---- sums
 
-module _ {T : Type 0} (below : T → T → Bool) where
-  sum_both : (t : T) (us vs : List (Update T)) → as_of below t (us ++ vs) ≡ as_of below t us ++ as_of below t vs
-  sum_both t us vs = ap (map entry) (filter-append (λ u. below u.time t) us vs) ∙ map-append entry (filter (λ u. below u.time t) us) (filter (λ u. below u.time t) vs)
+module _ {T : Type 0} (times : Times T) where
+  sum_both : (t : T) (us vs : List (Update T)) → as_of times t (us ++ vs) ≡ as_of times t us ++ as_of times t vs
+  sum_both t us vs = ap (map entry) (filter-append (λ u. times.below u.time t) us vs) ∙ map-append entry (filter (λ u. times.below u.time t) us) (filter (λ u. times.below u.time t) vs)
 
-  sum_at_time : (s t : T) (es : List Entry) (b : Bool) → below t s ≡ b → as_of below s (map (at_time t) es) ≡ cond b es []
+  sum_at_time : (s t : T) (es : List Entry) (b : Bool) → times.below t s ≡ b → as_of times s (map (at_time t) es) ≡ cond b es []
   sum_at_time s t [] true h = refl
   sum_at_time s t [] false h = refl
-  sum_at_time s t (e ∷ es) true h = ap (λ b. map entry (cond b (at_time t e ∷ filter (λ u. below u.time s) (map (at_time t) es)) (filter (λ u. below u.time s) (map (at_time t) es)))) h ∙ ap (λ l. e ∷ l) (sum_at_time s t es true h)
-  sum_at_time s t (e ∷ es) false h = ap (λ b. map entry (cond b (at_time t e ∷ filter (λ u. below u.time s) (map (at_time t) es)) (filter (λ u. below u.time s) (map (at_time t) es)))) h ∙ sum_at_time s t es false h
+  sum_at_time s t (e ∷ es) true h = ap (λ b. map entry (cond b (at_time t e ∷ filter (λ u. times.below u.time s) (map (at_time t) es)) (filter (λ u. times.below u.time s) (map (at_time t) es)))) h ∙ ap (λ l. e ∷ l) (sum_at_time s t es true h)
+  sum_at_time s t (e ∷ es) false h = ap (λ b. map entry (cond b (at_time t e ∷ filter (λ u. times.below u.time s) (map (at_time t) es)) (filter (λ u. times.below u.time s) (map (at_time t) es)))) h ∙ sum_at_time s t es false h
 
   -- two sums of a list are equal if each of its times is at or before both times, or at or before
   -- neither
-  sum_same : (s t : T) (us : List (Update T)) → AllByRecursion (λ u. below u.time s ≡ below u.time t) us → as_of below s us ≡ as_of below t us
+  sum_same : (s t : T) (us : List (Update T)) → AllByRecursion (λ u. times.below u.time s ≡ times.below u.time t) us → as_of times s us ≡ as_of times t us
   sum_same s t [] a = refl
   sum_same s t (u ∷ us) a =
-      (λ i. map entry (cond (a.0 i) (u ∷ filter (λ u. below u.time s) us) (filter (λ u. below u.time s) us)))
-      ∙ step (sum_same s t us a.1) (below u.time t)
+      (λ i. map entry (cond (a.0 i) (u ∷ filter (λ u. times.below u.time s) us) (filter (λ u. times.below u.time s) us)))
+      ∙ step (sum_same s t us a.1) (times.below u.time t)
     where
-      step : as_of below s us ≡ as_of below t us → (b : Bool) → map entry (cond b (u ∷ filter (λ u. below u.time s) us) (filter (λ u. below u.time s) us)) ≡ map entry (cond b (u ∷ filter (λ u. below u.time t) us) (filter (λ u. below u.time t) us))
+      step : as_of times s us ≡ as_of times t us → (b : Bool) → map entry (cond b (u ∷ filter (λ u. times.below u.time s) us) (filter (λ u. times.below u.time s) us)) ≡ map entry (cond b (u ∷ filter (λ u. times.below u.time t) us) (filter (λ u. times.below u.time t) us))
       step rest true = ap (λ l. entry u ∷ l) rest
       step rest false = rest
 
-  sum_none : (t : T) (us : List (Update T)) → AllByRecursion (λ u. below u.time t ≡ false) us → as_of below t us ≡ []
+  sum_none : (t : T) (us : List (Update T)) → AllByRecursion (λ u. times.below u.time t ≡ false) us → as_of times t us ≡ []
   sum_none t [] a = refl
-  sum_none t (u ∷ us) a = (λ i. map entry (cond (a.0 i) (u ∷ filter (λ u. below u.time t) us) (filter (λ u. below u.time t) us))) ∙ sum_none t us a.1
+  sum_none t (u ∷ us) a = (λ i. map entry (cond (a.0 i) (u ∷ filter (λ u. times.below u.time t) us) (filter (λ u. times.below u.time t) us))) ∙ sum_none t us a.1
 
 -- if the inputs have no rows, neither has the query
 query_nothing : (p : List Node) → IsPlan p → (n : ℕ) → Alike (query p (λ input. []) n) []
@@ -101,14 +102,14 @@ query_nothing p plan = by_smaller (λ n. Alike (query p (λ input. []) n) []) (�
 
 -- ---- along the join closure
 
-module _ {T : Type 0} {below : T → T → Bool} {joined met : T → T → T} {cmp : T → T → Ordering} (o : PartialOrderLaws below) (b : LatticeLaws below joined met) (x : ExtendsLaws below cmp) (total : IsTotalOrder cmp)
+module _ {T : Type 0} {times : Times T} {cmp : T → T → Ordering} (o : PartialOrderLaws times) (b : LatticeLaws times) (x : ExtendsLaws times cmp) (total : IsTotalOrder cmp)
     (p : List Node) (plan : IsPlan p) (lists : List (List (Update T))) (view : ℕ) (within : view < length p) (frontier join_closure : List T)
-    (is : IsJoinClosure below cmp joined p (list_of p lists) frontier view join_closure) where
+    (is : IsJoinClosure times cmp p (list_of p lists) frontier view join_closure) where
   abbrev wanted : T → List Entry
-  wanted = query_at below p (list_of p lists) view
+  wanted = query_at times p (list_of p lists) view
 
   -- a time that sorts before another is not at or after it
-  not_behind : (s t : T) → cmp s t ≡ Less → below t s ≡ true → ⊥
+  not_behind : (s t : T) → cmp s t ≡ Less → times.below t s ≡ true → ⊥
   not_behind s t l h = true≢false (sym (x.extends t s h) ∙ ap is_le (total.antisymm t s ∙ ap ordering_reverse l))
 
   same_order : (t : T) → cmp t t ≡ Equal
@@ -121,30 +122,30 @@ module _ {T : Type 0} {below : T → T → Bool} {joined met : T → T → T} {c
 
   -- a time of the closure is at or before t if and only if it is at or before f, the last one at or
   -- before t
-  same_below : (t f : T) → IsTrue (below f t) → ((s : T) → Contains join_closure s → IsTrue (below s t) → IsTrue (below s f)) → (s : T) → Contains join_closure s → below s t ≡ below s f
-  same_below t f h last s c = step (below s t) (below s f) refl refl
+  same_below : (t f : T) → IsTrue (times.below f t) → ((s : T) → Contains join_closure s → IsTrue (times.below s t) → IsTrue (times.below s f)) → (s : T) → Contains join_closure s → times.below s t ≡ times.below s f
+  same_below t f h last s c = step (times.below s t) (times.below s f) refl refl
     where
-      step : (v w : Bool) → below s t ≡ v → below s f ≡ w → v ≡ w
+      step : (v w : Bool) → times.below s t ≡ v → times.below s f ≡ w → v ≡ w
       step true w e g = sym (last s c e) ∙ g
       step false false e g = refl
       step false true e g = sym e ∙ o.transitive s f t g h
 
   -- an open time is not at or before a passed one
-  not_below : (s t : T) → is_beyond below frontier s ≡ true → IsTrue (has_passed below frontier t) → below s t ≡ false
-  not_below s t later h = step (below s t) refl
+  not_below : (s t : T) → is_beyond times frontier s ≡ true → IsTrue (has_passed times frontier t) → times.below s t ≡ false
+  not_below s t later h = step (times.below s t) refl
     where
-      step : (v : Bool) → below s t ≡ v → v ≡ false
-      step true e = absurd (not_true (is_beyond below frontier t) h (beyond_up o frontier s t later e))
+      step : (v : Bool) → times.below s t ≡ v → v ≡ false
+      step true e = absurd (not_true (is_beyond times frontier t) h (beyond_up o frontier s t later e))
       step false e = refl
 
   -- each change of an input that feeds the view has a time of the closure, or one that is still
   -- open
-  closed_or_open : (input : ℕ) → IsTrue (feeds p input view) → AllByRecursion (λ u. Contains join_closure u.time ⊎ (is_beyond below frontier u.time ≡ true)) (list_of p lists input)
+  closed_or_open : (input : ℕ) → IsTrue (feeds p input view) → AllByRecursion (λ u. Contains join_closure u.time ⊎ (is_beyond times frontier u.time ≡ true)) (list_of p lists input)
   closed_or_open input fed =
-      all_weaker (λ u. IsTrue (has_passed below frontier u.time) → Contains join_closure u.time) (λ u. Contains join_closure u.time ⊎ (is_beyond below frontier u.time ≡ true)) (λ u h. step u.time h (is_beyond below frontier u.time) refl)
-      (list_of p lists input) (recursion_from_All (λ u. IsTrue (has_passed below frontier u.time) → Contains join_closure u.time) (list_of p lists input) (is.covers input fed))
+      all_weaker (λ u. IsTrue (has_passed times frontier u.time) → Contains join_closure u.time) (λ u. Contains join_closure u.time ⊎ (is_beyond times frontier u.time ≡ true)) (λ u h. step u.time h (is_beyond times frontier u.time) refl)
+      (list_of p lists input) (recursion_from_All (λ u. IsTrue (has_passed times frontier u.time) → Contains join_closure u.time) (list_of p lists input) (is.covers input fed))
     where
-      step : (s : T) → (IsTrue (has_passed below frontier s) → Contains join_closure s) → (v : Bool) → is_beyond below frontier s ≡ v → Contains join_closure s ⊎ (is_beyond below frontier s ≡ true)
+      step : (s : T) → (IsTrue (has_passed times frontier s) → Contains join_closure s) → (v : Bool) → is_beyond times frontier s ≡ v → Contains join_closure s ⊎ (is_beyond times frontier s ≡ true)
       step s h true e = inr e
       step s h false e = inl (h (ap not e))
 
@@ -153,19 +154,19 @@ module _ {T : Type 0} {below : T → T → Bool} {joined met : T → T → T} {c
   operators_alike k node c d h = given_alike k node c d (λ port s. h port)
 
   -- at a passed time, the query is the same as at the last time of the closure at or before it
-  wanted_same : (t f : T) → IsTrue (has_passed below frontier t) → IsTrue (below f t) → ((s : T) → Contains join_closure s → IsTrue (below s t) → IsTrue (below s f)) → Alike (wanted t) (wanted f)
+  wanted_same : (t f : T) → IsTrue (has_passed times frontier t) → IsTrue (times.below f t) → ((s : T) → Contains join_closure s → IsTrue (times.below s t) → IsTrue (times.below s f)) → Alike (wanted t) (wanted f)
   wanted_same t f passed h last =
-      alike_where_fed operators_alike p plan (sums_at below p lists t) (sums_at below p lists f) view within
-      (λ input fed row. ap (λ es. count_of es row) (sum_same below t f (list_of p lists input) (all_weaker (λ u. Contains join_closure u.time ⊎ (is_beyond below frontier u.time ≡ true)) (λ u. below u.time t ≡ below u.time f) (λ u k. either u.time k) (list_of p lists input) (closed_or_open input fed))))
+      alike_where_fed operators_alike p plan (sums_at times p lists t) (sums_at times p lists f) view within
+      (λ input fed row. ap (λ es. count_of es row) (sum_same times t f (list_of p lists input) (all_weaker (λ u. Contains join_closure u.time ⊎ (is_beyond times frontier u.time ≡ true)) (λ u. times.below u.time t ≡ times.below u.time f) (λ u k. either u.time k) (list_of p lists input) (closed_or_open input fed))))
     where
-      either : (s : T) → Contains join_closure s ⊎ (is_beyond below frontier s ≡ true) → below s t ≡ below s f
+      either : (s : T) → Contains join_closure s ⊎ (is_beyond times frontier s ≡ true) → times.below s t ≡ times.below s f
       either s k = ⊎_elim (λ c. same_below t f h last s c) (λ later. not_below s t later passed ∙ sym (not_below s f later (passed_before o frontier f t h passed))) k
 
   -- at a passed time that has no time of the closure at or before it, the query has no rows
-  wanted_none : (t : T) → IsTrue (has_passed below frontier t) → ((s : T) → Contains join_closure s → below s t ≡ false) → Alike (wanted t) []
+  wanted_none : (t : T) → IsTrue (has_passed times frontier t) → ((s : T) → Contains join_closure s → times.below s t ≡ false) → Alike (wanted t) []
   wanted_none t passed none row =
-      alike_where_fed operators_alike p plan (sums_at below p lists t) (λ input. []) view within
-      (λ input fed row. ap (λ es. count_of es row) (sum_none below t (list_of p lists input) (all_weaker (λ u. Contains join_closure u.time ⊎ (is_beyond below frontier u.time ≡ true)) (λ u. below u.time t ≡ false) (λ u k. ⊎_elim (λ c. none u.time c) (λ later. not_below u.time t later passed) k) (list_of p lists input) (closed_or_open input fed))))
+      alike_where_fed operators_alike p plan (sums_at times p lists t) (λ input. []) view within
+      (λ input fed row. ap (λ es. count_of es row) (sum_none times t (list_of p lists input) (all_weaker (λ u. Contains join_closure u.time ⊎ (is_beyond times frontier u.time ≡ true)) (λ u. times.below u.time t ≡ false) (λ u k. ⊎_elim (λ c. none u.time c) (λ later. not_below u.time t later passed) k) (list_of p lists input) (closed_or_open input fed))))
       row
       ∙ query_nothing p plan view row
 
@@ -194,18 +195,18 @@ module _ {T : Type 0} {below : T → T → Bool} {joined met : T → T → T} {c
     next_new = subst (λ xs. Contains xs f) (sym next_times) (Contains-push (take i join_closure) f)
 
     -- if all times of the closure have passed, f has passed
-    pub passed_here : HavePassed below frontier join_closure → is_beyond below frontier f ≡ false
-    passed_here all = step (is_beyond below frontier f) refl
+    pub passed_here : HavePassed times frontier join_closure → is_beyond times frontier f ≡ false
+    passed_here all = step (is_beyond times frontier f) refl
       where
-        step : (v : Bool) → is_beyond below frontier f ≡ v → v ≡ false
-        step true e = absurd (not_true (is_beyond below frontier f) (all f (i, inside, sym here)) e)
+        step : (v : Bool) → is_beyond times frontier f ≡ v → v ≡ false
+        step true e = absurd (not_true (is_beyond times frontier f) (all f (i, inside, sym here)) e)
         step false e = refl
 
     -- if f has not passed, the list stays as it is
-    pub listed_skip : (us : List (Update T)) → is_beyond below frontier f ≡ true → IsListed below cmp frontier wanted (take i join_closure) us → IsListed below cmp frontier wanted (take (i + 1) join_closure) us
+    pub listed_skip : (us : List (Update T)) → is_beyond times frontier f ≡ true → IsListed times cmp frontier wanted (take i join_closure) us → IsListed times cmp frontier wanted (take (i + 1) join_closure) us
     listed_skip us late so = record {
-      sums = λ t c h. ⊎_elim (λ d. so.sums t d h) (λ e. absurd (not_true (is_beyond below frontier t) h (subst (λ s. IsTrue (is_beyond below frontier s)) e late))) (next_cases t c);
-      among = all_weaker (λ u. IsTrue (has_passed below frontier u.time) × Contains (take i join_closure) u.time) (λ u. IsTrue (has_passed below frontier u.time) × Contains (take (i + 1) join_closure) u.time) (λ u h. (h.0, next_old u.time h.1)) us so.among;
+      sums = λ t c h. ⊎_elim (λ d. so.sums t d h) (λ e. absurd (not_true (is_beyond times frontier t) h (subst (λ s. IsTrue (is_beyond times frontier s)) e late))) (next_cases t c);
+      among = all_weaker (λ u. IsTrue (has_passed times frontier u.time) × Contains (take i join_closure) u.time) (λ u. IsTrue (has_passed times frontier u.time) × Contains (take (i + 1) join_closure) u.time) (λ u h. (h.0, next_old u.time h.1)) us so.among;
       consolidated = so.consolidated;
     }
 
@@ -226,60 +227,60 @@ module _ {T : Type 0} {below : T → T → Bool} {joined met : T → T → T} {c
     gap_each P h [] = tt
     gap_each P h (e ∷ gap) = (h e, gap_each P h gap)
 
-    listed_more : (us : List (Update T)) (gap : List Entry) → IsTrue (has_passed below frontier f) → IsListed below cmp frontier wanted (take i join_closure) us → IsBag gap
-        → ((row : List ℤ) → count_of gap row +ℤ count_of (as_of below f us) row ≡ count_of (wanted f) row) → IsListed below cmp frontier wanted (take (i + 1) join_closure) (us ++ map (at_time f) gap)
+    listed_more : (us : List (Update T)) (gap : List Entry) → IsTrue (has_passed times frontier f) → IsListed times cmp frontier wanted (take i join_closure) us → IsBag gap
+        → ((row : List ℤ) → count_of gap row +ℤ count_of (as_of times f us) row ≡ count_of (wanted f) row) → IsListed times cmp frontier wanted (take (i + 1) join_closure) (us ++ map (at_time f) gap)
     listed_more us gap passed so bag fills = record {
-      sums = λ t c h. ⊎_elim (λ d. old t d h) (λ e. subst (λ s. Alike (as_of below s (us ++ map (at_time f) gap)) (wanted s)) e new) (next_cases t c);
-      among = all_both (λ u. IsTrue (has_passed below frontier u.time) × Contains (take (i + 1) join_closure) u.time) us (map (at_time f) gap)
-          (all_weaker (λ u. IsTrue (has_passed below frontier u.time) × Contains (take i join_closure) u.time) (λ u. IsTrue (has_passed below frontier u.time) × Contains (take (i + 1) join_closure) u.time) (λ u h. (h.0, next_old u.time h.1)) us so.among)
-          (gap_each (λ u. IsTrue (has_passed below frontier u.time) × Contains (take (i + 1) join_closure) u.time) (λ e. (passed, next_new)) gap);
+      sums = λ t c h. ⊎_elim (λ d. old t d h) (λ e. subst (λ s. Alike (as_of times s (us ++ map (at_time f) gap)) (wanted s)) e new) (next_cases t c);
+      among = all_both (λ u. IsTrue (has_passed times frontier u.time) × Contains (take (i + 1) join_closure) u.time) us (map (at_time f) gap)
+          (all_weaker (λ u. IsTrue (has_passed times frontier u.time) × Contains (take i join_closure) u.time) (λ u. IsTrue (has_passed times frontier u.time) × Contains (take (i + 1) join_closure) u.time) (λ u h. (h.0, next_old u.time h.1)) us so.among)
+          (gap_each (λ u. IsTrue (has_passed times frontier u.time) × Contains (take (i + 1) join_closure) u.time) (λ e. (passed, next_new)) gap);
       consolidated = record {
         ascending = sorted_both (by_time_then_row cmp) us (map (at_time f) gap) so.consolidated.ascending (gap_sorted gap bag.ascending)
-            (all_weaker (λ u. IsTrue (has_passed below frontier u.time) × Contains (take i join_closure) u.time) (λ u. AllByRecursion (λ v. by_time_then_row cmp u v ≡ Less) (map (at_time f) gap))
+            (all_weaker (λ u. IsTrue (has_passed times frontier u.time) × Contains (take i join_closure) u.time) (λ u. AllByRecursion (λ v. by_time_then_row cmp u v ≡ Less) (map (at_time f) gap))
             (λ u h. gap_each (λ v. by_time_then_row cmp u v ≡ Less) (λ e. ap (λ r. ordering_then r (slice_cmp int_cmp u.row e.row)) (in_front u.time h.1)) gap) us so.among);
         nonzero = all_both (λ u. u.diff ≢ pos 0) us (map (at_time f) gap) so.consolidated.nonzero (gap_all (λ u. u.diff ≢ pos 0) (λ e. e.count ≢ pos 0) (λ e n. n) gap bag.nonzero);
       };
     }
       where
-        behind : (t : T) → Contains (take i join_closure) t → (v : Bool) → below f t ≡ v → below f t ≡ false
+        behind : (t : T) → Contains (take i join_closure) t → (v : Bool) → times.below f t ≡ v → times.below f t ≡ false
         behind t c true e = absurd (not_behind t f (in_front t c) e)
         behind t c false e = e
 
-        old : (t : T) → Contains (take i join_closure) t → IsTrue (has_passed below frontier t) → Alike (as_of below t (us ++ map (at_time f) gap)) (wanted t)
+        old : (t : T) → Contains (take i join_closure) t → IsTrue (has_passed times frontier t) → Alike (as_of times t (us ++ map (at_time f) gap)) (wanted t)
         old t c h row =
-            ap (λ es. count_of es row) (sum_both below t us (map (at_time f) gap) ∙ (ap (λ es. as_of below t us ++ es) (sum_at_time below t f gap false (behind t c (below f t) refl)) ∙ append-nil (as_of below t us)))
+            ap (λ es. count_of es row) (sum_both times t us (map (at_time f) gap) ∙ (ap (λ es. as_of times t us ++ es) (sum_at_time times t f gap false (behind t c (times.below f t) refl)) ∙ append-nil (as_of times t us)))
             ∙ so.sums t c h row
 
-        new : Alike (as_of below f (us ++ map (at_time f) gap)) (wanted f)
+        new : Alike (as_of times f (us ++ map (at_time f) gap)) (wanted f)
         new row =
-            ap (λ es. count_of es row) (sum_both below f us (map (at_time f) gap) ∙ ap (λ es. as_of below f us ++ es) (sum_at_time below f f gap true (o.reflexive f)))
-            ∙ (count_of-append (as_of below f us) gap row ∙ (swap (count_of (as_of below f us) row) (count_of gap row) ∙ fills row))
+            ap (λ es. count_of es row) (sum_both times f us (map (at_time f) gap) ∙ ap (λ es. as_of times f us ++ es) (sum_at_time times f f gap true (o.reflexive f)))
+            ∙ (count_of-append (as_of times f us) gap row ∙ (swap (count_of (as_of times f us) row) (count_of gap row) ∙ fills row))
           where
             swap : (m n : ℤ) → m +ℤ n ≡ n +ℤ m
             swap m n = omega (arith, ints)
 
     -- if f has passed, the list is extended by the difference there
-    pub listed_next : (us vs : List (Update T)) → is_beyond below frontier f ≡ false → ContinuesListing below f (wanted f) us vs → IsListed below cmp frontier wanted (take i join_closure) us → IsListed below cmp frontier wanted (take (i + 1) join_closure) vs
-    listed_next us vs passed on so = subst (IsListed below cmp frontier wanted (take (i + 1) join_closure)) (sym on.2) (listed_more us on.0 (ap not passed) so on.1 on.3)
+    pub listed_next : (us vs : List (Update T)) → is_beyond times frontier f ≡ false → ContinuesListing times f (wanted f) us vs → IsListed times cmp frontier wanted (take i join_closure) us → IsListed times cmp frontier wanted (take (i + 1) join_closure) vs
+    listed_next us vs passed on so = subst (IsListed times cmp frontier wanted (take (i + 1) join_closure)) (sym on.2) (listed_more us on.0 (ap not passed) so on.1 on.3)
 
     -- before f, the list sums to the wanted rows at each time
-    sums_before : (us : List (Update T)) → IsTrue (has_passed below frontier f) → IsListed below cmp frontier wanted (take i join_closure) us → (s : T) → IsTrue (below s f) → (s ≡ f → ⊥) → Alike (as_of below s us) (wanted s)
+    sums_before : (us : List (Update T)) → IsTrue (has_passed times frontier f) → IsListed times cmp frontier wanted (take i join_closure) us → (s : T) → IsTrue (times.below s f) → (s ≡ f → ⊥) → Alike (as_of times s us) (wanted s)
     sums_before us passed so s h n =
         let early = passed_before o frontier s f h passed in
         ⊎_elim
         (λ none row.
-        ap (λ es. count_of es row) (sum_none below s us (all_weaker (λ u. IsTrue (has_passed below frontier u.time) × Contains (take i join_closure) u.time) (λ u. below u.time s ≡ false) (λ u c. none u.time (from_grid u.time c.1)) us so.among))
+        ap (λ es. count_of es row) (sum_none times s us (all_weaker (λ u. IsTrue (has_passed times frontier u.time) × Contains (take i join_closure) u.time) (λ u. times.below u.time s ≡ false) (λ u c. none u.time (from_grid u.time c.1)) us so.among))
         ∙ sym (wanted_none s early none row))
         (λ r.
         let g = r.0 in
-        let same = sum_same below s r.0 us (all_weaker (λ u. IsTrue (has_passed below frontier u.time) × Contains (take i join_closure) u.time) (λ u. below u.time s ≡ below u.time r.0) (λ u c. same_below s r.0 r.2.0 r.2.1 u.time (from_grid u.time c.1)) us so.among) in
+        let same = sum_same times s r.0 us (all_weaker (λ u. IsTrue (has_passed times frontier u.time) × Contains (take i join_closure) u.time) (λ u. times.below u.time s ≡ times.below u.time r.0) (λ u c. same_below s r.0 r.2.0 r.2.1 u.time (from_grid u.time c.1)) us so.among) in
         λ row.
         ap (λ es. count_of es row) same
-        ∙ (so.sums r.0 (before r.0 r.1 (o.transitive r.0 s f r.2.0 h) (λ e. n (o.antisymmetric s f h (subst (λ g. IsTrue (below g s)) e r.2.0)))) (passed_before o frontier r.0 f (o.transitive r.0 s f r.2.0 h) passed) row
+        ∙ (so.sums r.0 (before r.0 r.1 (o.transitive r.0 s f r.2.0 h) (λ e. n (o.antisymmetric s f h (subst (λ g. IsTrue (times.below g s)) e r.2.0)))) (passed_before o frontier r.0 f (o.transitive r.0 s f r.2.0 h) passed) row
         ∙ sym (wanted_same s r.0 early r.2.0 r.2.1 row)))
         (last_of o b frontier join_closure is.closed s early)
       where
-        less_from : (g : T) → IsTrue (below g f) → (g ≡ f → ⊥) → cmp g f ≡ Less
+        less_from : (g : T) → IsTrue (times.below g f) → (g ≡ f → ⊥) → cmp g f ≡ Less
         less_from g l m = step (cmp g f) refl (x.extends g f l)
           where
             step : (r : Ordering) → cmp g f ≡ r → is_le r ≡ true → r ≡ Less
@@ -287,7 +288,7 @@ module _ {T : Type 0} {below : T → T → Bool} {joined met : T → T → T} {c
             step Equal e k = absurd (m (x.exact g f e))
             step Greater e k = absurd (true≢false (sym k))
 
-        before : (g : T) → Contains join_closure g → IsTrue (below g f) → (g ≡ f → ⊥) → Contains (take i join_closure) g
+        before : (g : T) → Contains join_closure g → IsTrue (times.below g f) → (g ≡ f → ⊥) → Contains (take i join_closure) g
         before g c l m =
             let less = less_from g l m in
             ⊎_elim
@@ -301,7 +302,7 @@ module _ {T : Type 0} {below : T → T → Bool} {joined met : T → T → T} {c
             (cases_lt c.0 i)
 
     -- a number that is too large at one time is a cause for the whole list
-    pub listed_large : (us : List (Update T)) → is_beyond below frontier f ≡ false → IsListed below cmp frontier wanted (take i join_closure) us → HasLargeAbove p (sums_at below p lists f) view ⊎ HasLargeGap below f (wanted f) us → HasLargeDifference below p lists frontier view
+    pub listed_large : (us : List (Update T)) → is_beyond times frontier f ≡ false → IsListed times cmp frontier wanted (take i join_closure) us → HasLargeAbove p (sums_at times p lists f) view ⊎ HasLargeGap times f (wanted f) us → HasLargeDifference times p lists frontier view
     listed_large us passed so large = (
       f,
       ap not passed,
@@ -310,14 +311,14 @@ module _ {T : Type 0} {below : T → T → Bool} {joined met : T → T → T} {c
           (λ gap. inr (
             us,
             sums_before us (ap not passed) so,
-            all_weaker (λ u. IsTrue (has_passed below frontier u.time) × Contains (take i join_closure) u.time) (λ u. u.time ≡ f → ⊥) (λ u c e. true≢false (ap is_eq (sym (same_order f) ∙ (ap (λ t. cmp t f) (sym e) ∙ in_front u.time c.1)))) us so.among,
+            all_weaker (λ u. IsTrue (has_passed times frontier u.time) × Contains (take i join_closure) u.time) (λ u. u.time ≡ f → ⊥) (λ u c e. true≢false (ap is_eq (sym (same_order f) ∙ (ap (λ t. cmp t f) (sym e) ∙ in_front u.time c.1)))) us so.among,
             gap,
           ))
           large,
     )
 
   -- before the first time the list is empty
-  pub listed_none : IsListed below cmp frontier wanted (take 0 join_closure) []
+  pub listed_none : IsListed times cmp frontier wanted (take 0 join_closure) []
   unfolding IsStrictlySortedBy
   listed_none = record {
     sums = λ t c h. absurd (omega (arith, c.1));
@@ -326,31 +327,31 @@ module _ {T : Type 0} {below : T → T → Bool} {joined met : T → T → T} {c
   }
 
   -- the finished list is the differences of the view
-  pub listed_all : (us : List (Update T)) → IsListed below cmp frontier wanted join_closure us → AreDifferences below cmp p (list_of p lists) frontier view us
+  pub listed_all : (us : List (Update T)) → IsListed times cmp frontier wanted join_closure us → AreDifferences times cmp p (list_of p lists) frontier view us
   listed_all us so = record {
     consolidated = so.consolidated;
     passed = all_passed us so.among;
     sums = sums;
   }
     where
-      all_passed : (us : List (Update T)) → AllByRecursion (λ u. IsTrue (has_passed below frontier u.time) × Contains join_closure u.time) us → IsTrue (list_all (λ u. has_passed below frontier u.time) us)
+      all_passed : (us : List (Update T)) → AllByRecursion (λ u. IsTrue (has_passed times frontier u.time) × Contains join_closure u.time) us → IsTrue (list_all (λ u. has_passed times frontier u.time) us)
       all_passed [] a = refl
-      all_passed (u ∷ us) a = and_from (has_passed below frontier u.time) (list_all (λ u. has_passed below frontier u.time) us) a.0.0 (all_passed us a.1)
+      all_passed (u ∷ us) a = and_from (has_passed times frontier u.time) (list_all (λ u. has_passed times frontier u.time) us) a.0.0 (all_passed us a.1)
 
-      sums : (t : T) → IsTrue (has_passed below frontier t) → Alike (as_of below t us) (wanted t)
+      sums : (t : T) → IsTrue (has_passed times frontier t) → Alike (as_of times t us) (wanted t)
       sums t h =
           ⊎_elim
           (λ none row.
-          ap (λ es. count_of es row) (sum_none below t us (all_weaker (λ u. IsTrue (has_passed below frontier u.time) × Contains join_closure u.time) (λ u. below u.time t ≡ false) (λ u c. none u.time c.1) us so.among))
+          ap (λ es. count_of es row) (sum_none times t us (all_weaker (λ u. IsTrue (has_passed times frontier u.time) × Contains join_closure u.time) (λ u. times.below u.time t ≡ false) (λ u c. none u.time c.1) us so.among))
           ∙ sym (wanted_none t h none row))
           (λ r row.
-          ap (λ es. count_of es row) (sum_same below t r.0 us (all_weaker (λ u. IsTrue (has_passed below frontier u.time) × Contains join_closure u.time) (λ u. below u.time t ≡ below u.time r.0) (λ u c. same_below t r.0 r.2.0 r.2.1 u.time c.1) us so.among))
+          ap (λ es. count_of es row) (sum_same times t r.0 us (all_weaker (λ u. IsTrue (has_passed times frontier u.time) × Contains join_closure u.time) (λ u. times.below u.time t ≡ times.below u.time r.0) (λ u c. same_below t r.0 r.2.0 r.2.1 u.time c.1) us so.among))
           ∙ (so.sums r.0 r.1 (passed_before o frontier r.0 t r.2.0 h) row ∙ sym (wanted_same t r.0 h r.2.0 r.2.1 row)))
           (last_of o b frontier join_closure is.closed t h)
 
   -- once the loop over the closure has ended, the list is the differences of the view
-  pub listed_end : (i : ℕ) → length join_closure ≤ i → (us : List (Update T)) → IsListed below cmp frontier wanted (take i join_closure) us → AreDifferences below cmp p (list_of p lists) frontier view us
-  listed_end i long us so = listed_all us (subst (λ times. IsListed below cmp frontier wanted times us) (take_all i join_closure long) so)
+  pub listed_end : (i : ℕ) → length join_closure ≤ i → (us : List (Update T)) → IsListed times cmp frontier wanted (take i join_closure) us → AreDifferences times cmp p (list_of p lists) frontier view us
+  listed_end i long us so = listed_all us (subst (λ ts. IsListed times cmp frontier wanted ts us) (take_all i join_closure long) so)
 
 -- ---- the open times
 

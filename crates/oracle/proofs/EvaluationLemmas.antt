@@ -32,6 +32,7 @@ use Rattle.oracle.proofs.NodeLemmas.{given_wide}
 use Rattle.oracle.proofs.ResultLemmas.{ok_more, ok_both, err_more}
 use Rattle.oracle.proofs.RowLemmas.{rows_by_counts}
 use Rattle.oracle.proofs.DistinctLemmas.{zero_plus}
+use Rattle.lattice.specs.Times.{Times}
 
 -- a linear node has no products and no totals, so only its output can be too large
 pub linear_no_step : (k : ℕ) (node : Node) → IsTrue (is_linear node) → (bags : ℕ → List Entry) → HasLargeStep k node bags → ⊥
@@ -197,19 +198,19 @@ no_bags p inputs view = record {
 
 -- ---- widths of inputs
 
-sum_wide : {T : Type 0} (below : T → T → Bool) (t : T) (w : ℕ) (us : List (Update T)) → IsTrue (list_all (λ u. eqb (length u.row) w) us) → IsTrue (all_wide w (as_of below t us))
-sum_wide below t w [] h = refl
-sum_wide {T} below t w (u ∷ us) h =
+sum_wide : {T : Type 0} (times : Times T) (t : T) (w : ℕ) (us : List (Update T)) → IsTrue (list_all (λ u. eqb (length u.row) w) us) → IsTrue (all_wide w (as_of times t us))
+sum_wide times t w [] h = refl
+sum_wide {T} times t w (u ∷ us) h =
     let parts = and_parts (eqb (length u.row) w) (list_all (λ (u : Update T). eqb (length u.row) w) us) h in
-    step (sum_wide below t w us parts.1) parts.0 (below u.time t)
+    step (sum_wide times t w us parts.1) parts.0 (times.below u.time t)
   where
-    step : IsTrue (all_wide w (as_of below t us)) → eqb (length u.row) w ≡ true → (b : Bool) → IsTrue (all_wide w (map Rattle.update.specs.Updates.entry (cond b (u ∷ filter (λ u. below u.time t) us) (filter (λ u. below u.time t) us))))
-    step rest one true = and_from (eqb (length u.row) w) (all_wide w (as_of below t us)) one rest
+    step : IsTrue (all_wide w (as_of times t us)) → eqb (length u.row) w ≡ true → (b : Bool) → IsTrue (all_wide w (map Rattle.update.specs.Updates.entry (cond b (u ∷ filter (λ u. times.below u.time t) us) (filter (λ u. times.below u.time t) us))))
+    step rest one true = and_from (eqb (length u.row) w) (all_wide w (as_of times t us)) one rest
     step rest one false = rest
 
 -- the sums of the inputs' lists have the inputs' widths
-pub inputs_wide : {T : Type 0} (below : T → T → Bool) (p : List Node) (lists : List (List (Update T))) (t : T) (n : ℕ) → AreWide p lists → n < length p → is_input (node_at p n) ≡ true → IsTrue (all_wide (width_of p n) (sums_at below p lists t n))
-inputs_wide below p lists t n wide l h = sum_wide below t (width_of p n) (list_of p lists n) (wide n l h)
+pub inputs_wide : {T : Type 0} (times : Times T) (p : List Node) (lists : List (List (Update T))) (t : T) (n : ℕ) → AreWide p lists → n < length p → is_input (node_at p n) ≡ true → IsTrue (all_wide (width_of p n) (sums_at times p lists t n))
+inputs_wide times p lists t n wide l h = sum_wide times t (width_of p n) (list_of p lists n) (wide n l h)
 
 -- ---- nodes that pass rows on
 

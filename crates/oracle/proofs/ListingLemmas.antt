@@ -11,6 +11,7 @@ use Rattle.update.specs.declared.change.Update.{Update}
 use Rattle.plan.proofs.CountLemmas.{count_of-append}
 use Rattle.update.specs.Bags.{entry_of}
 use Rattle.oracle.specs.Listing.{HasLargeGap}
+use Rattle.lattice.specs.Times.{Times}
 
 -- the two entries of `put_off` subtract the update's diff from its row
 pub taken_off : (old mid new : List Entry) (row : List ℤ) (m n : ℤ) → mid ≡ old ++ entry_of row m ∷ [] → new ≡ mid ++ entry_of row (pos 1) ∷ [] → (m +ℤ pos 1) +ℤ n ≡ pos 0
@@ -24,42 +25,42 @@ taken_off old mid new row m n e f z r =
     step true x y w g h = omega (arith, ints, g, h, z)
     step false x y w g h = omega (arith, ints, g, h)
 
-module _ {T : Type 0} (below : T → T → Bool) (t : T) where
+module _ {T : Type 0} (times : Times T) (t : T) where
   sum_more : (us : List (Update T)) (i : ℕ) (d : Update T) → i < length us → (r : List ℤ)
-      → count_of (as_of below t (take (i + 1) us)) r ≡ count_of (as_of below t (take i us)) r +ℤ count_of (map entry (cond (below (get_or us i d).time t) (get_or us i d ∷ []) [])) r
+      → count_of (as_of times t (take (i + 1) us)) r ≡ count_of (as_of times t (take i us)) r +ℤ count_of (map entry (cond (times.below (get_or us i d).time t) (get_or us i d ∷ []) [])) r
   sum_more us i d l r =
-      ap (λ vs. count_of (map entry vs) r) (filter_more (λ u. below u.time t) us i d l)
-      ∙ (ap (λ es. count_of es r) (map-append entry (filter (λ u. below u.time t) (take i us)) (cond (below (get_or us i d).time t) (get_or us i d ∷ []) []))
-      ∙ count_of-append (as_of below t (take i us)) (map entry (cond (below (get_or us i d).time t) (get_or us i d ∷ []) [])) r)
+      ap (λ vs. count_of (map entry vs) r) (filter_more (λ u. times.below u.time t) us i d l)
+      ∙ (ap (λ es. count_of es r) (map-append entry (filter (λ u. times.below u.time t) (take i us)) (cond (times.below (get_or us i d).time t) (get_or us i d ∷ []) []))
+      ∙ count_of-append (as_of times t (take i us)) (map entry (cond (times.below (get_or us i d).time t) (get_or us i d ∷ []) [])) r)
 
   -- the step over an update at or before t: it is subtracted
-  pub off_more : (old mid new : List Entry) (us : List (Update T)) (i : ℕ) (d : Update T) → i < length us → below (get_or us i d).time t ≡ true
-      → ((r : List ℤ) → count_of mid r +ℤ count_of (as_of below t (take i us)) r ≡ count_of old r)
+  pub off_more : (old mid new : List Entry) (us : List (Update T)) (i : ℕ) (d : Update T) → i < length us → times.below (get_or us i d).time t ≡ true
+      → ((r : List ℤ) → count_of mid r +ℤ count_of (as_of times t (take i us)) r ≡ count_of old r)
       → ((r : List ℤ) → count_of new r +ℤ cond (same_row (get_or us i d).row r) (get_or us i d).diff (pos 0) ≡ count_of mid r)
-      → (r : List ℤ) → count_of new r +ℤ count_of (as_of below t (take (i + 1) us)) r ≡ count_of old r
+      → (r : List ℤ) → count_of new r +ℤ count_of (as_of times t (take (i + 1) us)) r ≡ count_of old r
   off_more old mid new us i d l b h k r =
-      let more : count_of (as_of below t (take (i + 1) us)) r ≡ count_of (as_of below t (take i us)) r +ℤ (cond (same_row (get_or us i d).row r) (get_or us i d).diff (pos 0) +ℤ pos 0) = sum_more us i d l r ∙ ap (λ b. count_of (as_of below t (take i us)) r +ℤ count_of (map entry (cond b (get_or us i d ∷ []) [])) r) b in
+      let more : count_of (as_of times t (take (i + 1) us)) r ≡ count_of (as_of times t (take i us)) r +ℤ (cond (same_row (get_or us i d).row r) (get_or us i d).diff (pos 0) +ℤ pos 0) = sum_more us i d l r ∙ ap (λ b. count_of (as_of times t (take i us)) r +ℤ count_of (map entry (cond b (get_or us i d ∷ []) [])) r) b in
       let one = h r in
       let other = k r in
       omega (arith, ints, more, one, other)
 
   -- the step over any other update: nothing is subtracted
-  pub off_same : (old mid : List Entry) (us : List (Update T)) (i : ℕ) (d : Update T) → i < length us → below (get_or us i d).time t ≡ false
-      → ((r : List ℤ) → count_of mid r +ℤ count_of (as_of below t (take i us)) r ≡ count_of old r)
-      → (r : List ℤ) → count_of mid r +ℤ count_of (as_of below t (take (i + 1) us)) r ≡ count_of old r
+  pub off_same : (old mid : List Entry) (us : List (Update T)) (i : ℕ) (d : Update T) → i < length us → times.below (get_or us i d).time t ≡ false
+      → ((r : List ℤ) → count_of mid r +ℤ count_of (as_of times t (take i us)) r ≡ count_of old r)
+      → (r : List ℤ) → count_of mid r +ℤ count_of (as_of times t (take (i + 1) us)) r ≡ count_of old r
   off_same old mid us i d l b h r =
-      let more : count_of (as_of below t (take (i + 1) us)) r ≡ count_of (as_of below t (take i us)) r +ℤ pos 0 = sum_more us i d l r ∙ ap (λ b. count_of (as_of below t (take i us)) r +ℤ count_of (map entry (cond b (get_or us i d ∷ []) [])) r) b in
+      let more : count_of (as_of times t (take (i + 1) us)) r ≡ count_of (as_of times t (take i us)) r +ℤ pos 0 = sum_more us i d l r ∙ ap (λ b. count_of (as_of times t (take i us)) r +ℤ count_of (map entry (cond b (get_or us i d ∷ []) [])) r) b in
       let one = h r in
       omega (arith, ints, more, one)
 
   -- if a count in the entries is too large, so is the gap
-  pub large_gap : (entries wanted : List Entry) (us : List (Update T)) → ((r : List ℤ) → count_of entries r +ℤ count_of (as_of below t us) r ≡ count_of wanted r) → HasLargeCount entries → HasLargeGap below t wanted us
-  large_gap entries wanted us h large = (large.0, λ fits. large.1 (subst (FitsSigned w64) (less (count_of entries large.0) (count_of (as_of below t us) large.0) (count_of wanted large.0) (h large.0)) fits))
+  pub large_gap : (entries wanted : List Entry) (us : List (Update T)) → ((r : List ℤ) → count_of entries r +ℤ count_of (as_of times t us) r ≡ count_of wanted r) → HasLargeCount entries → HasLargeGap times t wanted us
+  large_gap entries wanted us h large = (large.0, λ fits. large.1 (subst (FitsSigned w64) (less (count_of entries large.0) (count_of (as_of times t us) large.0) (count_of wanted large.0) (h large.0)) fits))
     where
       less : (a b c : ℤ) → a +ℤ b ≡ c → c +ℤ neg_ℤ b ≡ a
       less a b c e = omega (arith, ints, e)
 
 -- bags with the same counts have the same gaps
-pub gap_alike : {T : Type 0} (below : T → T → Bool) (t : T) (bag wanted : List Entry) (us vs : List (Update T)) → Alike bag wanted → us ≡ vs → HasLargeGap below t bag us → HasLargeGap below t wanted vs
-gap_alike below t bag wanted us vs alike e large =
-    (large.0, λ fits. large.1 (subst (FitsSigned w64) (λ i. sym (alike large.0) i +ℤ neg_ℤ (count_of (as_of below t (sym e i)) large.0)) fits))
+pub gap_alike : {T : Type 0} (times : Times T) (t : T) (bag wanted : List Entry) (us vs : List (Update T)) → Alike bag wanted → us ≡ vs → HasLargeGap times t bag us → HasLargeGap times t wanted vs
+gap_alike times t bag wanted us vs alike e large =
+    (large.0, λ fits. large.1 (subst (FitsSigned w64) (λ i. sym (alike large.0) i +ℤ neg_ℤ (count_of (as_of times t (sym e i)) large.0)) fits))

@@ -7,7 +7,7 @@ use Rattle.std.specs.Ordering.{int_eq}
 use Rattle.std.proofs.lemmas.Bool.{and_parts, and_from, true≢false, leb-true, le-leb, eqb-true, eq-eqb}
 use Rattle.std.proofs.lemmas.List.{length-take-le, length-map}
 use Rattle.row.specs.Projection.{projection, are_within}
-use Rattle.row.specs.Testing.{passes, is_test_within}
+use Rattle.row.specs.Filters.{passes, is_test_within}
 use Rattle.row.specs.declared.projection.Item.{Item}
 use Rattle.row.specs.declared.test.Test.{Test}
 use Rattle.update.specs.Bags.{Entry, Alike, IsBag, HasLargeCount, count_of, same_row}

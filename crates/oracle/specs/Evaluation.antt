@@ -16,6 +16,7 @@ use Rattle.plan.specs.declared.node.Node.{Node}
 use Rattle.plan.specs.declared.node.Node.TheVariants.{Arrange, Join, Reduce, Output}
 use Rattle.oracle.specs.Entries.{all_wide}
 use Rattle.oracle.specs.Reduced.{HasLargeNumber}
+use Rattle.lattice.specs.Times.{Times}
 
 -- the bag at a port of a node: that of the source, or the outside bag if the node is an input
 abbrev pub ports : List Node → ℕ → List Entry → (ℕ → List Entry) → ℕ → List Entry
@@ -76,9 +77,9 @@ AreWide p lists = (n : ℕ) → n < length p → is_input (node_at p n) ≡ true
     → IsTrue (list_all (λ u. eqb (length u.row) (width_of p n)) (list_of p lists n))
 
 -- the bag to which an input's list sums at t
-abbrev pub sums_at : {T : Type 0} → (T → T → Bool) → List Node → List (List (Update T)) → T → ℕ
+abbrev pub sums_at : {T : Type 0} → Times T → List Node → List (List (Update T)) → T → ℕ
     → List Entry
-sums_at below p lists t input = as_of below t (list_of p lists input)
+sums_at times p lists t input = as_of times t (list_of p lists input)
 
 -- the bags of the first nodes: their rows have the widths of the nodes, and for each node above the
 -- view (or the view itself) the bag is the answer of the query

@@ -2,7 +2,8 @@
 //! views pass on the rows of their sources as they are. So such a node shares its source's bag,
 //! which costs no copy however many rows there are. A contract sees a list of bags, and not which
 //! of them are shared.
-ghost use Rattle.std.specs.Prelude.{◌≡◌, ◌<◌, ◌++◌, ◌∷◌, [], length, IfErr, OnOk};
+ghost use Rattle.std.specs.Prelude.{◌≡◌, ◌<◌, ◌++◌, ◌∷◌, [], length, OnOk};
+ghost use Rattle.update.specs.Refusals.{OnlyMemory};
 ghost use Rattle.oracle.specs.Evaluation.{nth_bag};
 
 use std::alloc::Global;
@@ -53,7 +54,7 @@ impl Bags {
     /// Appends the bag of the next node. Refused only for lack of memory.
     pub(crate) fn push(&mut self, alloc: Global, bag: Bag) -> Result<(), Refusal>
         ensures more { OnOk result (self.new ≡ self.old ++ bag ∷ []) }
-        ensures refused { IfErr result (λ refused. refused ≡ Refusal.OutOfMemory) }
+        ensures refused { OnlyMemory result }
     {
         let Ok(shared) = Rc::new(alloc, bag) else {
             return Err(Refusal::OutOfMemory);
@@ -66,7 +67,7 @@ impl Bags {
     pub(crate) fn share(&mut self, number: usize) -> Result<(), Refusal>
         requires { number < length self.old }
         ensures more { OnOk result (self.new ≡ self.old ++ nth_bag self.old number ∷ []) }
-        ensures refused { IfErr result (λ refused. refused ≡ Refusal.OutOfMemory) }
+        ensures refused { OnlyMemory result }
     {
         let shared = self.bags[number].clone()?;
         self.bags.push(shared)?;

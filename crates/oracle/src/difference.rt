@@ -5,7 +5,7 @@
 //! between two times of the closure.
 ghost use Rattle.std.specs.Prelude.{◌≡◌, ◌<◌, ◌⊎◌, map, length, IfOk, IfErr, OnOk};
 ghost use Rattle.plan.specs.Changes.{AreDifferences, open_for, query_at};
-ghost use Rattle.update.specs.Refusals.{IsMemoryOrOverflow};
+ghost use Rattle.update.specs.Refusals.{OnlyMemory, IsMemoryOrOverflow};
 ghost use Rattle.oracle.specs.Evaluation.{AreWide, HasLargeAbove, list_of, sums_at};
 ghost use Rattle.oracle.specs.Listing.{ContinuesListing, HasLargeDifference, HasLargeGap};
 
@@ -39,8 +39,8 @@ fn open_for<T: Lattice>(
 ) -> Result<Vec<T>, Refusal>
     requires { view < length plan.now }
     ensures elements { IfOk result
-        (λ times. times.items ≡ open_for T.below plan.now (list_of plan.now frontiers.now) view) }
-    ensures refused { IfErr result (λ refused. refused ≡ Refusal.OutOfMemory) }
+        (λ times. times.items ≡ open_for T.times plan.now (list_of plan.now frontiers.now) view) }
+    ensures refused { OnlyMemory result }
 {
     let mut times = Vec::new(alloc);
     for n in 0..plan.len() {
@@ -63,15 +63,15 @@ fn list_at<T: Lattice>(
     requires view { view < length plan.now }
     requires lists { AreWide plan.now (map (λ v. v.items) changes.now) }
     ensures goes_on { OnOk result
-        (ContinuesListing T.below t
-        (query_at T.below plan.now
+        (ContinuesListing T.times t
+        (query_at T.times plan.now
         (list_of plan.now
         (map (λ v. v.items) changes.now)) view t) listed.old.items listed.new.items) }
     ensures refused { IfErr result
         (IsMemoryOrOverflow (HasLargeAbove plan.now
-        (sums_at T.below plan.now (map (λ v. v.items) changes.now) t) view
-        ⊎ HasLargeGap T.below t
-        (query_at T.below plan.now
+        (sums_at T.times plan.now (map (λ v. v.items) changes.now) t) view
+        ⊎ HasLargeGap T.times t
+        (query_at T.times plan.now
         (list_of plan.now (map (λ v. v.items) changes.now)) view t) listed.old.items)) }
 {
     let bag = evaluate(alloc, plan, view, changes, t)?;
@@ -90,10 +90,10 @@ fn along<T: Lattice>(
     requires view { view < length plan.now }
     requires lists { AreWide plan.now (map (λ v. v.items) changes.now) }
     ensures differences { IfOk result
-        (λ listed. AreDifferences T.below T.cmp plan.now
+        (λ listed. AreDifferences T.times T.cmp plan.now
         (list_of plan.now (map (λ v. v.items) changes.now)) frontier.now view listed.items) }
     ensures refused { IfErr result
-        (IsMemoryOrOverflow (HasLargeDifference T.below plan.now
+        (IsMemoryOrOverflow (HasLargeDifference T.times plan.now
         (map (λ v. v.items) changes.now) frontier.now view)) }
 {
     plan.known();
@@ -130,12 +130,12 @@ pub fn differences<T: Lattice>(
     requires view { view < length plan.now }
     requires lists { AreWide plan.now (map (λ v. v.items) changes.now) }
     ensures differences { IfOk result
-        (λ listed. AreDifferences T.below T.cmp plan.now
+        (λ listed. AreDifferences T.times T.cmp plan.now
         (list_of plan.now (map (λ v. v.items) changes.now))
-        (open_for T.below plan.now (list_of plan.now frontiers.now) view) view listed.items) }
+        (open_for T.times plan.now (list_of plan.now frontiers.now) view) view listed.items) }
     ensures refused { IfErr result
-        (IsMemoryOrOverflow (HasLargeDifference T.below plan.now (map (λ v. v.items) changes.now)
-        (open_for T.below plan.now (list_of plan.now frontiers.now) view) view)) }
+        (IsMemoryOrOverflow (HasLargeDifference T.times plan.now (map (λ v. v.items) changes.now)
+        (open_for T.times plan.now (list_of plan.now frontiers.now) view) view)) }
 {
     let frontier = open_for(alloc, plan, view, frontiers)?;
     along(alloc, plan, view, changes, &frontier)

@@ -1,5 +1,6 @@
 //! The entries of a bag, addressed by index, as operators read and write them.
-ghost use Rattle.std.specs.Prelude.{◌≡◌, ◌<◌, ◌++◌, ◌∷◌, [], length, slice_index_or, pos, int_lt, IfErr, OnOk};
+ghost use Rattle.std.specs.Prelude.{◌≡◌, ◌<◌, ◌++◌, ◌∷◌, [], length, slice_index_or, pos, int_lt, OnOk};
+ghost use Rattle.update.specs.Refusals.{OnlyMemory};
 ghost use Rattle.update.specs.Bags.{Entry};
 
 use row::Row;
@@ -10,7 +11,7 @@ pub(crate) fn put_entry(entries: &mut Entries, bag: &Bag, i: usize) -> Result<()
     requires { i < length bag.now }
     ensures put { (d : Entry)
         → OnOk result (entries.new ≡ entries.old ++ slice_index_or bag.now i d ∷ []) }
-    ensures refused { IfErr result (λ refused. refused ≡ Refusal.OutOfMemory) }
+    ensures refused { OnlyMemory result }
 {
     entries.push(bag.row(i).copy(), bag.count(i))
 }

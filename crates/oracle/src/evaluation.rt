@@ -109,16 +109,16 @@ fn next_bag<T: Lattice>(
     requires next { length bags.now < length plan.now }
     requires lists { AreWide plan.now (map (λ v. v.items) changes.now) }
     requires bags { AreBags plan.now
-        (sums_at T.below plan.now (map (λ v. v.items) changes.now) t) view bags.now }
+        (sums_at T.times plan.now (map (λ v. v.items) changes.now) t) view bags.now }
     ensures wide { IfOk result
         (λ out. IsTrue (all_wide (width_of plan.now (length bags.now)) out)) }
     ensures query { IfOk result (λ out. IsTrue (reaches plan.now (length bags.now) view)
-        → Alike out (query plan.now (sums_at T.below plan.now (map (λ v. v.items) changes.now) t)
+        → Alike out (query plan.now (sums_at T.times plan.now (map (λ v. v.items) changes.now) t)
         (length bags.now))) }
     ensures bag { IfOk result IsBag }
     ensures refused { IfErr result
         (IsMemoryOrOverflow (HasLargeAbove plan.now
-        (sums_at T.below plan.now (map (λ v. v.items) changes.now) t) view)) }
+        (sums_at T.times plan.now (map (λ v. v.items) changes.now) t) view)) }
 {
     plan.known();
     let id = NodeId::new(bags.len());
@@ -141,13 +141,13 @@ fn put_next<T: Lattice>(
     requires next { length bags.old < length plan.now }
     requires lists { AreWide plan.now (map (λ v. v.items) changes.now) }
     requires bags { AreBags plan.now
-        (sums_at T.below plan.now (map (λ v. v.items) changes.now) t) view bags.old }
+        (sums_at T.times plan.now (map (λ v. v.items) changes.now) t) view bags.old }
     ensures bags { OnOk result (AreBags plan.now
-        (sums_at T.below plan.now (map (λ v. v.items) changes.now) t) view bags.new) }
+        (sums_at T.times plan.now (map (λ v. v.items) changes.now) t) view bags.new) }
     ensures count { OnOk result (length bags.new ≡ length bags.old + 1) }
     ensures refused { IfErr result
         (IsMemoryOrOverflow (HasLargeAbove plan.now
-        (sums_at T.below plan.now (map (λ v. v.items) changes.now) t) view)) }
+        (sums_at T.times plan.now (map (λ v. v.items) changes.now) t) view)) }
 {
     plan.known();
     match passed_on(plan.node(NodeId::new(bags.len()))) {
@@ -171,11 +171,11 @@ fn bags_before<T: Lattice>(
     requires lists { AreWide plan.now (map (λ v. v.items) changes.now) }
     ensures bags { IfOk result
         (λ bags. AreBags plan.now
-        (sums_at T.below plan.now (map (λ v. v.items) changes.now) t) view bags) }
+        (sums_at T.times plan.now (map (λ v. v.items) changes.now) t) view bags) }
     ensures count { IfOk result (λ bags. length bags ≡ view) }
     ensures refused { IfErr result
         (IsMemoryOrOverflow (HasLargeAbove plan.now
-        (sums_at T.below plan.now (map (λ v. v.items) changes.now) t) view)) }
+        (sums_at T.times plan.now (map (λ v. v.items) changes.now) t) view)) }
 {
     let mut bags = Bags::new(alloc);
     for _node in 0..view.number() {
@@ -211,11 +211,11 @@ pub fn evaluate<T: Lattice>(
     requires lists { AreWide plan.now (map (λ v. v.items) changes.now) }
     ensures query { IfOk result
         (λ bag. Alike bag
-        (query_at T.below plan.now (list_of plan.now (map (λ v. v.items) changes.now)) view t)) }
+        (query_at T.times plan.now (list_of plan.now (map (λ v. v.items) changes.now)) view t)) }
     ensures bag { IfOk result IsBag }
     ensures refused { IfErr result
         (IsMemoryOrOverflow (HasLargeAbove plan.now
-        (sums_at T.below plan.now (map (λ v. v.items) changes.now) t) view)) }
+        (sums_at T.times plan.now (map (λ v. v.items) changes.now) t) view)) }
 {
     plan.known();
     let bags = bags_before(alloc, plan, view, changes, t)?;

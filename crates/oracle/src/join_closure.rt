@@ -4,9 +4,10 @@
 //! passed. It is built from passed times alone: a join is at or after both of its times, so no join
 //! of an open time has passed. So at every passed time, the view is what it is at the last time of
 //! the closure at or before it.
-ghost use Rattle.std.specs.Prelude.{◌≡◌, ◌<◌, ◌∷◌, ◌++◌, [], length, map, IfOk, IfErr, IsTrue, OnOk};
+ghost use Rattle.std.specs.Prelude.{◌≡◌, ◌<◌, ◌∷◌, ◌++◌, [], length, map, IfOk, IsTrue, OnOk};
 ghost use Rattle.std.specs.List.{All, Contains, filter};
 ghost use Rattle.std.specs.List.Sorted.{IsStrictlySortedBy};
+ghost use Rattle.update.specs.Refusals.{OnlyMemory};
 ghost use Rattle.plan.specs.Changes.{has_passed};
 ghost use Rattle.oracle.specs.Evaluation.{list_of};
 ghost use Rattle.oracle.specs.JoinClosures.{Covers, HavePassed, IsClosed, IsJoinClosure};
@@ -31,8 +32,8 @@ fn keep_once<T: Lattice>(times: &mut Vec<T>)
 // Appends the time if the frontier has passed it.
 fn push_passed<T: Lattice>(times: &mut Vec<T>, t: T, frontier: &[T]) -> Result<(), Refusal>
     ensures time { OnOk result (times.new.items
-        ≡ times.old.items ++ filter (has_passed T.below frontier.now) (t ∷ [])) }
-    ensures refused { IfErr result (λ refused. refused ≡ Refusal.OutOfMemory) }
+        ≡ times.old.items ++ filter (has_passed T.times frontier.now) (t ∷ [])) }
+    ensures refused { OnlyMemory result }
 {
     if !is_beyond(frontier, &t) {
         times.push(t)?;
@@ -43,8 +44,8 @@ fn push_passed<T: Lattice>(times: &mut Vec<T>, t: T, frontier: &[T]) -> Result<(
 // Appends the join of each time with `t`, if the frontier has passed that join.
 fn push_joins<T: Lattice>(times: &mut Vec<T>, t: T, frontier: &[T]) -> Result<(), Refusal>
     ensures joins { OnOk result (times.new.items ≡ times.old.items
-        ++ filter (has_passed T.below frontier.now) (map (λ s. T.joined s t) times.old.items)) }
-    ensures refused { IfErr result (λ refused. refused ≡ Refusal.OutOfMemory) }
+        ++ filter (has_passed T.times frontier.now) (map (λ s. T.times.joined s t) times.old.items)) }
+    ensures refused { OnlyMemory result }
 {
     for i in 0..times.len() {
         let join = times[i].join(t);
@@ -56,15 +57,15 @@ fn push_joins<T: Lattice>(times: &mut Vec<T>, t: T, frontier: &[T]) -> Result<()
 // Adds the passed time `t` and its passed joins with the times already there. This keeps the list
 // closed under passed joins.
 fn add_time<T: Lattice>(times: &mut Vec<T>, t: T, frontier: &[T]) -> Result<(), Refusal>
-    requires closed { IsClosed T.below T.joined frontier.now times.old.items }
-    requires passed { HavePassed T.below frontier.now times.old.items }
-    requires time { IsTrue (has_passed T.below frontier.now t) }
+    requires closed { IsClosed T.times frontier.now times.old.items }
+    requires passed { HavePassed T.times frontier.now times.old.items }
+    requires time { IsTrue (has_passed T.times frontier.now t) }
     ensures ascending { OnOk result (IsStrictlySortedBy T.cmp times.new.items) }
-    ensures closed { OnOk result (IsClosed T.below T.joined frontier.now times.new.items) }
-    ensures passed { OnOk result (HavePassed T.below frontier.now times.new.items) }
+    ensures closed { OnOk result (IsClosed T.times frontier.now times.new.items) }
+    ensures passed { OnOk result (HavePassed T.times frontier.now times.new.items) }
     ensures added { OnOk result (Contains times.new.items t) }
     ensures kept { OnOk result ((s : T) → Contains times.old.items s → Contains times.new.items s) }
-    ensures refused { IfErr result (λ refused. refused ≡ Refusal.OutOfMemory) }
+    ensures refused { OnlyMemory result }
 {
     push_joins(times, t, frontier)?;
     times.push(t)?;
@@ -79,8 +80,8 @@ fn push_times<T: Lattice>(
     frontier: &[T],
 ) -> Result<(), Refusal>
     ensures times { OnOk result (times.new.items ≡ times.old.items
-        ++ filter (has_passed T.below frontier.now) (map (λ u. u.time) updates.now)) }
-    ensures refused { IfErr result (λ refused. refused ≡ Refusal.OutOfMemory) }
+        ++ filter (has_passed T.times frontier.now) (map (λ u. u.time) updates.now)) }
+    ensures refused { OnlyMemory result }
 {
     for update in updates {
         push_passed(times, update.time, frontier)?;
@@ -97,10 +98,10 @@ fn occurring<T: Lattice>(
     frontier: &[T],
 ) -> Result<Vec<T>, Refusal>
     requires { view < length plan.now }
-    ensures covers { IfOk result (λ times. Covers T.below plan.now
+    ensures covers { IfOk result (λ times. Covers T.times plan.now
         (list_of plan.now (map (λ v. v.items) changes.now)) frontier.now view times.items) }
-    ensures passed { IfOk result (λ times. HavePassed T.below frontier.now times.items) }
-    ensures refused { IfErr result (λ refused. refused ≡ Refusal.OutOfMemory) }
+    ensures passed { IfOk result (λ times. HavePassed T.times frontier.now times.items) }
+    ensures refused { OnlyMemory result }
 {
     plan.known();
     let mut times = Vec::new(alloc);
@@ -115,14 +116,14 @@ fn occurring<T: Lattice>(
 
 // The times and all passed joins of them.
 fn with_joins<T: Lattice>(alloc: Global, times: &[T], frontier: &[T]) -> Result<Vec<T>, Refusal>
-    requires { HavePassed T.below frontier.now times.now }
+    requires { HavePassed T.times frontier.now times.now }
     ensures ascending { IfOk result (λ join_closure. IsStrictlySortedBy T.cmp join_closure.items) }
     ensures closed { IfOk result
-        (λ join_closure. IsClosed T.below T.joined frontier.now join_closure.items) }
+        (λ join_closure. IsClosed T.times frontier.now join_closure.items) }
     ensures passed { IfOk result
-        (λ join_closure. HavePassed T.below frontier.now join_closure.items) }
+        (λ join_closure. HavePassed T.times frontier.now join_closure.items) }
     ensures kept { IfOk result (λ join_closure. All (Contains join_closure.items) times.now) }
-    ensures refused { IfErr result (λ refused. refused ≡ Refusal.OutOfMemory) }
+    ensures refused { OnlyMemory result }
 {
     let mut join_closure = Vec::new(alloc);
     for t in times {
@@ -147,11 +148,11 @@ pub(crate) fn join_closure<T: Lattice>(
 ) -> Result<Vec<T>, Refusal>
     requires { view < length plan.now }
     ensures join_closure { IfOk result
-        (λ join_closure. IsJoinClosure T.below T.cmp T.joined plan.now
+        (λ join_closure. IsJoinClosure T.times T.cmp plan.now
         (list_of plan.now (map (λ v. v.items) changes.now)) frontier.now view join_closure.items) }
     ensures passed { IfOk result
-        (λ join_closure. HavePassed T.below frontier.now join_closure.items) }
-    ensures refused { IfErr result (λ refused. refused ≡ Refusal.OutOfMemory) }
+        (λ join_closure. HavePassed T.times frontier.now join_closure.items) }
+    ensures refused { OnlyMemory result }
 {
     let times = occurring(alloc, plan, view, changes, frontier)?;
     with_joins(alloc, &times, frontier)

@@ -3,9 +3,9 @@ ghost use Rattle.std.specs.Prelude.{◌≡◌, ◌≤◌, ◌++◌, map, length,
 ghost use Rattle.std.specs.Int.{w64};
 ghost use Rattle.std.specs.List.{filter, list_all, Any};
 ghost use Rattle.row.specs.Projection.{are_within};
-ghost use Rattle.row.specs.Testing.{passes, is_test_within};
+ghost use Rattle.row.specs.Filters.{passes, is_test_within};
 ghost use Rattle.plan.specs.Operators.{mapped_entry, negated_entry};
-ghost use Rattle.update.specs.Refusals.{IsMemoryOrOverflow};
+ghost use Rattle.update.specs.Refusals.{OnlyMemory, IsMemoryOrOverflow};
 
 use crate::entries::{count_at, put_entry, row_at};
 use row::{Item, Test, holds, project};
@@ -14,7 +14,7 @@ use update::{Bag, Entries, Refusal, Weight};
 /// Appends all entries of the bag.
 pub(crate) fn put_all(entries: &mut Entries, bag: &Bag) -> Result<(), Refusal>
     ensures all { OnOk result (entries.new ≡ entries.old ++ bag.now) }
-    ensures refused { IfErr result (λ refused. refused ≡ Refusal.OutOfMemory) }
+    ensures refused { OnlyMemory result }
 {
     for i in 0..bag.len() {
         put_entry(entries, bag, i)?;
@@ -29,7 +29,7 @@ pub(crate) fn put_images(entries: &mut Entries, bag: &Bag, items: &[Item]) -> Re
     requires within { IsTrue (list_all (λ e. are_within items.now (length e.row)) bag.now) }
     ensures images { OnOk result
         (entries.new ≡ entries.old ++ map (mapped_entry items.now) bag.now) }
-    ensures refused { IfErr result (λ refused. refused ≡ Refusal.OutOfMemory) }
+    ensures refused { OnlyMemory result }
 {
     for i in 0..bag.len() {
         let image = project(row_at(bag, i), items);
@@ -43,7 +43,7 @@ pub(crate) fn put_passing(entries: &mut Entries, bag: &Bag, test: &Test) -> Resu
     requires within { IsTrue (list_all (λ e. is_test_within test.now (length e.row)) bag.now) }
     ensures passing { OnOk result
         (entries.new ≡ entries.old ++ filter (λ e. passes test.now e.row) bag.now) }
-    ensures refused { IfErr result (λ refused. refused ≡ Refusal.OutOfMemory) }
+    ensures refused { OnlyMemory result }
 {
     for i in 0..bag.len() {
         if holds(row_at(bag, i), test) {

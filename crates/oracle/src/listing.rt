@@ -3,7 +3,7 @@
 ghost use Rattle.std.specs.Prelude.{◌≡◌, ◌++◌, ◌+ℤ◌, ℤ, List, cond, map, pos, IfOk, IfErr, OnOk};
 ghost use Rattle.update.specs.Bags.{IsBag, count_of, same_row};
 ghost use Rattle.update.specs.Updates.{as_of};
-ghost use Rattle.update.specs.Refusals.{IsMemoryOrOverflow};
+ghost use Rattle.update.specs.Refusals.{OnlyMemory, IsMemoryOrOverflow};
 ghost use Rattle.oracle.specs.Listing.{at_time, HasLargeGap};
 
 use crate::entries::{count_at, row_at};
@@ -27,7 +27,7 @@ fn put_off<T: Lattice>(entries: &mut Entries, update: &Update<T>) -> Result<(), 
         → count_of entries.new r +ℤ
         (cond (same_row update.now.row r) update.now.diff (pos 0))
         ≡ count_of entries.old r) }
-    ensures refused { IfErr result (λ refused. refused ≡ Refusal.OutOfMemory) }
+    ensures refused { OnlyMemory result }
 {
     let diff = update.diff;
     entries.push(update.row.copy(), before_opposite(diff))?;
@@ -38,9 +38,9 @@ fn put_off<T: Lattice>(entries: &mut Entries, update: &Update<T>) -> Result<(), 
 // Subtracts the updates listed at or before `t`.
 fn put_listed<T: Lattice>(entries: &mut Entries, listed: &[Update<T>], t: T) -> Result<(), Refusal>
     ensures counts { OnOk result ((r : List ℤ)
-        → count_of entries.new r +ℤ count_of (as_of T.below t listed.now) r
+        → count_of entries.new r +ℤ count_of (as_of T.times t listed.now) r
         ≡ count_of entries.old r) }
-    ensures refused { IfErr result (λ refused. refused ≡ Refusal.OutOfMemory) }
+    ensures refused { OnlyMemory result }
 {
     for update in listed {
         if update.time.less_equal(&t) {
@@ -61,9 +61,9 @@ pub(crate) fn gap<T: Lattice>(
     t: T,
 ) -> Result<Bag, Refusal>
     ensures gap { IfOk result (λ gap. (r : List ℤ)
-        → count_of gap r +ℤ count_of (as_of T.below t listed.now) r ≡ count_of bag.now r) }
+        → count_of gap r +ℤ count_of (as_of T.times t listed.now) r ≡ count_of bag.now r) }
     ensures bag { IfOk result IsBag }
-    ensures refused { IfErr result (IsMemoryOrOverflow (HasLargeGap T.below t bag.now listed.now)) }
+    ensures refused { IfErr result (IsMemoryOrOverflow (HasLargeGap T.times t bag.now listed.now)) }
 {
     let mut entries = Entries::new(alloc);
     put_all(&mut entries, bag)?;
@@ -78,7 +78,7 @@ pub(crate) fn push_at<T: Lattice>(
     t: T,
 ) -> Result<(), Refusal>
     ensures pushed { OnOk result (listed.new.items ≡ listed.old.items ++ map (at_time t) bag.now) }
-    ensures refused { IfErr result (λ refused. refused ≡ Refusal.OutOfMemory) }
+    ensures refused { OnlyMemory result }
 {
     for i in 0..bag.len() {
         listed.push(Update {

@@ -5,7 +5,7 @@ ghost use Rattle.update.specs.Bags.{Alike, IsBag};
 ghost use Rattle.update.specs.Updates.{as_of};
 ghost use Rattle.plan.specs.Widths.{width_of};
 ghost use Rattle.oracle.specs.Entries.{all_wide};
-ghost use Rattle.update.specs.Refusals.{IsMemoryOrOverflow};
+ghost use Rattle.update.specs.Refusals.{OnlyMemory, IsMemoryOrOverflow};
 ghost use Rattle.oracle.specs.Evaluation.{nth_bag, output_at, passed_on, HasLargeAt};
 
 use crate::bags::Bags;
@@ -39,7 +39,7 @@ pub(crate) fn passed_on(node: &Node) -> Option<NodeId>
 fn copied(bag: &Bag) -> Result<Bag, Refusal>
     ensures same { IfOk result (λ out. Alike out bag.now) }
     ensures bag { IfOk result IsBag }
-    ensures refused { IfErr result (λ refused. refused ≡ Refusal.OutOfMemory) }
+    ensures refused { OnlyMemory result }
 {
     bag.known();
     Ok(bag.clone()?)
@@ -63,10 +63,10 @@ pub(crate) fn of_node<T: Lattice>(
     requires wide { (m : ℕ) → m < id
         → IsTrue (all_wide (width_of plan.now m) (nth_bag bags.now m)) }
     ensures given { IfOk result
-        (λ out. Alike out (output_at plan.now id (as_of T.below t own.now) (nth_bag bags.now))) }
+        (λ out. Alike out (output_at plan.now id (as_of T.times t own.now) (nth_bag bags.now))) }
     ensures bag { IfOk result IsBag }
     ensures refused { IfErr result
-        (IsMemoryOrOverflow (HasLargeAt plan.now id (as_of T.below t own.now) (nth_bag bags.now))) }
+        (IsMemoryOrOverflow (HasLargeAt plan.now id (as_of T.times t own.now) (nth_bag bags.now))) }
 {
     plan.known();
     let k = plan.key_width(id);

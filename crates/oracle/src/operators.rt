@@ -2,7 +2,7 @@
 ghost use Rattle.std.specs.Prelude.{◌≤◌, ◌+◌, ◌-◌, ◌++◌, ◌⊎◌, map, length, nat_le, IfOk, IfErr, IsTrue};
 ghost use Rattle.std.specs.List.{filter, list_all};
 ghost use Rattle.row.specs.Projection.{are_within};
-ghost use Rattle.row.specs.Testing.{passes, is_test_within};
+ghost use Rattle.row.specs.Filters.{passes, is_test_within};
 ghost use Rattle.update.specs.Bags.{Alike, IsBag, HasLargeCount};
 ghost use Rattle.plan.specs.Operators.{mapped_entry, negated_entry, join_output};
 ghost use Rattle.update.specs.Refusals.{IsMemoryOrOverflow};

@@ -2,13 +2,13 @@
 //! 0. Of these, min and max keep the first and the last row of each key. Rows with the same key are
 //! neighbours, so comparing an entry with its neighbour is enough. Count adds up the keys instead
 //! of the rows.
-ghost use Rattle.std.specs.Prelude.{◌≡◌, ◌≤◌, ◌<◌, ◌++◌, ℕ, map, pos, take, int_lt, length, nat_le, slice_index_or, IfOk, IfErr, OnOk, IsTrue};
+ghost use Rattle.std.specs.Prelude.{◌≡◌, ◌≤◌, ◌<◌, ◌++◌, ℕ, map, pos, int_lt, length, nat_le, slice_index_or, IfOk, IfErr, OnOk, IsTrue};
 ghost use Rattle.std.specs.List.{filter, list_all};
 ghost use Rattle.update.specs.Bags.{Entry, Alike, IsBag, HasLargeCount};
 ghost use Rattle.plan.specs.Operators.{reduction_output};
-ghost use Rattle.plan.specs.Reductions.{single, reduction_answer, has_key};
+ghost use Rattle.plan.specs.Reductions.{single, reduction_answer};
 ghost use Rattle.plan.specs.declared.node.Kind.TheVariants.{Distinct, Min, Max, Count};
-ghost use Rattle.update.specs.Refusals.{IsMemoryOrOverflow};
+ghost use Rattle.update.specs.Refusals.{OnlyMemory, IsMemoryOrOverflow};
 ghost use Rattle.oracle.specs.Keys.{have_keys};
 ghost use Rattle.oracle.specs.Reduced.{key_entry, count_entry, is_least_row, is_greatest_row, HasLargeNumber};
 
@@ -23,7 +23,7 @@ use update::{Bag, Entries, Refusal};
 fn put_present(entries: &mut Entries, bag: &Bag) -> Result<(), Refusal>
     ensures present { OnOk result (entries.new ≡ entries.old
         ++ map (λ e. single e.row) (filter (λ e. int_lt (pos 0) e.count) bag.now)) }
-    ensures refused { IfErr result (λ refused. refused ≡ Refusal.OutOfMemory) }
+    ensures refused { OnlyMemory result }
 {
     for i in 0..bag.len() {
         if is_positive(bag, i) {
@@ -39,7 +39,7 @@ fn distinct(alloc: Global, bag: &Bag) -> Result<Bag, Refusal>
     ensures distinct { IfOk result (λ out. (k : ℕ) → IsTrue (have_keys k bag.now)
         → Alike out (reduction_output k (reduction_answer Distinct) bag.now)) }
     ensures bag { IfOk result IsBag }
-    ensures refused { IfErr result (λ refused. refused ≡ Refusal.OutOfMemory) }
+    ensures refused { OnlyMemory result }
 {
     let mut entries = Entries::new(alloc);
     put_present(&mut entries, bag)?;
@@ -72,7 +72,7 @@ fn put_first(entries: &mut Entries, bag: &Bag, k: usize) -> Result<(), Refusal>
     requires { IsTrue (have_keys k bag.now) }
     ensures first { OnOk result
         (entries.new ≡ entries.old ++ filter (λ e. is_least_row k bag.now e.row) bag.now) }
-    ensures refused { IfErr result (λ refused. refused ≡ Refusal.OutOfMemory) }
+    ensures refused { OnlyMemory result }
 {
     for i in 0..bag.len() {
         if is_first(bag, i, k) {
@@ -87,7 +87,7 @@ fn put_last(entries: &mut Entries, bag: &Bag, k: usize) -> Result<(), Refusal>
     requires { IsTrue (have_keys k bag.now) }
     ensures last { OnOk result
         (entries.new ≡ entries.old ++ filter (λ e. is_greatest_row k bag.now e.row) bag.now) }
-    ensures refused { IfErr result (λ refused. refused ≡ Refusal.OutOfMemory) }
+    ensures refused { OnlyMemory result }
 {
     for i in 0..bag.len() {
         if is_last(bag, i, k) {
@@ -102,7 +102,7 @@ fn put_keys(alloc: Global, entries: &mut Entries, bag: &Bag, k: usize) -> Result
     requires some { 1 ≤ k }
     requires keys { IsTrue (have_keys k bag.now) }
     ensures keys { OnOk result (entries.new ≡ entries.old ++ map (key_entry k) bag.now) }
-    ensures refused { IfErr result (λ refused. refused ≡ Refusal.OutOfMemory) }
+    ensures refused { OnlyMemory result }
 {
     for i in 0..bag.len() {
         entries.push(Row::of(alloc, key_at(bag, i, k)), count_at(bag, i))?;
@@ -114,7 +114,7 @@ fn put_keys(alloc: Global, entries: &mut Entries, bag: &Bag, k: usize) -> Result
 fn put_numbered(entries: &mut Entries, bag: &Bag) -> Result<(), Refusal>
     requires { IsTrue (list_all (λ e. nat_le (length e.row) 7) bag.now) }
     ensures numbered { OnOk result (entries.new ≡ entries.old ++ map count_entry bag.now) }
-    ensures refused { IfErr result (λ refused. refused ≡ Refusal.OutOfMemory) }
+    ensures refused { OnlyMemory result }
 {
     for i in 0..bag.len() {
         let count = count_at(bag, i);
@@ -174,7 +174,7 @@ fn least(alloc: Global, bag: &Bag, k: usize) -> Result<Bag, Refusal>
     ensures least { IfOk result
         (λ out. Alike out (reduction_output k (reduction_answer Min) bag.now)) }
     ensures bag { IfOk result IsBag }
-    ensures refused { IfErr result (λ refused. refused ≡ Refusal.OutOfMemory) }
+    ensures refused { OnlyMemory result }
 {
     let present = distinct(alloc, bag)?;
     let mut entries = Entries::new(alloc);
@@ -190,7 +190,7 @@ fn greatest(alloc: Global, bag: &Bag, k: usize) -> Result<Bag, Refusal>
     ensures greatest { IfOk result
         (λ out. Alike out (reduction_output k (reduction_answer Max) bag.now)) }
     ensures bag { IfOk result IsBag }
-    ensures refused { IfErr result (λ refused. refused ≡ Refusal.OutOfMemory) }
+    ensures refused { OnlyMemory result }
 {
     let present = distinct(alloc, bag)?;
     let mut entries = Entries::new(alloc);

@@ -1,6 +1,6 @@
 //! The differences of a plan's last node. The plain query asks something of its caller. Here it is
 //! called only after that was tested, so that a test need not be proved to keep it.
-ghost use Rattle.std.specs.Prelude.{◌≡◌, ◌-◌, length, map, IfOk};
+ghost use Rattle.std.specs.Prelude.{◌-◌, length, map, IfOk};
 ghost use Rattle.plan.specs.Changes.{AreDifferences, open_for};
 ghost use Rattle.oracle.specs.Evaluation.{list_of};
 
@@ -20,9 +20,9 @@ pub fn listed<T: Lattice>(
     changes: &[Vec<Update<T>>],
     frontiers: &[Antichain<T>],
 ) -> Result<Vec<Update<T>>, Refusal>
-    ensures { IfOk result (λ listed. AreDifferences T.below T.cmp plan.now
+    ensures { IfOk result (λ listed. AreDifferences T.times T.cmp plan.now
         (list_of plan.now (map (λ v. v.items) changes.now))
-        (open_for T.below plan.now (list_of plan.now frontiers.now) (length plan.now - 1))
+        (open_for T.times plan.now (list_of plan.now frontiers.now) (length plan.now - 1))
         (length plan.now - 1) listed.items) }
 {
     if plan.is_empty() || !are_wide(plan, changes) {

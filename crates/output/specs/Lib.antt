@@ -1,4 +1,4 @@
 pub mod AppendLaws
 pub mod Faults
 pub mod Outs
-pub mod Printing
+pub mod Lines

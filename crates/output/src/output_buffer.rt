@@ -5,7 +5,7 @@
 //! without an allocation for each.
 ghost use Rattle.std.specs.Prelude.{◌≡◌, ◌++◌, ℕ, List, [], OnErr, OnOk};
 ghost use Rattle.output.specs.Outs.{IsBeginning, Wrote, Broke};
-ghost use Rattle.output.specs.Printing.{refused_text, read_text, count_text, update_text, element_text};
+ghost use Rattle.output.specs.Lines.{refused_text, read_text, count_text, update_text, element_text};
 ghost use Rattle.update.specs.Text.{entry_text};
 
 use crate::outputs::{Out, OutFault, put_all};

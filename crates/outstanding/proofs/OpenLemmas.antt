@@ -7,6 +7,7 @@ use Rattle.std.proofs.lemmas.List.{append-nil, get_or-map, map_push, take_more, 
 use Rattle.std.proofs.lemmas.List.Concat.{flat_map-append}
 use Rattle.std.proofs.lemmas.List.Folds.{list_any-append, list_all-append}
 use Rattle.std.proofs.lemmas.Option.{unwrap_or-slice_get}
+use Rattle.lattice.specs.Times.{Times}
 use Rattle.lattice.specs.Frontiers.{is_beyond}
 use Rattle.plan.specs.Ancestors.{numbers_below}
 use Rattle.plan.specs.Edges.{numbers_where}
@@ -169,24 +170,24 @@ module _ {T : Type 0} where
       by false f = get_or-set_other inputs i j ts [] (λ z. false≢true (sym f ∙ eq-eqb j i z)) ∙ (same j ∙ sym (open_stays i j ts os (λ z. false≢true (sym f ∙ eq-eqb j i (sym z)))))
 
   -- whether some open time is at or before t, input by input
-  module _ (below : T → T → Bool) (there : ℕ → Bool) (t : T) where
-    any_opening : (i : ℕ) (ts : List T) → list_any (λ o. there o.input && below o.time t) (open_entries i ts) ≡ (there i && is_beyond below ts t)
+  module _ (times : Times T) (there : ℕ → Bool) (t : T) where
+    any_opening : (i : ℕ) (ts : List T) → list_any (λ o. there o.input && times.below o.time t) (open_entries i ts) ≡ (there i && is_beyond times ts t)
     any_opening i ts = step (there i) refl ts
       where
-        step : (c : Bool) → there i ≡ c → (us : List T) → list_any (λ o. there o.input && below o.time t) (open_entries i us) ≡ (c && is_beyond below us t)
+        step : (c : Bool) → there i ≡ c → (us : List T) → list_any (λ o. there o.input && times.below o.time t) (open_entries i us) ≡ (c && is_beyond times us t)
         step true e [] = refl
         step false e [] = refl
-        step true e (u ∷ us) = ap₂ (λ b d. (b && below u t) || d) e (step true e us)
-        step false e (u ∷ us) = ap₂ (λ b d. (b && below u t) || d) e (step false e us)
+        step true e (u ∷ us) = ap₂ (λ b d. (b && times.below u t) || d) e (step true e us)
+        step false e (u ∷ us) = ap₂ (λ b d. (b && times.below u t) || d) e (step false e us)
 
     -- some open time passes exactly if some input's frontier has such a time
-    pub any_spread : (f : ℕ → List T) (n : ℕ) → list_any (λ o. there o.input && below o.time t) (spread f n) ≡ list_any (λ i. there i && is_beyond below (f i) t) (numbers_below n)
+    pub any_spread : (f : ℕ → List T) (n : ℕ) → list_any (λ o. there o.input && times.below o.time t) (spread f n) ≡ list_any (λ i. there i && is_beyond times (f i) t) (numbers_below n)
     any_spread f zero = refl
     any_spread f (suc n) =
-        ap (list_any (λ o. there o.input && below o.time t)) (spread_more f n)
-        ∙ (list_any-append (λ o. there o.input && below o.time t) (spread f n) (open_entries n (f n))
-        ∙ (ap₂ (λ a b. a || b) (any_spread f n) (any_opening n (f n) ∙ sym (or_nothing (there n && is_beyond below (f n) t)))
-        ∙ sym (list_any-append (λ i. there i && is_beyond below (f i) t) (numbers_below n) (n ∷ []))))
+        ap (list_any (λ o. there o.input && times.below o.time t)) (spread_more f n)
+        ∙ (list_any-append (λ o. there o.input && times.below o.time t) (spread f n) (open_entries n (f n))
+        ∙ (ap₂ (λ a b. a || b) (any_spread f n) (any_opening n (f n) ∙ sym (or_nothing (there n && is_beyond times (f n) t)))
+        ∙ sym (list_any-append (λ i. there i && is_beyond times (f i) t) (numbers_below n) (n ∷ []))))
       where
         or_nothing : (b : Bool) → (b || false) ≡ b
         or_nothing true = refl

@@ -6,8 +6,8 @@
 //! moves forward: each of its new times is beyond the old frontier. An input whose frontier has no
 //! times is closed.
 ghost use Rattle.std.specs.Prelude.{◌≡◌, ◌<◌, IfErr, IfOk, OnOk, OnErr, None, Some, List, [], ◌∷◌, if◌then◌else◌, length, set};
+ghost use Rattle.update.specs.Refusals.{OnlyMemory};
 ghost use Rattle.lattice.specs.Frontiers.{is_beyond};
-ghost use Rattle.update.specs.declared.refusal.Refusal.TheVariants.{OutOfMemory};
 ghost use Rattle.plan.specs.Rules.{first_refusal};
 ghost use Rattle.histories.specs.Histories.States.{change_to};
 ghost use Rattle.outstanding.specs.Inputs.{front_at, first_inputs, feed_faults, advance_faults};
@@ -46,8 +46,8 @@ impl<T: Minimum> InputFrontiers<T> {
     ///
     /// Cost: linear in the nodes.
     pub fn first(alloc: Global, plan: &Plan) -> Result<InputFrontiers<T>, Refusal>
-        ensures first { IfOk result (λ frontiers. frontiers ≡ first_inputs T.least plan.now) }
-        ensures refused { IfErr result (λ refusal. refusal ≡ OutOfMemory) }
+        ensures first { IfOk result (λ frontiers. frontiers ≡ first_inputs T.times.least plan.now) }
+        ensures refused { OnlyMemory result }
     {
         let mut by_node = Vec::with_capacity(alloc, plan.len())?;
         for n in 0..plan.len() {
@@ -70,7 +70,7 @@ impl<T: Minimum> InputFrontiers<T> {
     /// Cost: linear in the elements of the frontier.
     pub fn is_open(&self, input: NodeId, t: &T) -> bool
         requires { input < length self.now }
-        ensures { result ≡ is_beyond T.below (front_at input self.now) t.now }
+        ensures { result ≡ is_beyond T.times (front_at input self.now) t.now }
     {
         is_beyond(self.of(input), t)
     }
@@ -98,7 +98,7 @@ impl<T: Minimum> InputFrontiers<T> {
     ) -> Option<Refusal>
         requires within { input < length self.now }
         requires node { input < length plan.now }
-        ensures { result ≡ first_refusal (feed_faults T.below plan.now (front_at input self.now)
+        ensures { result ≡ first_refusal (feed_faults T.times plan.now (front_at input self.now)
             taken (change_to input update.now)) }
     {
         if update.row.width() != plan.width(input) {
@@ -125,9 +125,9 @@ impl<T: Minimum> InputFrontiers<T> {
         requires { input < length self.old }
         ensures moved { OnOk result (self.new ≡ set self.old input times) }
         ensures accepted { OnOk result
-            (first_refusal (advance_faults T.below (front_at input self.old) times) ≡ None) }
+            (first_refusal (advance_faults T.times (front_at input self.old) times) ≡ None) }
         ensures refused { IfErr result (λ refusal.
-            first_refusal (advance_faults T.below (front_at input self.old) times) ≡ Some refusal) }
+            first_refusal (advance_faults T.times (front_at input self.old) times) ≡ Some refusal) }
         ensures unchanged { OnErr result (self.new ≡ self.old) }
     {
         if !all_beyond(self.of(input), times.as_slice()) {
@@ -146,8 +146,8 @@ impl<T: Minimum> InputFrontiers<T> {
         self.stand_at(input, none.into());
     }
 
-    /// Replaces an input's frontier by these times. It is not tested whether they are beyond the old
-    /// frontier, as [`InputFrontiers::advance`] does. Takes no memory.
+    /// Replaces an input's frontier by these times. It is not tested whether they are beyond the
+    /// old frontier, as [`InputFrontiers::advance`] does. Takes no memory.
     pub fn stand_at(&mut self, input: NodeId, times: Times<T>)
         requires { input < length self.old }
         ensures { self.new ≡ set self.old input times }
@@ -159,8 +159,8 @@ impl<T: Minimum> InputFrontiers<T> {
 // The frontier of a node before anything has happened: the least time at an input, no times
 // elsewhere.
 fn first_frontier<T: Minimum>(alloc: Global, is_input: bool) -> Result<Times<T>, Refusal>
-    ensures first { IfOk result (λ times. times ≡ (if is_input then T.least ∷ [] else [])) }
-    ensures refused { IfErr result (λ refusal. refusal ≡ OutOfMemory) }
+    ensures first { IfOk result (λ times. times ≡ (if is_input then T.times.least ∷ [] else [])) }
+    ensures refused { OnlyMemory result }
 {
     let mut times = Vec::new(alloc);
     if is_input {

@@ -3,9 +3,9 @@
 //! Each place has a queue of its own, so a bundle is put and taken without a look at any other. A
 //! change that was fed waits as it is, with no block of memory of its own, since a million changes
 //! may wait.
-ghost use Rattle.std.specs.Prelude.{◌≡◌, ◌<◌, ◌≤◌, ◌+◌, ◌++◌, List, [], ◌∷◌, Some, IfErr, IfOk, OnErr, OnOk, length, slice_get};
+ghost use Rattle.std.specs.Prelude.{◌≡◌, ◌<◌, ◌≤◌, ◌+◌, ◌++◌, List, [], ◌∷◌, Some, IfOk, OnErr, OnOk, length, slice_get};
 ghost use Rattle.std.specs.List.{remove};
-ghost use Rattle.update.specs.declared.refusal.Refusal.TheVariants.{OutOfMemory};
+ghost use Rattle.update.specs.Refusals.{OnlyMemory};
 ghost use Rattle.update.specs.declared.change.Update.{Update};
 ghost use Rattle.progress.specs.Several.{items_at};
 ghost use Rattle.progress.specs.Tallies.{SameCounts};
@@ -79,7 +79,7 @@ impl<T: Minimum> Queue<T> {
     /// Cost: constant, apart from the queue's growth now and then.
     pub fn push(&mut self, parcel: Parcel<T>) -> Result<(), Refusal>
         ensures pushed { OnOk result (self.new.loads ≡ self.old.loads ++ load_of parcel ∷ []) }
-        ensures refused { IfErr result (λ refusal. refusal ≡ OutOfMemory) }
+        ensures refused { OnlyMemory result }
         ensures unchanged { OnErr result (self.new.loads ≡ self.old.loads) }
     {
         self.reserved = 0;
@@ -95,7 +95,7 @@ impl<T: Minimum> Queue<T> {
         ensures unchanged { self.new.loads ≡ self.old.loads }
         ensures room { OnOk result (self.new.room ≡ self.old.room + 1) }
         ensures kept { OnErr result (self.new.room ≡ self.old.room) }
-        ensures refused { IfErr result (λ refusal. refusal ≡ OutOfMemory) }
+        ensures refused { OnlyMemory result }
     {
         self.parcels.reserve(self.reserved + 1)?;
         self.reserved += 1;
@@ -120,12 +120,13 @@ impl<T: Minimum> Queue<T> {
         self.reserved = 0;
     }
 
-    /// Takes the load of a number, from 0, out of the queue. Its stamp is held from then on at a place,
-    /// and counted there. Refused only with `OutOfMemory`; then nothing changes, and no item is counted
-    /// more or less often than before. It may allocate since a change gets lists of its own only now.
+    /// Takes the load of a number, from 0, out of the queue. Its stamp is held from then on at a
+    /// place, and counted there. Refused only with `OutOfMemory`; then nothing changes, and no item
+    /// is counted more or less often than before. It may allocate since a change gets lists of its
+    /// own only now.
     ///
-    /// Cost: that of [`Capabilities::hold_more`] for the stamp, and linear in the number of loads before
-    /// it or behind it, whichever is smaller.
+    /// Cost: that of [`Capabilities::hold_more`] for the stamp, and linear in the number of loads
+    /// before it or behind it, whichever is smaller.
     pub fn take(
         &mut self,
         number: usize,
@@ -141,7 +142,7 @@ impl<T: Minimum> Queue<T> {
         ensures counted { IfOk result (λ load.
             SameCounts tally.new.items (items_at place.now load.1 ++ tally.old.items)) }
         ensures nodes { tally.new.nodes ≡ tally.old.nodes }
-        ensures refused { IfErr result (λ refusal. refusal ≡ OutOfMemory) }
+        ensures refused { OnlyMemory result }
         ensures unchanged { OnErr result (self.new.loads ≡ self.old.loads) }
         ensures kept { OnErr result (held.new ≡ held.old) }
         ensures uncounted { OnErr result (SameCounts tally.new.items tally.old.items) }
@@ -172,7 +173,7 @@ impl<T: Minimum> Parcel<T> {
     fn sent_alone(alloc: Global, update: &Update<T>) -> Result<Parcel<T>, Refusal>
         ensures sent { IfOk result (λ parcel.
             parcel ≡ Sent (update.now ∷ []) (update.now.time ∷ [])) }
-        ensures refused { IfErr result (λ refusal. refusal ≡ OutOfMemory) }
+        ensures refused { OnlyMemory result }
     {
         let mut updates = Vec::with_capacity(alloc, 1)?;
         let mut stamp = Vec::with_capacity(alloc, 1)?;
@@ -187,7 +188,7 @@ impl<T: Minimum> Parcel<T> {
         ensures sent { OnOk result ((updates : List (Update T)) × ((stamp : List T)
             × (self.new ≡ Sent updates stamp))) }
         ensures unchanged { load_of self.new ≡ load_of self.old }
-        ensures refused { IfErr result (λ refusal. refusal ≡ OutOfMemory) }
+        ensures refused { OnlyMemory result }
     {
         let sent = match self {
             Parcel::Change(update) => Parcel::sent_alone(alloc, update)?,
@@ -197,7 +198,8 @@ impl<T: Minimum> Parcel<T> {
         Ok(())
     }
 
-    // Holds the stamp of what a worker sent. Refused only with `OutOfMemory`, and then nothing changes.
+    // Holds the stamp of what a worker sent. Refused only with `OutOfMemory`, and then nothing
+    // changes.
     fn hold_stamp(
         &self,
         held: &mut Capabilities<T>,
@@ -210,7 +212,7 @@ impl<T: Minimum> Parcel<T> {
         ensures counted { OnOk result (SameCounts tally.new.items
             (items_at place.now (load_of self.now).stamp ++ tally.old.items)) }
         ensures nodes { tally.new.nodes ≡ tally.old.nodes }
-        ensures refused { IfErr result (λ refusal. refusal ≡ OutOfMemory) }
+        ensures refused { OnlyMemory result }
         ensures kept { OnErr result (held.new ≡ held.old) }
         ensures uncounted { OnErr result (SameCounts tally.new.items tally.old.items) }
     {

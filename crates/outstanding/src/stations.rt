@@ -4,11 +4,11 @@
 //! A place is found by its numbers, so an event there costs the same however much waits anywhere
 //! else.
 //!
-//! What a worker holds are capabilities, which a tally counts. They cannot be dropped, so neither can a
-//! station, nor what has stations: [`Stations::give_back`] ends them.
-ghost use Rattle.std.specs.Prelude.{◌≡◌, ◌<◌, ◌&&◌, ◌++◌, ℕ, [], suc, eqb, false, Some, IfErr, IfOk, IfSome, OnErr, OnOk, length, slice_get, get_or, map, replicate};
+//! What a worker holds are capabilities, which a tally counts. They cannot be dropped, so neither
+//! can a station, nor what has stations: [`Stations::give_back`] ends them.
+ghost use Rattle.std.specs.Prelude.{◌≡◌, ◌<◌, ◌&&◌, ◌++◌, ℕ, [], suc, eqb, false, Some, IfOk, IfSome, OnErr, OnOk, length, slice_get, get_or, map, replicate};
 ghost use Rattle.std.specs.List.{All};
-ghost use Rattle.update.specs.declared.refusal.Refusal.TheVariants.{OutOfMemory};
+ghost use Rattle.update.specs.Refusals.{OnlyMemory};
 ghost use Rattle.progress.specs.declared.place.Place.TheVariants.{Held};
 ghost use Rattle.progress.specs.Several.{items_at, AreCounted};
 ghost use Rattle.progress.specs.Tallies.{SameCounts};
@@ -65,7 +65,7 @@ impl<T: Minimum> Station<T> {
     fn put(&mut self, port: usize, parcel: Parcel<T>) -> Result<(), Refusal>
         ensures put { OnOk result
             (lot self.new ≡ with_load_at port (load_of parcel) (lot self.old)) }
-        ensures refused { IfErr result (λ refusal. refusal ≡ OutOfMemory) }
+        ensures refused { OnlyMemory result }
         ensures unchanged { OnErr result (lot self.new ≡ lot self.old) }
     {
         match port {
@@ -81,7 +81,7 @@ impl<T: Minimum> Station<T> {
         ensures room { OnOk result ((n : ℕ)
             → has_room port n self.old → has_room port (suc n) self.new) }
         ensures kept { (p n : ℕ) → has_room p n self.old → has_room p n self.new }
-        ensures refused { IfErr result (λ refusal. refusal ≡ OutOfMemory) }
+        ensures refused { OnlyMemory result }
     {
         match port {
             0 => self.left.reserve(),
@@ -131,7 +131,7 @@ impl<T: Minimum> Station<T> {
         ensures counted { IfOk result (λ load.
             SameCounts tally.new.items (items_at place.now load.1 ++ tally.old.items)) }
         ensures nodes { tally.new.nodes ≡ tally.old.nodes }
-        ensures refused { IfErr result (λ refusal. refusal ≡ OutOfMemory) }
+        ensures refused { OnlyMemory result }
         ensures unchanged { OnErr result (lot self.new ≡ lot self.old) }
         ensures uncounted { OnErr result (SameCounts tally.new.items tally.old.items) }
     {
@@ -142,8 +142,8 @@ impl<T: Minimum> Station<T> {
         }
     }
 
-    // The worker holds these from now on at this place, and gives back what it held. Queues that were
-    // emptied give their memory back.
+    // The worker holds these from now on at this place, and gives back what it held. Queues that
+    // were emptied give their memory back.
     fn exchange(&mut self, tally: &mut Tally<T>, place: &Place, held: Capabilities<T>)
         requires { AreCounted tally.old.items (items_at place.now (lot self.old).held) }
         ensures held { lot self.new ≡ record (lot self.old) { held = held } }
@@ -176,7 +176,7 @@ impl<T: Minimum> Row<T> {
     // The stations of this many workers, at which nothing lies.
     fn first(alloc: Global, workers: usize) -> Result<Row<T>, Refusal>
         ensures first { IfOk result (λ row. map lot row ≡ replicate workers no_lot) }
-        ensures refused { IfErr result (λ refusal. refusal ≡ OutOfMemory) }
+        ensures refused { OnlyMemory result }
     {
         let mut by_worker = Vec::with_capacity(alloc, workers)?;
         for _worker in 0..workers {
@@ -189,7 +189,7 @@ impl<T: Minimum> Row<T> {
     fn put(&mut self, worker: usize, port: usize, parcel: Parcel<T>) -> Result<(), Refusal>
         ensures put { OnOk result (map lot self.new
             ≡ at_worker worker (with_load_at port (load_of parcel)) (map lot self.old)) }
-        ensures refused { IfErr result (λ refusal. refusal ≡ OutOfMemory) }
+        ensures refused { OnlyMemory result }
         ensures unchanged { OnErr result (map lot self.new ≡ map lot self.old) }
     {
         if worker >= self.by_worker.len() {
@@ -204,7 +204,7 @@ impl<T: Minimum> Row<T> {
         ensures room { OnOk result ((n : ℕ)
             → RowHasRoom worker port n self.old → RowHasRoom worker port (suc n) self.new) }
         ensures kept { (k p n : ℕ) → RowHasRoom k p n self.old → RowHasRoom k p n self.new }
-        ensures refused { IfErr result (λ refusal. refusal ≡ OutOfMemory) }
+        ensures refused { OnlyMemory result }
     {
         if worker >= self.by_worker.len() {
             return Ok(());
@@ -240,7 +240,8 @@ impl<T: Minimum> Row<T> {
         }
     }
 
-    // Takes the load of a number from a worker's port. The worker then holds its stamp at this place.
+    // Takes the load of a number from a worker's port. The worker then holds its stamp at this
+    // place.
     fn take(
         &mut self,
         worker: usize,
@@ -258,7 +259,7 @@ impl<T: Minimum> Row<T> {
         ensures counted { IfOk result (λ load.
             SameCounts tally.new.items (items_at place.now load.1 ++ tally.old.items)) }
         ensures nodes { tally.new.nodes ≡ tally.old.nodes }
-        ensures refused { IfErr result (λ refusal. refusal ≡ OutOfMemory) }
+        ensures refused { OnlyMemory result }
         ensures unchanged { OnErr result (map lot self.new ≡ map lot self.old) }
         ensures uncounted { OnErr result (SameCounts tally.new.items tally.old.items) }
     {
@@ -301,8 +302,8 @@ impl<T: Minimum> Row<T> {
     }
 }
 
-/// The stations of all nodes. A contract sees the lists of them, by node and by worker. They must be
-/// ended, by `give_back`.
+/// The stations of all nodes. A contract sees the lists of them, by node and by worker. They must
+/// be ended, by `give_back`.
 pub struct Stations<T> {
     pub(crate) by_node: Vec<Row<T>>,
 }
@@ -318,8 +319,8 @@ impl<T> Model for Stations<T> {
 
 impl<T: Minimum> Stations<T> {
     /// The stations of this many nodes and workers, at which nothing lies. Refused only with
-    /// `OutOfMemory`. Then those that were made are ended, for which the tally is needed: it counts the
-    /// same before and after.
+    /// `OutOfMemory`. Then those that were made are ended, for which the tally is needed: it counts
+    /// the same before and after.
     ///
     /// Cost: linear in the stations.
     pub fn first(
@@ -329,7 +330,7 @@ impl<T: Minimum> Stations<T> {
         tally: &mut Tally<T>,
     ) -> Result<Stations<T>, Refusal>
         ensures first { IfOk result (λ stations. lots stations ≡ first_stations nodes workers) }
-        ensures refused { IfErr result (λ refusal. refusal ≡ OutOfMemory) }
+        ensures refused { OnlyMemory result }
         ensures counted { SameCounts tally.new.items tally.old.items }
         ensures nodes { tally.new.nodes ≡ tally.old.nodes }
     {
@@ -346,8 +347,8 @@ impl<T: Minimum> Stations<T> {
         Ok(Stations { by_node })
     }
 
-    /// Ends the stations. All workers give back what they hold, which must be counted. What waits is
-    /// dropped. Takes no memory.
+    /// Ends the stations. All workers give back what they hold, which must be counted. What waits
+    /// is dropped. Takes no memory.
     ///
     /// Cost: linear in the stations and in what lies there, and that of
     /// [`Capabilities::give_back`] for each of them.
@@ -372,7 +373,7 @@ impl<T: Minimum> Stations<T> {
     pub fn put(&mut self, site: &Site, parcel: Parcel<T>) -> Result<(), Refusal>
         ensures put { OnOk result
             (lots self.new ≡ put_at site.now (load_of parcel) (lots self.old)) }
-        ensures refused { IfErr result (λ refusal. refusal ≡ OutOfMemory) }
+        ensures refused { OnlyMemory result }
         ensures unchanged { OnErr result (lots self.new ≡ lots self.old) }
     {
         let node = site.node.number();
@@ -390,7 +391,7 @@ impl<T: Minimum> Stations<T> {
     pub fn reserve(&mut self, sent: &[Bundle<T>]) -> Result<(), Refusal>
         ensures unchanged { lots self.new ≡ lots self.old }
         ensures room { OnOk result (HasRoomFor sent.now self.new) }
-        ensures refused { IfErr result (λ refusal. refusal ≡ OutOfMemory) }
+        ensures refused { OnlyMemory result }
     {
         for bundle in sent {
             self.reserve_at(&bundle.place)?;
@@ -404,7 +405,7 @@ impl<T: Minimum> Stations<T> {
         ensures room { OnOk result ((n : ℕ)
             → HasRoom n self.old site.now → HasRoom (suc n) self.new site.now) }
         ensures kept { (at : Site) (n : ℕ) → HasRoom n self.old at → HasRoom n self.new at }
-        ensures refused { IfErr result (λ refusal. refusal ≡ OutOfMemory) }
+        ensures refused { OnlyMemory result }
     {
         let node = site.node.number();
         if node >= self.by_node.len() {
@@ -471,8 +472,8 @@ impl<T: Minimum> Stations<T> {
     }
 
     /// Takes the bundle of a number, from 0, from its place. The worker then holds its stamp at the
-    /// node, and the tally counts it there. Refused only with `OutOfMemory`. Then nothing changes, and
-    /// no item is counted more or less often than before.
+    /// node, and the tally counts it there. Refused only with `OutOfMemory`. Then nothing changes,
+    /// and no item is counted more or less often than before.
     ///
     /// Cost: that of [`Capabilities::hold_more`] for the stamp, and linear in the number of bundles
     /// before it or behind it, whichever is smaller.
@@ -491,7 +492,7 @@ impl<T: Minimum> Stations<T> {
         ensures counted { IfOk result (λ bundle. SameCounts tally.new.items
             (items_at (Held site.now.node) bundle.stamp ++ tally.old.items)) }
         ensures nodes { tally.new.nodes ≡ tally.old.nodes }
-        ensures refused { IfErr result (λ refusal. refusal ≡ OutOfMemory) }
+        ensures refused { OnlyMemory result }
         ensures unchanged { OnErr result (lots self.new ≡ lots self.old) }
         ensures uncounted { OnErr result (SameCounts tally.new.items tally.old.items) }
     {

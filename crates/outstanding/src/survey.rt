@@ -1,5 +1,5 @@
-//! What is read at the stations of a board without changing them: what waits at a place, and what is
-//! held at a node.
+//! What is read at the stations of a board without changing them: what waits at a place, and what
+//! is held at a node.
 ghost use Rattle.std.specs.Prelude.{◌≡◌, ◌<◌, ◌++◌, ℕ, [], None, IfSome, length, get_or, map};
 ghost use Rattle.std.specs.List.{list_all};
 ghost use Rattle.histories.specs.Histories.States.{place};

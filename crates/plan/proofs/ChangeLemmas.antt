@@ -6,6 +6,7 @@ use Rattle.std.specs.List.{filter, list_all}
 use Rattle.std.specs.Cmp.{IsTotalOrder}
 use Rattle.std.specs.declared.cmp.Ordering.{Ordering}
 use Rattle.std.proofs.lemmas.Bool.{and_parts}
+use Rattle.lattice.specs.Times.{Times}
 use Rattle.lattice.specs.Order.{PartialOrderLaws}
 use Rattle.lattice.specs.Frontiers.{is_beyond, all_beyond}
 use Rattle.lattice.proofs.FrontierLemmas.{beyond_up, beyond_later, beyond_itself}
@@ -31,35 +32,35 @@ filter_all p (x ∷ xs) a =
     let parts = and_parts (p x) (list_all p xs) a in
     λ i. cond (sym parts.0 i) (x ∷ filter_all p xs parts.1 i) (filter p xs)
 
-module _ {T : Type 0} {below : T → T → Bool} (o : PartialOrderLaws below) where
+module _ {T : Type 0} {times : Times T} (o : PartialOrderLaws times) where
   -- a frontier that has passed a time has passed all earlier times
-  passed_down : (frontier : List T) (s t : T) → IsTrue (below s t) → IsTrue (has_passed below frontier t) → IsTrue (has_passed below frontier s)
+  passed_down : (frontier : List T) (s t : T) → IsTrue (times.below s t) → IsTrue (has_passed times frontier t) → IsTrue (has_passed times frontier s)
   passed_down frontier s t h p =
-      not_from (is_beyond below frontier s) (λ b. not_true (is_beyond below frontier t) p (beyond_up o frontier s t b h))
+      not_from (is_beyond times frontier s) (λ b. not_true (is_beyond times frontier t) p (beyond_up o frontier s t b h))
 
   -- a later frontier has passed all times that an earlier one has
-  passed_later : (earlier later : List T) (t : T) → IsTrue (all_beyond below earlier later) → IsTrue (has_passed below earlier t) → IsTrue (has_passed below later t)
+  passed_later : (earlier later : List T) (t : T) → IsTrue (all_beyond times earlier later) → IsTrue (has_passed times earlier t) → IsTrue (has_passed times later t)
   passed_later earlier later t a p =
-      not_from (is_beyond below later t) (λ b. not_true (is_beyond below earlier t) p (beyond_later o earlier later t a b))
+      not_from (is_beyond times later t) (λ b. not_true (is_beyond times earlier t) p (beyond_later o earlier later t a b))
 
   module _ {cmp : T → T → Ordering} (total : IsTotalOrder cmp) (p : List Node) (changes : ℕ → List (Update T)) where
     -- when the frontier moves on, the differences at times that it had already passed stay the same
-    pub differences_go_on : (earlier later : List T) (n : ℕ) (us vs : List (Update T)) → IsTrue (all_beyond below earlier later) → AreDifferences below cmp p changes earlier n us → AreDifferences below cmp p changes later n vs → us ≡ filter (λ u. has_passed below earlier u.time) vs
+    pub differences_go_on : (earlier later : List T) (n : ℕ) (us vs : List (Update T)) → IsTrue (all_beyond times earlier later) → AreDifferences times cmp p changes earlier n us → AreDifferences times cmp p changes later n vs → us ≡ filter (λ u. has_passed times earlier u.time) vs
     differences_go_on earlier later n us vs a d e =
-        filter_all (λ u. has_passed below earlier u.time) us d.passed
-        ∙ same_updates o total (has_passed below earlier) us vs (same_totals o (has_passed below earlier) us vs (passed_down earlier) alike) d.consolidated e.consolidated
+        filter_all (λ u. has_passed times earlier u.time) us d.passed
+        ∙ same_updates o total (has_passed times earlier) us vs (same_totals o (has_passed times earlier) us vs (passed_down earlier) alike) d.consolidated e.consolidated
       where
-        alike : (t : T) → IsTrue (has_passed below earlier t) → Alike (as_of below t us) (as_of below t vs)
+        alike : (t : T) → IsTrue (has_passed times earlier t) → Alike (as_of times t us) (as_of times t vs)
         alike t h row = d.sums t h row ∙ sym (e.sums t (passed_later earlier later t a h) row)
 
     -- a node has only one list of differences for a frontier
-    pub differences_one : (frontier : List T) (n : ℕ) (us vs : List (Update T)) → AreDifferences below cmp p changes frontier n us → AreDifferences below cmp p changes frontier n vs → us ≡ vs
+    pub differences_one : (frontier : List T) (n : ℕ) (us vs : List (Update T)) → AreDifferences times cmp p changes frontier n us → AreDifferences times cmp p changes frontier n vs → us ≡ vs
     differences_one frontier n us vs d e =
         differences_go_on frontier frontier n us vs (beyond_itself o frontier) d e
-        ∙ sym (filter_all (λ u. has_passed below frontier u.time) vs e.passed)
+        ∙ sym (filter_all (λ u. has_passed times frontier u.time) vs e.passed)
 
     -- a reduction has only one own bound
-    own_same : (v w : ℕ → ℕ) → AreOwn below cmp p changes v → AreOwn below cmp p changes w → (n source : ℕ) (kind : Kind) → node_at p n ≡ Reduce kind source → v n ≡ w n
+    own_same : (v w : ℕ → ℕ) → AreOwn times cmp p changes v → AreOwn times cmp p changes w → (n source : ℕ) (kind : Kind) → node_at p n ≡ Reduce kind source → v n ≡ w n
     own_same v w a b n source kind e =
         let x = a n source kind e in
         let y = b n source kind e in
@@ -77,9 +78,9 @@ module _ (p : List Node) (inputs : ℕ → ℕ) where
       own_same_bound (node_at p n) (v n) (w n) (λ port. source_value (inputs n) (found_within 0 (loaded v) p d) (slice_get (sources (node_at p n)) port)) (h n)
       ∙ (λ i. loaded w n (node_at p n) (λ m. bounds_within v w h d m i))
 
-module _ {T : Type 0} {below : T → T → Bool} {cmp : T → T → Ordering} (o : PartialOrderLaws below) (total : IsTotalOrder cmp) where
+module _ {T : Type 0} {times : Times T} {cmp : T → T → Ordering} (o : PartialOrderLaws times) (total : IsTotalOrder cmp) where
   -- a node has at most one bound
-  pub one_bound : (p : List Node) (changes : ℕ → List (Update T)) (n v w : ℕ) → IsBound below cmp p changes n v → IsBound below cmp p changes n w → v ≡ w
+  pub one_bound : (p : List Node) (changes : ℕ → List (Update T)) (n v w : ℕ) → IsBound times cmp p changes n v → IsBound times cmp p changes n w → v ≡ w
   unfolding Rattle.plan.specs.Bounds.bound_by
   one_bound p changes n v w a b =
       a.2

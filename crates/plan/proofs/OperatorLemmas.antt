@@ -8,7 +8,7 @@ use Rattle.std.proofs.lemmas.Bool.{true≢false, eqb-true, eqb-false, ne_eqb}
 use Rattle.std.proofs.lemmas.List.{map-append}
 use Rattle.std.proofs.lemmas.List.Elements.{filter-append}
 use Rattle.row.specs.Projection.{projection}
-use Rattle.row.specs.Testing.{passes}
+use Rattle.row.specs.Filters.{passes}
 use Rattle.row.specs.declared.projection.Item.{Item}
 use Rattle.update.specs.Bags.{Entry, Alike, count_of, same_row, total_by}
 use Rattle.update.proofs.SumLemmas.{total_by-same, total_by-add, total_by-append, total_by-map, total_by-filter}

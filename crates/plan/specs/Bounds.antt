@@ -1,7 +1,7 @@
 -- The bound of a node: how large its output can become. It follows from the plan and the changes of
 -- the inputs alone. If no bound is 2^63 or more, then every count fits in 64 bits, in every
 -- intermediate result too.
-use Rattle.std.specs.Prelude.{◌≡◌, ℕ, ◌+◌, ◌*◌, ◌^◌, ◌<◌, ◌≤◌, Bool, List, [], length, slice_get}
+use Rattle.std.specs.Prelude.{◌≡◌, ℕ, ◌+◌, ◌*◌, ◌^◌, ◌<◌, ◌≤◌, List, [], length, slice_get}
 use Rattle.std.specs.declared.cmp.Ordering.{Ordering}
 use Rattle.update.specs.Updates.{size}
 use Rattle.update.specs.declared.change.Update.{Update}
@@ -12,6 +12,7 @@ use Rattle.plan.specs.Changes.{AreDifferences}
 use Rattle.plan.specs.declared.node.Kind.{Kind}
 use Rattle.plan.specs.declared.node.Node.{Node}
 use Rattle.plan.specs.declared.node.Node.TheVariants.{Concat, Join, Reduce}
+use Rattle.lattice.specs.Times.{Times}
 
 -- the bound of a node, from the bounds at its ports; a reduction has a bound of its own
 abbrev pub output_bound : Node → ℕ → (ℕ → ℕ) → ℕ
@@ -26,11 +27,11 @@ bound_by p own inputs n =
     found 0 (λ m node bounds. output_bound node (own m)
     (λ port. source_value (inputs m) bounds (slice_get (sources node) port))) p n
 
-module _ {T : Type 0} (below : T → T → Bool) (cmp : T → T → Ordering) where
+module _ {T : Type 0} (times : Times T) (cmp : T → T → Ordering) where
   -- the own bound of each reduction is the size of its differences over all changes
   abbrev pub AreOwn : List Node → (ℕ → List (Update T)) → (ℕ → ℕ) → Type 0
   AreOwn p changes own = (n source : ℕ) (kind : Kind) → node_at p n ≡ Reduce kind source
-      → (us : List (Update T)) × AreDifferences below cmp p changes [] n us × (own n ≡ size us)
+      → (us : List (Update T)) × AreDifferences times cmp p changes [] n us × (own n ≡ size us)
 
   -- w is the bound of node n over all changes
   abbrev pub IsBound : List Node → (ℕ → List (Update T)) → ℕ → ℕ → Type 0

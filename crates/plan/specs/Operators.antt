@@ -3,7 +3,7 @@
 use Rattle.std.specs.Prelude.{ℕ, List, ◌++◌, map, take, drop, length, nat_le, ◌*ℤ◌, neg_ℤ, ℤ}
 use Rattle.std.specs.List.{filter, flat_map}
 use Rattle.row.specs.Projection.{projection}
-use Rattle.row.specs.Testing.{passes}
+use Rattle.row.specs.Filters.{passes}
 use Rattle.row.specs.declared.projection.Item.{Item}
 use Rattle.update.specs.Bags.{Entry}
 use Rattle.plan.specs.Reductions.{each_once, has_key, reduction_answer}

@@ -2,7 +2,7 @@
 use Rattle.std.specs.Prelude.{◌≡◌, ℕ, ◌<◌, Bool, not, ◌&&◌, List, [], ◌∷◌, Option, Some, None, length, nat_lt, nat_le, eqb, is_some, take, if◌then◌else◌}
 use Rattle.std.specs.List.{list_all}
 use Rattle.row.specs.Projection.{are_within}
-use Rattle.row.specs.Testing.{is_test_within}
+use Rattle.row.specs.Filters.{is_test_within}
 use Rattle.update.specs.declared.refusal.Refusal.{Refusal}
 use Rattle.update.specs.declared.refusal.Refusal.TheVariants.{TooManyNodes, UnknownName, BadColumn, WidthMismatch, NotArranged, KeyMismatch, BadWidth, BadKey}
 use Rattle.plan.specs.Nodes.{node_at, sources, arranged_by, key_of, key_width, is_output}

@@ -16,18 +16,18 @@ use lattice::Lattice;
 pub fn differences_are_one_list<T: Lattice>()
     ensures one { (p : List Node) (changes : ℕ
         → List (Update T)) (frontier : List T) (n : ℕ) (us vs : List (Update T))
-        → AreDifferences T.below T.cmp p changes frontier n us
-        → AreDifferences T.below T.cmp p changes frontier n vs → us ≡ vs }
+        → AreDifferences T.times T.cmp p changes frontier n us
+        → AreDifferences T.times T.cmp p changes frontier n vs → us ≡ vs }
     ensures goes_on { (p : List Node) (changes : ℕ
         → List (Update T)) (earlier later : List T) (n : ℕ) (us vs : List (Update T))
-        → IsTrue (all_beyond T.below earlier later)
-        → AreDifferences T.below T.cmp p changes earlier n us
-        → AreDifferences T.below T.cmp p changes later n vs
-        → us ≡ filter (λ u. has_passed T.below earlier u.time) vs }
+        → IsTrue (all_beyond T.times earlier later)
+        → AreDifferences T.times T.cmp p changes earlier n us
+        → AreDifferences T.times T.cmp p changes later n vs
+        → us ≡ filter (λ u. has_passed T.times earlier u.time) vs }
 {}
 
 /// A node has only one bound: it depends on the plan and the changes alone.
 pub fn bounds_are_determined<T: Lattice>()
     ensures { (p : List Node) (changes : ℕ → List (Update T)) (n v w : ℕ)
-        → IsBound T.below T.cmp p changes n v → IsBound T.below T.cmp p changes n w → v ≡ w }
+        → IsBound T.times T.cmp p changes n v → IsBound T.times T.cmp p changes n w → v ≡ w }
 {}

@@ -1,12 +1,12 @@
 //! Questions about the graph of a plan: who reads a node, which nodes are its ancestors, which are
 //! inputs and which are views. A plan has 256 nodes at most, so no index is kept: each question
 //! goes over the nodes once.
-ghost use Rattle.std.specs.Prelude.{◌≡◌, ◌<◌, ◌++◌, false, length, get_or, IfOk, IfErr, OnErr};
+ghost use Rattle.std.specs.Prelude.{◌≡◌, ◌<◌, ◌++◌, false, length, get_or, IfOk, OnErr};
 ghost use Rattle.std.specs.List.{filter, list_any};
+ghost use Rattle.update.specs.Refusals.{OnlyMemory};
 ghost use Rattle.plan.specs.Nodes.{sources, is_output, is_input};
 ghost use Rattle.plan.specs.Ancestors.{reaches};
 ghost use Rattle.plan.specs.Edges.{edges_from, leads_from, ports_of, numbers_where, is_marked};
-ghost use Rattle.update.specs.declared.refusal.Refusal.TheVariants.{OutOfMemory};
 
 use crate::node::{Node, NodeId};
 use crate::plan::Plan;
@@ -29,7 +29,7 @@ impl Plan {
     /// Cost: linear in the plan.
     pub fn edges_from(&self, alloc: Global, id: NodeId) -> Result<Vec<Edge>, Refusal>
         ensures edges { IfOk result (λ edges. edges.items ≡ edges_from self.now id) }
-        ensures refused { IfErr result (λ refusal. refusal ≡ OutOfMemory) }
+        ensures refused { OnlyMemory result }
     {
         let mut edges = Vec::new(alloc);
         for n in 0..self.len() {
@@ -44,7 +44,7 @@ impl Plan {
         ensures edges { IfOk result
             (λ _. edges.new.items
             ≡ edges.old.items ++ filter (leads_from self.now id) (ports_of reader)) }
-        ensures refused { IfErr result (λ refusal. refusal ≡ OutOfMemory) }
+        ensures refused { OnlyMemory result }
     {
         if self.node(reader).source(0) == Some(id) {
             edges.push(Edge { reader, port: 0 })?;
@@ -60,7 +60,7 @@ impl Plan {
     /// Cost: linear in the plan.
     pub fn inputs(&self, alloc: Global) -> Result<Vec<NodeId>, Refusal>
         ensures inputs { IfOk result (λ ids. ids.items ≡ numbers_where is_input self.now) }
-        ensures refused { IfErr result (λ refusal. refusal ≡ OutOfMemory) }
+        ensures refused { OnlyMemory result }
     {
         let mut ids = Vec::new(alloc);
         for n in 0..self.len() {
@@ -76,7 +76,7 @@ impl Plan {
     /// Cost: linear in the plan.
     pub fn views(&self, alloc: Global) -> Result<Vec<NodeId>, Refusal>
         ensures views { IfOk result (λ ids. ids.items ≡ numbers_where is_output self.now) }
-        ensures refused { IfErr result (λ refusal. refusal ≡ OutOfMemory) }
+        ensures refused { OnlyMemory result }
     {
         let mut ids = Vec::new(alloc);
         for n in 0..self.len() {

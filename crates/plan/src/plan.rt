@@ -4,8 +4,8 @@
 //! nodes before it. So a plan has no cycle. The width of every node, and the key of every join and
 //! reduction, follows from the nodes before it, and need not be tested again. Each node is stored
 //! with its width; otherwise each question for a width would go back to the inputs.
-ghost use Rattle.std.specs.Prelude.{◌≡◌, ◌<◌, ◌≤◌, ◌↔◌, ◌++◌, [], ◌∷◌, None, length, IsTrue, IfOk, IfErr, OnErr};
-ghost use Rattle.update.specs.declared.refusal.Refusal.TheVariants.{OutOfMemory};
+ghost use Rattle.std.specs.Prelude.{◌≡◌, ◌<◌, ◌≤◌, ◌↔◌, ◌++◌, [], ◌∷◌, None, length, IsTrue, IfOk, OnErr};
+ghost use Rattle.update.specs.Refusals.{OnlyMemory};
 ghost use Rattle.plan.specs.Nodes.{node_at, key_of, key_width};
 ghost use Rattle.plan.specs.Widths.{width_of};
 ghost use Rattle.plan.specs.Rules.{IsPlan, is_width, is_arranged, node_refusal};
@@ -135,7 +135,7 @@ impl Plan {
         requires { node_refusal self.old node ≡ None }
         ensures added { IfOk result (λ id. (id ≡ length self.old)
             × (self.new ≡ self.old ++ node ∷ [])) }
-        ensures refused { IfErr result (λ refusal. refusal ≡ OutOfMemory) }
+        ensures refused { OnlyMemory result }
         ensures unchanged { OnErr result (self.new ≡ self.old) }
     {
         let id = NodeId::new(self.len());

@@ -1,12 +1,12 @@
 //! The client of a session, who knows the plan.
 //!
 //! Its calls ask for a node that is an input or a view. That is tested here, so a test need not be
-//! proved to name one: any other node is refused with `UnknownName`. All else is as the session's client
-//! answers it ([`session::Client`]): one tenure for each call, for which it waits.
+//! proved to name one: any other node is refused with `UnknownName`. All else is as the session's
+//! client answers it ([`session::Client`]): one tenure for each call, for which it waits.
 ghost use Rattle.std.specs.Prelude.{◌≡◌, ◌<◌, IsTrue, length};
 ghost use Rattle.std.specs.Bool.{OnTrue};
 ghost use Rattle.plan.specs.Nodes.{is_input, is_output, node_at};
-ghost use Rattle.shared_board.specs.Tenures.{terms_in};
+ghost use Rattle.shared_board.specs.Tenures.{opening_in};
 
 use antichain::Antichain;
 use lattice::Minimum;
@@ -24,7 +24,7 @@ pub struct Client<T: Minimum, P: BoardProtocol<T>> {
     client: Caller<T, P>,
     plan: Plan,
     waits: bool,
-    ghost knows: { (terms_in client.seen).dataflow.nodes ≡ plan },
+    ghost knows: { (opening_in client.seen).dataflow.nodes ≡ plan },
 }
 
 // Whether the node is an input of the plan.
@@ -44,7 +44,7 @@ fn is_view(plan: &Plan, id: NodeId) -> bool
 impl<T: Minimum, P: BoardProtocol<T>> Client<T, P> {
     /// The client of a session of this plan. It waits in each call.
     pub fn new(alloc: Global, client: Caller<T, P>, plan: Plan) -> Client<T, P>
-        requires knows { (terms_in client.seen).dataflow.nodes ≡ plan }
+        requires knows { (opening_in client.seen).dataflow.nodes ≡ plan }
     {
         Client {
             alloc,

@@ -1,10 +1,10 @@
 //! Players: the workers and the client of a session, and orders in which they move. For tests.
 //!
-//! No clause says that workers ever come to an end with their pieces, so crates of tests play: they open
-//! a session ([`opened`]), feed it by its [`Client`], and step its workers in some order
-//! ([`until_idle`], [`until_quiet`], [`drawn_steps`]). All of it is on one thread. What players do with
-//! each other is said by the contracts of `steps` and `session`. This crate has no tests: the crates
-//! above have them, and they are proved side by side.
+//! No clause says that workers ever come to an end with their pieces, so crates of tests play: they
+//! open a session ([`opened`]), feed it by its [`Client`], and step its workers in some order
+//! ([`until_idle`], [`until_quiet`], [`drawn_steps`]). All of it is on one thread. What players do
+//! with each other is said by the contracts of `steps` and `session`. This crate has no tests: the
+//! crates above have them, and they are proved side by side.
 #![tactic(auto)]
 
 mod client;

@@ -2,7 +2,7 @@
 //!
 //! The workers are in a list of the caller, their crew ([`session::open`] says why).
 ghost use Rattle.std.specs.Prelude.{◌≡◌, ◌≤◌};
-ghost use Rattle.shared_board.specs.Tenures.{terms_in};
+ghost use Rattle.shared_board.specs.Tenures.{opening_in};
 
 use crate::client::Client;
 use lattice::Minimum;
@@ -14,8 +14,8 @@ use std::sync::Wait;
 use steps::Worker;
 use update::Refusal;
 
-/// Opens a session for so many workers and one client. The workers are the crew then, in the order of
-/// their numbers.
+/// Opens a session for so many workers and one client. The workers are the crew then, in the order
+/// of their numbers.
 pub fn opened<T: Minimum, P: BoardProtocol<T>, R: Wait>(
     rt: &R,
     alloc: Global,

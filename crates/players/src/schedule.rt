@@ -1,5 +1,5 @@
-//! Orders of steps: one worker alone, workers and pieces that are drawn, and rounds of all workers. Between
-//! drawn steps a worker tidies, with little fuel.
+//! Orders of steps: one worker alone, workers and pieces that are drawn, and rounds of all workers.
+//! Between drawn steps a worker tidies, with little fuel.
 use crate::client::Client;
 use lattice::Minimum;
 use session::{Move, drive};
@@ -105,8 +105,8 @@ pub fn until_quiet<T: Minimum, P: BoardProtocol<T>>(
     Ok(false)
 }
 
-// A round: each worker makes a step with the last of its pieces, and tidies with fuel for one unit. The
-// number of the piece is one less than a multiple of each number of pieces up to 20.
+// A round: each worker makes a step with the last of its pieces, and tidies with fuel for one unit.
+// The number of the piece is one less than a multiple of each number of pieces up to 20.
 fn round(alloc: Global, workers: usize) -> Result<Vec<Move>, Refusal> {
     let mut moves = Vec::new(alloc);
     for worker in 0..workers {
@@ -119,8 +119,8 @@ fn round(alloc: Global, workers: usize) -> Result<Vec<Move>, Refusal> {
     Ok(moves)
 }
 
-/// Drives all workers round by round, until the client finds the board quiet. `false` if it is not in
-/// 10,000 rounds.
+/// Drives all workers round by round, until the client finds the board quiet. `false` if it is not
+/// in 10,000 rounds.
 pub fn driven_until_quiet<T: Minimum, P: BoardProtocol<T>, R: Wait>(
     rt: &R,
     alloc: Global,

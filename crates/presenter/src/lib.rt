@@ -7,8 +7,8 @@
 
 mod fault;
 mod lines;
+mod presentation;
 mod sheet;
-mod showing;
 
 pub use fault::{ShowFault, ShowProblem};
-pub use showing::show;
+pub use presentation::show;

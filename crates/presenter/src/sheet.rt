@@ -66,7 +66,8 @@ impl Sheet {
         push_field(&mut self.line, self.field.as_str())
     }
 
-    /// Adds the time's text in this kind as a field to the record. A time beyond the days is a number.
+    /// Adds the time's text in this kind as a field to the record. A time beyond the days is a
+    /// number.
     pub(crate) fn push_time(&mut self, kind: Kind, time: u64) -> Result<(), AllocError> {
         if !self.line.is_empty() {
             self.line.push_str(",")?;

@@ -1,5 +1,6 @@
--- A loop that goes over those nodes alone that somebody asked about. It changes what a loop over all
--- nodes would, since each other node is marked, and what is kept of a marked node stays as it is.
+-- A loop that goes over those nodes alone that somebody asked about. It changes what a loop over
+-- all nodes would, since each other node is marked, and what is kept of a marked node stays as it
+-- is.
 use Rattle.std.proofs.Common.{◌≡◌, ℕ, zero, suc, ◌+◌, ◌<◌, ◌≤◌, Bool, true, false, ◌||◌, eqb, List, [], ◌∷◌, length, take, refl, ap, sym, ◌∙◌, subst, arith, inl, ⊎_elim}
 use Rattle.std.specs.List.{list_any}
 use Rattle.std.specs.Prelude.{slice_index_or, slice_set}
@@ -11,6 +12,7 @@ use Rattle.progress.specs.declared.kept.Kept.{Kept}
 use Rattle.progress.specs.declared.place.Place.{Place}
 use Rattle.progress.specs.Kept.{AreAsked, HaveChanged, HaveChangedAt, IsForgotten, IsInserted, IsSpared, is_asked}
 use Rattle.progress.proofs.ChangeLemmas.{same_or_not, set_here, set_there, set_length}
+use Rattle.lattice.specs.Times.{Times}
 
 -- the first elements pass no test that none of the list passes
 none_of_first : {X : Type 0} (p : X → Bool) (xs : List X) (i : ℕ) → list_any p xs ≡ false → list_any p (take i xs) ≡ false
@@ -106,14 +108,14 @@ module _ {T : Type 0} (nodes : List Node) (place : Place) where
   pub spared_still : (n : ℕ) (k : Kept T) → IsSpared nodes place n k k
   spared_still n k = record { others = λ _. refl; mark = refl }
 
-  module _ (below : T → T → Bool) (t : T) where
-    pub inserted_still : (n : ℕ) (k : Kept T) → k.marked ≡ true → IsInserted below nodes place t n k k
+  module _ (times : Times T) (t : T) where
+    pub inserted_still : (n : ℕ) (k : Kept T) → k.marked ≡ true → IsInserted times nodes place t n k k
     inserted_still n k e = record {
       current = λ items is unmarked. absurd (false≢true (sym unmarked ∙ e));
       mark = refl;
     }
 
-    pub forgotten_still : (n : ℕ) (k : Kept T) → k.marked ≡ true → IsForgotten below nodes place t n k k
+    pub forgotten_still : (n : ℕ) (k : Kept T) → k.marked ≡ true → IsForgotten times nodes place t n k k
     forgotten_still n k e = record {
       gone = λ items is unmarked. absurd (false≢true (sym unmarked ∙ e));
       later = λ items u onward is unmarked. absurd (false≢true (sym unmarked ∙ e));

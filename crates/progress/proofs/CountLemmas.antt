@@ -3,10 +3,11 @@ use Rattle.std.proofs.Common.{◌≡◌, ℕ, zero, suc, ◌<◌, Bool, true, fa
 use Rattle.std.specs.List.{filter, list_any, remove}
 use Rattle.std.specs.Prelude.{slice_index_or}
 use Rattle.std.proofs.lemmas.List.Folds.{list_any-append}
+use Rattle.lattice.specs.Times.{Times}
 use Rattle.lattice.specs.Frontiers.{is_beyond}
 use Rattle.progress.specs.declared.place.Place.{Place}
 use Rattle.progress.specs.declared.counted.Counted.{Counted}
-use Rattle.progress.specs.Counting.{CountAlike}
+use Rattle.progress.specs.CountLists.{CountAlike}
 use Rattle.progress.specs.Tallies.{SameCounts, times_where}
 
 pub one_more : {A : Type 0} (test : A → Bool) (xs : List A) (x : A) → length (filter test (x ∷ xs)) ≡ cond (test x) (suc (length (filter test xs))) (length (filter test xs))
@@ -88,11 +89,11 @@ module _ {T : Type 0} where
       step false = refl
 
   -- frontiers depend on the counts alone
-  pub counts_tell : (below : T → T → Bool) (test : Place → Bool) (xs ys : List (Counted T)) → SameCounts xs ys → (t : T) → is_beyond below (times_where test xs) t ≡ is_beyond below (times_where test ys) t
-  counts_tell below test xs ys same t =
-      let passes = λ (i : Counted T). cond (test i.place) (below i.time t) false in
-      any_where test (λ f. below f t) xs
-      ∙ (some_counted passes xs ∙ (ap some (same passes) ∙ (sym (some_counted passes ys) ∙ sym (any_where test (λ f. below f t) ys))))
+  pub counts_tell : (times : Times T) (test : Place → Bool) (xs ys : List (Counted T)) → SameCounts xs ys → (t : T) → is_beyond times (times_where test xs) t ≡ is_beyond times (times_where test ys) t
+  counts_tell times test xs ys same t =
+      let passes = λ (i : Counted T). cond (test i.place) (times.below i.time t) false in
+      any_where test (λ f. times.below f t) xs
+      ∙ (some_counted passes xs ∙ (ap some (same passes) ∙ (sym (some_counted passes ys) ∙ sym (any_where test (λ f. times.below f t) ys))))
 
   -- a test that some item of a list passes is passed by some item of each list that counts alike
   pub any_alike : (test : Counted T → Bool) (xs ys : List (Counted T)) → SameCounts xs ys → list_any test xs ≡ list_any test ys
@@ -106,7 +107,8 @@ module _ {T : Type 0} where
       less true m n e = omega (arith, e)
       less false m n e = e
 
-  -- if an item is there and changes into another, then some item passes a test that the other passes
+  -- if an item is there and changes into another, then some item passes a test that the other
+  -- passes
   pub any_changed : (test : Counted T → Bool) (old new : List (Counted T)) (x y : Counted T) → SameCounts (x ∷ new) (y ∷ old) → test y ≡ true → (test x ≡ true → list_any test old ≡ true) → list_any test new ≡ true
   any_changed test old new x y same e h =
       some_counted test new
@@ -126,21 +128,21 @@ or_swap true false c = refl
 or_swap false b c = refl
 
 -- the step that inserts the time of one more item, if it counts
-pub insert_step : {T : Type 0} (below : T → T → Bool) (test : Place → Bool) (found more : List T) (x : Counted T) (rest : List (Counted T)) (t : T) (all : Bool)
-    → (is_beyond below found t || is_beyond below (times_where test (x ∷ rest)) t) ≡ all
-    → is_beyond below more t ≡ cond (test x.place) (below x.time t || is_beyond below found t) (is_beyond below found t)
-    → (is_beyond below more t || is_beyond below (times_where test rest) t) ≡ all
-insert_step below test found more x rest t all so_far step =
-    ap (λ b. b || is_beyond below (times_where test rest) t) step
-    ∙ (by (test x.place) (below x.time t) (is_beyond below found t) (is_beyond below (times_where test rest) t)
-    ∙ (ap (λ b. is_beyond below found t || b) (sym (one test below x rest t)) ∙ so_far))
+pub insert_step : {T : Type 0} (times : Times T) (test : Place → Bool) (found more : List T) (x : Counted T) (rest : List (Counted T)) (t : T) (all : Bool)
+    → (is_beyond times found t || is_beyond times (times_where test (x ∷ rest)) t) ≡ all
+    → is_beyond times more t ≡ cond (test x.place) (times.below x.time t || is_beyond times found t) (is_beyond times found t)
+    → (is_beyond times more t || is_beyond times (times_where test rest) t) ≡ all
+insert_step times test found more x rest t all so_far step =
+    ap (λ b. b || is_beyond times (times_where test rest) t) step
+    ∙ (by (test x.place) (times.below x.time t) (is_beyond times found t) (is_beyond times (times_where test rest) t)
+    ∙ (ap (λ b. is_beyond times found t || b) (sym (one times test x rest t)) ∙ so_far))
   where
     by : (c a b r : Bool) → (cond c (a || b) b || r) ≡ (b || cond c (a || r) r)
     by true a b r = or_swap a b r
     by false a b r = refl
 
-    one : {T : Type 0} (test : Place → Bool) (below : T → T → Bool) (x : Counted T) (rest : List (Counted T)) (t : T) → is_beyond below (times_where test (x ∷ rest)) t ≡ cond (test x.place) (below x.time t || is_beyond below (times_where test rest) t) (is_beyond below (times_where test rest) t)
-    one test below x rest t = elim (test x.place) as (λ c. list_any (λ f. below f t) (cond c (x.time ∷ []) [] ++ times_where test rest) ≡ cond c (below x.time t || is_beyond below (times_where test rest) t) (is_beyond below (times_where test rest) t)) [
+    one : {T : Type 0} (times : Times T) (test : Place → Bool) (x : Counted T) (rest : List (Counted T)) (t : T) → is_beyond times (times_where test (x ∷ rest)) t ≡ cond (test x.place) (times.below x.time t || is_beyond times (times_where test rest) t) (is_beyond times (times_where test rest) t)
+    one times test x rest t = elim (test x.place) as (λ c. list_any (λ f. times.below f t) (cond c (x.time ∷ []) [] ++ times_where test rest) ≡ cond c (times.below x.time t || is_beyond times (times_where test rest) t) (is_beyond times (times_where test rest) t)) [
       | true ↦ refl
       | false ↦ refl
     ]

@@ -4,8 +4,8 @@ use Rattle.std.specs.Prelude.{replicate, slice_index_or, slice_set}
 use Rattle.std.specs.List.{filter, remove}
 use Rattle.std.proofs.lemmas.List.{length-append, length-replicate}
 use Rattle.antichain.proofs.Lists.{Among}
-use Rattle.progress.specs.Counting.{CountAlike, listed}
-use Rattle.progress.proofs.CountingLemmas.{among_both, among_copies, carried}
+use Rattle.progress.specs.CountLists.{CountAlike, listed}
+use Rattle.progress.proofs.CountListLemmas.{among_both, among_copies, carried}
 
 module _ {A : Type 0} where
   -- a number that is one more counts its item once more
@@ -26,7 +26,8 @@ module _ {A : Type 0} where
   set_still (e ∷ es) zero a h = ap (λ (z : A × ℕ). z ∷ es) h
   set_still (e ∷ es) (suc i) a h = ap (λ zs. e ∷ zs) (set_still es i a h)
 
-  -- the entry of an item, with a number that is one more or one less, counts it once more or once less
+  -- the entry of an item, with a number that is one more or one less, counts it once more or once
+  -- less
   module _ (es : List (A × ℕ)) (i : ℕ) (k : A) (a : A × ℕ) (l : i < length es) (h : a ≡ slice_index_or es i a) (is : a.0 ≡ k) where
     pub one_up : CountAlike (listed (slice_set es i (a.0, a.1 + 1))) (k ∷ listed es)
     one_up test =

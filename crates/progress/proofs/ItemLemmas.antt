@@ -4,6 +4,7 @@ use Rattle.std.proofs.Common.{◌≡◌, Bool, true, ◌&&◌, eqb, List, [], �
 use Rattle.std.specs.Prelude.{Contains}
 use Rattle.std.specs.List.{list_any}
 use Rattle.std.proofs.lemmas.Bool.{and_parts, and_from, or_left, or_right, or_cases, eqb-true, eq-eqb, false≢true}
+use Rattle.lattice.specs.Times.{Times}
 use Rattle.lattice.specs.Order.{PartialOrderLaws}
 use Rattle.antichain.proofs.Lists.{Among, among_contains, contains_among}
 use Rattle.antichain.proofs.AntichainLemmas.{among_same}
@@ -35,18 +36,18 @@ at_one (Input node) (Port m k) h = absurd (false≢true h)
 at_one (Input node) (Held m) h = absurd (false≢true h)
 at_one (Input node) (Input m) h = ap Input (eqb-true m node h)
 
-module _ {T : Type 0} (below : T → T → Bool) (o : PartialOrderLaws below) where
+module _ {T : Type 0} (times : Times T) (o : PartialOrderLaws times) where
   -- an item is this one
   abbrev is_item : Counted T → Counted T → Bool
-  is_item x i = is_at x.place i.place && (below i.time x.time && below x.time i.time)
+  is_item x i = is_at x.place i.place && (times.below i.time x.time && times.below x.time i.time)
 
   is_itself : (x : Counted T) → is_item x x ≡ true
-  is_itself x = and_from (is_at x.place x.place) (below x.time x.time && below x.time x.time) (at_itself x.place) (and_from (below x.time x.time) (below x.time x.time) (o.reflexive x.time) (o.reflexive x.time))
+  is_itself x = and_from (is_at x.place x.place) (times.below x.time x.time && times.below x.time x.time) (at_itself x.place) (and_from (times.below x.time x.time) (times.below x.time x.time) (o.reflexive x.time) (o.reflexive x.time))
 
   is_one : (x i : Counted T) → is_item x i ≡ true → i ≡ x
   is_one x i h =
-      let a = and_parts (is_at x.place i.place) (below i.time x.time && below x.time i.time) h in
-      let b = and_parts (below i.time x.time) (below x.time i.time) a.1 in
+      let a = and_parts (is_at x.place i.place) (times.below i.time x.time && times.below x.time i.time) h in
+      let b = and_parts (times.below i.time x.time) (times.below x.time i.time) a.1 in
       let time = o.antisymmetric i.time x.time b.0 b.1 in
       let place = at_one x.place i.place a.0 in
       (λ k. let z : Counted T = record { place = place k; time = time k } in z)
@@ -70,7 +71,7 @@ module _ {T : Type 0} (below : T → T → Bool) (o : PartialOrderLaws below) wh
       contains_among x ys (found x ys (sym (any_alike (is_item x) xs ys same) ∙ finds x xs (among_contains x xs there)))
 
   -- an item that was downgraded is there at its later time
-  pub downgraded_there : (old new : List (Counted T)) (x : Counted T) (later : T) → IsDowngrade below old new x later → Contains new (record x { time = later })
+  pub downgraded_there : (old new : List (Counted T)) (x : Counted T) (later : T) → IsDowngrade times old new x later → Contains new (record x { time = later })
   downgraded_there old new x later d =
       let y : Counted T = record x { time = later } in
       contains_among y new (found y new (any_changed (is_item y) old new x y d.counts (is_itself y) (λ h.

@@ -12,7 +12,7 @@ pub mod AskedLemmas
 pub mod MarkLemmas
 pub mod ScopeLemmas
 pub mod CurrentLemmas
-pub mod CountingLemmas
+pub mod CountListLemmas
 pub mod EntryLemmas
 pub mod TieLemmas
-pub mod PlacingLemmas
+pub mod PlacedLemmas

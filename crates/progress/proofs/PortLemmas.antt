@@ -5,6 +5,7 @@ use Rattle.std.specs.Prelude.{slice_get}
 use Rattle.std.specs.List.{list_all}
 use Rattle.std.proofs.lemmas.Bool.{and_parts, and_from, or_left, or_right, or_cases, eqb-true, eq-eqb, ne_eqb, false≢true}
 use Rattle.std.proofs.lemmas.Option.{slice_get_within}
+use Rattle.lattice.specs.Times.{Times}
 use Rattle.lattice.specs.Order.{PartialOrderLaws}
 use Rattle.lattice.specs.Frontiers.{is_beyond}
 use Rattle.lattice.proofs.BoundLemmas.{same_test}
@@ -97,27 +98,27 @@ module _ (nodes : List Node) (plan : IsPlan nodes) (n : ℕ) where
         ))
         (above_cases nodes plan (node_of place) n parts.0)
 
-    module _ {T : Type 0} (below : T → T → Bool) (o : PartialOrderLaws below) (xs : List (Counted T)) (t : T) where
+    module _ {T : Type 0} (times : Times T) (o : PartialOrderLaws times) (xs : List (Counted T)) (t : T) where
       -- the frontier of this port has passed the time
       abbrev is_over : ℕ → Bool
-      is_over port = has_passed below (port_frontier below nodes xs n port) t
+      is_over port = has_passed times (port_frontier times nodes xs n port) t
 
-      into : has_passed below (input_frontier below nodes xs n) t ≡ true → list_all is_over (numbers_below (length (sources (node_at nodes n)))) ≡ true
+      into : has_passed times (input_frontier times nodes xs n) t ≡ true → list_all is_over (numbers_below (length (sources (node_at nodes n)))) ≡ true
       into passed = all_from is_over (numbers_below (length (sources (node_at nodes n)))) (λ port m.
           let s = there (sources (node_at nodes n)) port (number_below (length (sources (node_at nodes n))) port m) in
-          not_from (is_beyond below (port_frontier below nodes xs n port) t) (λ h.
-          let x = counted_at below o (is_port_upstream nodes n port) xs t h in
-          not_true (is_beyond below (input_frontier below nodes xs n) t) passed
-          (counted_beyond below o (is_input_upstream nodes n) xs x.0 t x.1 (port_counts port s.0 s.1 x.0.place x.2) x.3)))
+          not_from (is_beyond times (port_frontier times nodes xs n port) t) (λ h.
+          let x = counted_at times o (is_port_upstream nodes n port) xs t h in
+          not_true (is_beyond times (input_frontier times nodes xs n) t) passed
+          (counted_beyond times o (is_input_upstream nodes n) xs x.0 t x.1 (port_counts port s.0 s.1 x.0.place x.2) x.3)))
 
-      back : AreInPlace nodes xs → list_all is_over (numbers_below (length (sources (node_at nodes n)))) ≡ true → has_passed below (input_frontier below nodes xs n) t ≡ true
-      back placed passed = not_from (is_beyond below (input_frontier below nodes xs n) t) (λ h.
-          let x = counted_at below o (is_input_upstream nodes n) xs t h in
+      back : AreInPlace nodes xs → list_all is_over (numbers_below (length (sources (node_at nodes n)))) ≡ true → has_passed times (input_frontier times nodes xs n) t ≡ true
+      back placed passed = not_from (is_beyond times (input_frontier times nodes xs n) t) (λ h.
+          let x = counted_at times o (is_input_upstream nodes n) xs t h in
           let r = counts_at_port x.0.place (placed x.0 x.1) x.2 in
-          not_true (is_beyond below (port_frontier below nodes xs n r.0) t)
+          not_true (is_beyond times (port_frontier times nodes xs n r.0) t)
           (all_at is_over (numbers_below (length (sources (node_at nodes n)))) r.0 passed (numbered (length (sources (node_at nodes n))) r.0 r.1))
-          (counted_beyond below o (is_port_upstream nodes n r.0) xs x.0 t x.1 r.2 x.3))
+          (counted_beyond times o (is_port_upstream nodes n r.0) xs x.0 t x.1 r.2 x.3))
 
       -- the input frontier has passed the time exactly if the frontiers of all ports have
-      pub ports_pass : AreInPlace nodes xs → has_passed below (input_frontier below nodes xs n) t ≡ list_all is_over (numbers_below (length (sources (node_at nodes n))))
-      ports_pass placed = same_test (has_passed below (input_frontier below nodes xs n) t) (list_all is_over (numbers_below (length (sources (node_at nodes n))))) into (back placed)
+      pub ports_pass : AreInPlace nodes xs → has_passed times (input_frontier times nodes xs n) t ≡ list_all is_over (numbers_below (length (sources (node_at nodes n))))
+      ports_pass placed = same_test (has_passed times (input_frontier times nodes xs n) t) (list_all is_over (numbers_below (length (sources (node_at nodes n))))) into (back placed)

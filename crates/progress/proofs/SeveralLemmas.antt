@@ -4,6 +4,7 @@ use Rattle.std.specs.Prelude.{Contains}
 use Rattle.std.specs.List.{filter}
 use Rattle.std.proofs.lemmas.List.{length-append, map-append, drop_more, take-append-drop}
 use Rattle.std.proofs.lemmas.List.Elements.{filter-append}
+use Rattle.lattice.specs.Times.{Times}
 use Rattle.lattice.specs.Order.{PartialOrderLaws}
 use Rattle.antichain.proofs.Lists.{contains_among}
 use Rattle.progress.specs.declared.place.Place.{Place}
@@ -30,10 +31,10 @@ module _ {T : Type 0} where
       omega (arith, a, b, c, d)
 
   -- the next item to be removed is there
-  pub next_is_there : (below : T → T → Bool) → PartialOrderLaws below → (place : Place) (ts : List T) (i : ℕ) (t : T) (old mid : List (Counted T)) → i < length ts → t ≡ get_or ts i t
+  pub next_is_there : (times : Times T) → PartialOrderLaws times → (place : Place) (ts : List T) (i : ℕ) (t : T) (old mid : List (Counted T)) → i < length ts → t ≡ get_or ts i t
       → AreCounted old (items_at place ts) → SameCounts (items_at place (take i ts) ++ mid) old → Contains mid (record { place = place; time = t })
-  next_is_there below o place ts i t old mid l e counted so_far =
-      same_items below o (x ∷ after) mid x (λ test. sym (same test)) (contains_among x (x ∷ after) (inl refl))
+  next_is_there times o place ts i t old mid l e counted so_far =
+      same_items times o (x ∷ after) mid x (λ test. sym (same test)) (contains_among x (x ∷ after) (inl refl))
     where
       x : Counted T
       x = record { place = place; time = t }

@@ -1,6 +1,7 @@
 -- The frontiers that a tally keeps of each node, and what the calls of a tally make of them.
 use Rattle.std.specs.Prelude.{◌≡◌, ◌<◌, ◌≤◌, ◌⊎◌, ℕ, Bool, true, false, eqb, IsTrue, List, ◌∷◌, map, length, slice_index_or, take}
 use Rattle.std.specs.List.{list_any}
+use Rattle.lattice.specs.Times.{Times}
 use Rattle.lattice.specs.Frontiers.{is_beyond}
 use Rattle.plan.specs.Ancestors.{reaches}
 use Rattle.plan.specs.Rules.{IsPlan}
@@ -50,11 +51,11 @@ module _ {T : Type 0} (nodes : List Node) (place : Place) where
     pub others : reaches nodes (node_of place) n ≡ false → new ≡ old
     pub below : reaches nodes (node_of place) n ≡ true → new.marked ≡ true
 
-module _ {T : Type 0} (below : T → T → Bool) (nodes : List Node) where
+module _ {T : Type 0} (times : Times T) (nodes : List Node) where
   -- the same times are beyond the elements and beyond all times that count for the frontier
   abbrev pub IsFront : List (Counted T) → Scope → List T → Type 0
   IsFront items scope elements =
-      (t : T) → is_beyond below elements t ≡ is_beyond below (times_where (is_in_scope nodes scope) items) t
+      (t : T) → is_beyond times elements t ≡ is_beyond times (times_where (is_in_scope nodes scope) items) t
 
   -- so it is for each frontier that is kept of node n
   pub record AreFronts (items : List (Counted T)) (n : ℕ) (k : Kept T) : Type 0 where
@@ -79,7 +80,7 @@ module _ {T : Type 0} (below : T → T → Bool) (nodes : List Node) where
   -- an item less is counted, or a later one in its place
   pub record IsForgotten (place : Place) (t : T) (n : ℕ) (old new : Kept T) : Type 0 where
     pub gone : (items : List (Counted T)) → IsCurrent (record { place = place; time = t } ∷ items) n old → IsCurrent items n new
-    pub later : (items : List (Counted T)) (u : T) → IsTrue (below t u) → IsCurrent (record { place = place; time = t } ∷ items) n old → IsCurrent (record { place = place; time = u } ∷ items) n new
+    pub later : (items : List (Counted T)) (u : T) → IsTrue (times.below t u) → IsCurrent (record { place = place; time = t } ∷ items) n old → IsCurrent (record { place = place; time = u } ∷ items) n new
     pub stays : old.marked ≡ true → new.marked ≡ true
     pub reached : new.marked ≡ true → (old.marked ≡ true) ⊎ (reaches nodes (node_of place) n ≡ true)
 

@@ -4,5 +4,5 @@ pub mod Several
 pub mod Scopes
 pub mod Graphs
 pub mod Kept
-pub mod Counting
-pub mod Placing
+pub mod CountLists
+pub mod PlacedCounts

@@ -11,6 +11,7 @@ use Rattle.plan.specs.declared.node.Node.{Node}
 use Rattle.progress.specs.declared.place.Place.{Place}
 use Rattle.progress.specs.declared.place.Place.TheVariants.{Port, Held, Input}
 use Rattle.progress.specs.declared.counted.Counted.{Counted}
+use Rattle.lattice.specs.Times.{Times}
 
 -- what a contract sees of a tally: the nodes of its plan, what it counts, by node whether what is
 -- kept of it is out of date, and how often what is kept of a node was found anew
@@ -95,27 +96,27 @@ pub record AreMarksBelow (nodes : List Node) (place : Place) (old new : List Boo
 abbrev pub times_where : {T : Type 0} → (Place → Bool) → List (Counted T) → List T
 times_where test items = flat_map (λ i. if test i.place then i.time ∷ [] else []) items
 
-module _ {T : Type 0} (below : T → T → Bool) where
+module _ {T : Type 0} (times : Times T) where
   -- the frontier of a node: the least of what is outstanding at it or above it
   abbrev pub frontier : List Node → List (Counted T) → ℕ → List T
-  frontier nodes items n = least below (times_where (is_upstream nodes n) items)
+  frontier nodes items n = least times (times_where (is_upstream nodes n) items)
 
   -- the input frontier of a node: without what is held at the node itself
   abbrev pub input_frontier : List Node → List (Counted T) → ℕ → List T
-  input_frontier nodes items n = least below (times_where (is_input_upstream nodes n) items)
+  input_frontier nodes items n = least times (times_where (is_input_upstream nodes n) items)
 
   -- the input frontier of one port: what is in flight to it, and what is outstanding at its source
   -- or above
   abbrev pub port_frontier : List Node → List (Counted T) → ℕ → ℕ → List T
-  port_frontier nodes items n port = least below (times_where (is_port_upstream nodes n port) items)
+  port_frontier nodes items n port = least times (times_where (is_port_upstream nodes n port) items)
 
   -- the later frontier has passed what the earlier one has
   abbrev pub StaysPassed : List T → List T → Type 0
   StaysPassed earlier later =
-      (t : T) → IsTrue (has_passed below earlier t) → IsTrue (has_passed below later t)
+      (t : T) → IsTrue (has_passed times earlier t) → IsTrue (has_passed times later t)
 
   -- an item of the old list is counted in the new one at this time, which is at or after its own
   pub record IsDowngrade (old new : List (Counted T)) (x : Counted T) (later : T) : Type 0 where
     pub counted : Contains old x
-    pub onward : IsTrue (below x.time later)
+    pub onward : IsTrue (times.below x.time later)
     pub counts : SameCounts (x ∷ new) (record x { time = later } ∷ old)

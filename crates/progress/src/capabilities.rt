@@ -1,13 +1,13 @@
 //! The capabilities of one owner at one place, as one value that must be spent.
 //!
-//! A worker may hold many times at a node. A list of [`Capability`](crate::Capability) would keep the
-//! place with each of them. So [`Capabilities`] keep the times alone, and their owner says at
-//! each call where they are held: a board has one such value for each node and worker. All else is as
-//! with a single capability. The tally counts each time as often as it is held here, from the call
-//! that holds it to the call that gives it back, and no call lets one go otherwise. They are not
-//! `Drop`, so a body that forgets them does not compile.
+//! A worker may hold many times at a node. A list of [`Capability`](crate::Capability) would keep
+//! the place with each of them. So [`Capabilities`] keep the times alone, and their owner says at
+//! each call where they are held: a board has one such value for each node and worker. All else is
+//! as with a single capability. The tally counts each time as often as it is held here, from the
+//! call that holds it to the call that gives it back, and no call lets one go otherwise. They are
+//! not `Drop`, so a body that forgets them does not compile.
 ghost use Rattle.std.specs.Prelude.{◌≡◌, ◌++◌, [], IfErr, IfOk, OnErr, OnOk};
-ghost use Rattle.update.specs.declared.refusal.Refusal.TheVariants.{OutOfMemory};
+ghost use Rattle.update.specs.Refusals.{OnlyMemory};
 ghost use Rattle.progress.specs.Tallies.{AreMarksBelow, SameCounts};
 ghost use Rattle.progress.specs.Several.{items_at, AreCounted};
 
@@ -18,13 +18,13 @@ use std::alloc::Global;
 use std::marker::Model;
 use update::{Refusal, Times};
 
-// A list with room for at most this many times keeps its memory when nothing is held any more, since
-// the next stamp goes there. A longer one is freed.
+// A list with room for at most this many times keeps its memory when nothing is held any more,
+// since the next stamp goes there. A longer one is freed.
 const MAX_KEPT: usize = 64;
 
-/// What an owner holds at one place. Its owner knows the place, and the tally that counts it. It is not
-/// `Drop`, so it must be spent: `give_back` ends it, and `end` if nothing is held. A contract sees the
-/// times.
+/// What an owner holds at one place. Its owner knows the place, and the tally that counts it. It is
+/// not `Drop`, so it must be spent: `give_back` ends it, and `end` if nothing is held. A contract
+/// sees the times.
 pub struct Capabilities<T> {
     times: Vec<T>,
 }
@@ -47,8 +47,8 @@ impl<T: Lattice> Capabilities<T> {
         }
     }
 
-    /// Holds these times at a place, each as often as it occurs among them. Refused only if memory runs
-    /// out. Then the times come back, and no item is counted more or less often than before.
+    /// Holds these times at a place, each as often as it occurs among them. Refused only if memory
+    /// runs out. Then the times come back, and no item is counted more or less often than before.
     ///
     /// Cost: that of [`Tally::add_all`]. The list itself moves.
     pub fn hold(
@@ -82,8 +82,8 @@ impl<T: Lattice> Capabilities<T> {
         self.times.as_slice()
     }
 
-    /// Holds these times too, behind the others. Refused only with `OutOfMemory`. Then nothing more is
-    /// held, and no item is counted more or less often than before.
+    /// Holds these times too, behind the others. Refused only with `OutOfMemory`. Then nothing more
+    /// is held, and no item is counted more or less often than before.
     ///
     /// Cost: that of [`Tally::add_all`], and of the list's growth now and then.
     pub fn hold_more(
@@ -96,7 +96,7 @@ impl<T: Lattice> Capabilities<T> {
         ensures counted { OnOk result
             (SameCounts tally.new.items (items_at place.now times.now ++ tally.old.items)) }
         ensures nodes { tally.new.nodes ≡ tally.old.nodes }
-        ensures refused { IfErr result (λ refusal. refusal ≡ OutOfMemory) }
+        ensures refused { OnlyMemory result }
         ensures kept { OnErr result (self.new ≡ self.old) }
         ensures unchanged { OnErr result (SameCounts tally.new.items tally.old.items) }
         ensures marked { OnOk result (tally.new.marked ≡ tally.old.marked) }
@@ -135,8 +135,8 @@ impl<T: Lattice> Capabilities<T> {
         }
     }
 
-    /// Gives all back, and answers the times that were held. All of them must be counted at the place.
-    /// Takes no memory.
+    /// Gives all back, and answers the times that were held. All of them must be counted at the
+    /// place. Takes no memory.
     ///
     /// Cost: that of [`Tally::remove_all`].
     pub fn give_back(self, tally: &mut Tally<T>, place: &Place) -> Times<T>

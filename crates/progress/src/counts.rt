@@ -1,14 +1,14 @@
 //! How often each item is counted, place by place. Each node of a plan has four places: its two
-//! ports, what is held at it, and its frontier if it is an input. They stand in a list in this order,
-//! so the counts of a place are found in one step. Then a frontier is found from the places that
-//! count for it, and the times at the others are not looked at.
+//! ports, what is held at it, and its frontier if it is an input. They stand in a list in this
+//! order, so the counts of a place are found in one step. Then a frontier is found from the places
+//! that count for it, and the times at the others are not looked at.
 //!
-//! A place that the plan does not have is counted too, though for no frontier. Such items stand in a
-//! list of their own. A board counts none.
-ghost use Rattle.std.specs.Prelude.{◌≡◌, ℕ, ◌+◌, ◌*◌, ◌<◌, ◌≤◌, ◌||◌, [], ◌∷◌, Some, None, IfErr, IfOk, IfSome, OnErr, OnOk, Contains, length, slice_index_or};
+//! A place that the plan does not have is counted too, though for no frontier. Such items stand in
+//! a list of their own. A board counts none.
+ghost use Rattle.std.specs.Prelude.{◌≡◌, ℕ, ◌+◌, ◌*◌, ◌<◌, ◌≤◌, ◌||◌, [], ◌∷◌, Some, None, IfOk, IfSome, OnErr, OnOk, Contains, length, slice_index_or};
+ghost use Rattle.update.specs.Refusals.{OnlyMemory};
 ghost use Rattle.lattice.specs.Frontiers.{is_beyond};
-ghost use Rattle.update.specs.declared.refusal.Refusal.TheVariants.{OutOfMemory};
-ghost use Rattle.progress.specs.Placing.{IsPlaced, items_in, slot};
+ghost use Rattle.progress.specs.PlacedCounts.{IsPlaced, items_in, slot};
 ghost use Rattle.progress.specs.Scopes.{scope_node, is_in_scope};
 ghost use Rattle.progress.specs.Tallies.{SameCounts, times_where};
 
@@ -45,7 +45,7 @@ pub(crate) struct Counts<T: Lattice> {
 impl<T: Lattice> Model for Counts<T> {
     ghost use Rattle.std.specs.Prelude.{◌++◌, List, length};
     ghost use Rattle.progress.specs.declared.counted.Counted.{Counted};
-    ghost use Rattle.progress.specs.Placing.{AreOthers, IsPlaced, items_in};
+    ghost use Rattle.progress.specs.PlacedCounts.{AreOthers, IsPlaced, items_in};
 
     ghost Value = { List (Counted T) };
 
@@ -61,7 +61,7 @@ impl<T: Lattice> Counts<T> {
     /// Cost: linear in the nodes.
     pub(crate) fn new(alloc: Global, nodes: usize) -> Result<Counts<T>, Refusal>
         ensures none { IfOk result (λ counts. counts ≡ []) }
-        ensures refused { IfErr result (λ refusal. refusal ≡ OutOfMemory) }
+        ensures refused { OnlyMemory result }
     {
         let mut places = Vec::new(alloc);
         for number in 0..nodes {
@@ -73,13 +73,14 @@ impl<T: Lattice> Counts<T> {
         })
     }
 
-    /// Counts a time at a place once more. Refused only with `OutOfMemory`, and then nothing changes.
+    /// Counts a time at a place once more. Refused only with `OutOfMemory`, and then nothing
+    /// changes.
     ///
     /// Cost: logarithmic in the different times that are counted at the place.
     pub(crate) fn add(&mut self, place: &Place, t: T) -> Result<(), Refusal>
         ensures counted { OnOk result
             (SameCounts self.new (record { place = place.now; time = t } ∷ self.old)) }
-        ensures refused { IfErr result (λ refusal. refusal ≡ OutOfMemory) }
+        ensures refused { OnlyMemory result }
         ensures unchanged { OnErr result (self.new ≡ self.old) }
     {
         if let Some(number) = number_of(place, self.places.len()) {
@@ -94,8 +95,8 @@ impl<T: Lattice> Counts<T> {
     /// Counts a time at a place once less. Takes no memory.
     ///
     /// Cost: logarithmic in the different times that are counted at the place, and linear in those
-    /// that were moved there while memory was refused. If the plan does not have the place, linear in
-    /// what is counted at such places.
+    /// that were moved there while memory was refused. If the plan does not have the place, linear
+    /// in what is counted at such places.
     pub(crate) fn remove(&mut self, place: &Place, t: &T)
         requires { Contains self.old (record { place = place.now; time = t.now }) }
         ensures { SameCounts (record { place = place.now; time = t.now } ∷ self.new) self.old }
@@ -128,8 +129,8 @@ impl<T: Lattice> Counts<T> {
 
     /// Inserts the times that count for a frontier. Refused only with `OutOfMemory`.
     ///
-    /// Cost: linear in the places, and in the different times that are counted at those that count for
-    /// the frontier, times the elements of the frontier.
+    /// Cost: linear in the places, and in the different times that are counted at those that count
+    /// for the frontier, times the elements of the frontier.
     pub(crate) fn insert_times(
         &self,
         found: &mut Vec<T>,
@@ -137,10 +138,10 @@ impl<T: Lattice> Counts<T> {
         scope: &Scope,
     ) -> Result<(), Refusal>
         requires { scope_node scope.now < length graph.now }
-        ensures beyond { OnOk result ((t : T) → is_beyond T.below found.new.items t
-            ≡ (is_beyond T.below found.old.items t
-            || is_beyond T.below (times_where (is_in_scope graph.now scope.now) self.now) t)) }
-        ensures refused { IfErr result (λ refusal. refusal ≡ OutOfMemory) }
+        ensures beyond { OnOk result ((t : T) → is_beyond T.times found.new.items t
+            ≡ (is_beyond T.times found.old.items t
+            || is_beyond T.times (times_where (is_in_scope graph.now scope.now) self.now) t)) }
+        ensures refused { OnlyMemory result }
     {
         insert_placed(found, graph, scope, self.places.as_slice())?;
         insert_times(found, graph, scope, self.others.as_slice())?;
@@ -149,12 +150,12 @@ impl<T: Lattice> Counts<T> {
 
     /// Whether some time that counts for a frontier is at or before this one. Takes no memory.
     ///
-    /// Cost: that of [`Counts::insert_times`] at most, for a frontier without elements. The first such
-    /// time settles it.
+    /// Cost: that of [`Counts::insert_times`] at most, for a frontier without elements. The first
+    /// such time settles it.
     pub(crate) fn is_any_in(&self, graph: &Graph, scope: &Scope, t: &T) -> bool
         requires { scope_node scope.now < length graph.now }
         ensures { result
-            ≡ is_beyond T.below (times_where (is_in_scope graph.now scope.now) self.now) t.now }
+            ≡ is_beyond T.times (times_where (is_in_scope graph.now scope.now) self.now) t.now }
     {
         is_any_placed(graph, scope, self.places.as_slice(), t)
             || is_any_in(graph, scope, self.others.as_slice(), t)
@@ -172,7 +173,7 @@ fn push_places<T: Lattice>(
     ensures placed { OnOk result (IsPlaced places.new.items) }
     ensures next { OnOk result (length places.new.items ≡ (node + 1) * 4) }
     ensures items { OnOk result (items_in places.new.items ≡ items_in places.old.items) }
-    ensures refused { IfErr result (λ refusal. refusal ≡ OutOfMemory) }
+    ensures refused { OnlyMemory result }
 {
     push_place(alloc, places, Place::Port { node, port: 0 })?;
     push_place(alloc, places, Place::Port { node, port: 1 })?;
@@ -192,7 +193,7 @@ fn push_place<T: Lattice>(
     ensures placed { OnOk result (IsPlaced places.new.items) }
     ensures next { OnOk result (length places.new.items ≡ length places.old.items + 1) }
     ensures items { OnOk result (items_in places.new.items ≡ items_in places.old.items) }
-    ensures refused { IfErr result (λ refusal. refusal ≡ OutOfMemory) }
+    ensures refused { OnlyMemory result }
 {
     let times = TimeCounts::new(alloc);
     places.push(PlaceCounts { place, times })?;
@@ -223,10 +224,10 @@ fn insert_placed<T: Lattice>(
     places: &[PlaceCounts<T>],
 ) -> Result<(), Refusal>
     requires { scope_node scope.now < length graph.now }
-    ensures beyond { OnOk result ((t : T) → is_beyond T.below found.new.items t
-        ≡ (is_beyond T.below found.old.items t || is_beyond T.below
+    ensures beyond { OnOk result ((t : T) → is_beyond T.times found.new.items t
+        ≡ (is_beyond T.times found.old.items t || is_beyond T.times
         (times_where (is_in_scope graph.now scope.now) (items_in places.now)) t)) }
-    ensures refused { IfErr result (λ refusal. refusal ≡ OutOfMemory) }
+    ensures refused { OnlyMemory result }
 {
     for counts in places {
         if scope.counts(graph, &counts.place) {
@@ -239,7 +240,7 @@ fn insert_placed<T: Lattice>(
 // Whether some time at a place that counts for a frontier is at or before this one.
 fn is_any_placed<T: Lattice>(graph: &Graph, scope: &Scope, places: &[PlaceCounts<T>], t: &T) -> bool
     requires { scope_node scope.now < length graph.now }
-    ensures { result ≡ is_beyond T.below
+    ensures { result ≡ is_beyond T.times
         (times_where (is_in_scope graph.now scope.now) (items_in places.now)) t.now }
 {
     for counts in places {

@@ -1,11 +1,11 @@
 //! A kept frontier, as the list of its elements. A time more that counts is inserted. A time less
 //! matters only if it is an element: otherwise some element before it keeps it back as before, and
 //! the frontier stays what it is.
-ghost use Rattle.std.specs.Prelude.{◌≡◌, ◌<◌, ◌≤◌, ◌∷◌, ◌||◌, not, false, IsTrue, IfErr, OnErr, OnOk, List, Contains, length};
+ghost use Rattle.std.specs.Prelude.{◌≡◌, ◌<◌, ◌≤◌, ◌∷◌, ◌||◌, not, false, IsTrue, OnErr, OnOk, List, Contains, length};
 ghost use Rattle.std.specs.List.{filter};
 ghost use Rattle.std.specs.Vec.{vec_len, vec_capacity};
+ghost use Rattle.update.specs.Refusals.{OnlyMemory};
 ghost use Rattle.lattice.specs.Frontiers.{is_beyond};
-ghost use Rattle.update.specs.declared.refusal.Refusal.TheVariants.{OutOfMemory};
 ghost use Rattle.plan.specs.declared.node.Node.{Node};
 ghost use Rattle.progress.specs.declared.counted.Counted.{Counted};
 ghost use Rattle.progress.specs.declared.place.Place.{Place};
@@ -28,8 +28,8 @@ pub(crate) fn find<T: Lattice>(
     items: &Counts<T>,
 ) -> Result<(), Refusal>
     requires { scope_node scope.now < length graph.now }
-    ensures front { OnOk result (IsFront T.below graph.now items.now scope.now elements.new.items) }
-    ensures refused { IfErr result (λ refusal. refusal ≡ OutOfMemory) }
+    ensures front { OnOk result (IsFront T.times graph.now items.now scope.now elements.new.items) }
+    ensures refused { OnlyMemory result }
 {
     elements.clear();
     items.insert_times(elements, graph, scope)?;
@@ -45,10 +45,10 @@ pub(crate) fn insert_if<T: Lattice>(
 ) -> Result<(), Refusal>
     ensures front { OnOk result ((nodes : List Node) (scope : Scope) (place : Place)
         (items : List (Counted T)) → is_in_scope nodes scope place ≡ counts
-        → IsFront T.below nodes items scope elements.old.items
-        → IsFront T.below nodes (record { place = place; time = t } ∷ items) scope
+        → IsFront T.times nodes items scope elements.old.items
+        → IsFront T.times nodes (record { place = place; time = t } ∷ items) scope
         elements.new.items) }
-    ensures refused { IfErr result (λ refusal. refusal ≡ OutOfMemory) }
+    ensures refused { OnlyMemory result }
 {
     if counts {
         insert_time(elements, t)?;
@@ -63,15 +63,15 @@ pub(crate) fn has_element_if<T: Lattice>(elements: &Vec<T>, counts: bool, t: &T)
     ensures element { IsTrue result → Contains elements.now.items t.now }
     ensures gone { result ≡ false → (nodes : List Node) (scope : Scope) (place : Place)
         (items : List (Counted T)) → is_in_scope nodes scope place ≡ counts
-        → IsFront T.below nodes (record { place = place; time = t.now } ∷ items) scope
+        → IsFront T.times nodes (record { place = place; time = t.now } ∷ items) scope
         elements.now.items
-        → IsFront T.below nodes items scope elements.now.items }
+        → IsFront T.times nodes items scope elements.now.items }
     ensures later { result ≡ false → (nodes : List Node) (scope : Scope) (place : Place)
         (items : List (Counted T)) (u : T) → is_in_scope nodes scope place ≡ counts
-        → IsTrue (T.below t.now u)
-        → IsFront T.below nodes (record { place = place; time = t.now } ∷ items) scope
+        → IsTrue (T.times.below t.now u)
+        → IsFront T.times nodes (record { place = place; time = t.now } ∷ items) scope
         elements.now.items
-        → IsFront T.below nodes (record { place = place; time = u } ∷ items) scope
+        → IsFront T.times nodes (record { place = place; time = u } ∷ items) scope
         elements.now.items }
 {
     counts && has_element(elements.as_slice(), t)
@@ -80,9 +80,9 @@ pub(crate) fn has_element_if<T: Lattice>(elements: &Vec<T>, counts: bool, t: &T)
 // Inserts a time, unless it is beyond the elements already. Refused only with `OutOfMemory`, and
 // then nothing changes.
 pub(crate) fn insert_time<T: Lattice>(elements: &mut Vec<T>, t: T) -> Result<(), Refusal>
-    ensures beyond { OnOk result ((s : T) → is_beyond T.below elements.new.items s
-        ≡ (T.below t s || is_beyond T.below elements.old.items s)) }
-    ensures refused { IfErr result (λ refusal. refusal ≡ OutOfMemory) }
+    ensures beyond { OnOk result ((s : T) → is_beyond T.times elements.new.items s
+        ≡ (T.times.below t s || is_beyond T.times elements.old.items s)) }
+    ensures refused { OnlyMemory result }
     ensures unchanged { OnErr result (elements.new.items ≡ elements.old.items) }
 {
     if is_beyond(elements, &t) {
@@ -96,7 +96,7 @@ pub(crate) fn insert_time<T: Lattice>(elements: &mut Vec<T>, t: T) -> Result<(),
 
 // Removes the elements that a new time is at or before.
 fn remove_above<T: Lattice>(elements: &mut Vec<T>, t: T)
-    ensures left { elements.new.items ≡ filter (λ f. not (T.below t f)) elements.old.items }
+    ensures left { elements.new.items ≡ filter (λ f. not (T.times.below t f)) elements.old.items }
     ensures room { vec_capacity elements.new ≡ vec_capacity elements.old }
     ensures len { vec_len elements.new ≤ vec_len elements.old }
 {

@@ -1,13 +1,14 @@
-//! How often each of some times is counted, by time. At most places something is outstanding at a few
-//! times only, and a way down a tree costs more than a look at all of these. So the first times have
-//! their entries in a short list, and a tree has those for which the list has no room.
+//! How often each of some times is counted, by time. At most places something is outstanding at a
+//! few times only, and a way down a tree costs more than a look at all of these. So the first times
+//! have their entries in a short list, and a tree has those for which the list has no room.
 //!
-//! A time may have an entry in each: it came to the tree while the list was full. Then it is counted
-//! as often as both say. Nobody asks how often, so nothing has to be moved from one to the other.
+//! A time may have an entry in each: it came to the tree while the list was full. Then it is
+//! counted as often as both say. Nobody asks how often, so nothing has to be moved from one to the
+//! other.
 ghost use Rattle.std.specs.Prelude.{◌≡◌, ℕ, ◌<◌, ◌||◌, [], ◌∷◌, ◌++◌, true, false, IsTrue, IfErr, IfSome, OnErr, OnOk, None, Contains, length, slice_index_or};
+ghost use Rattle.update.specs.Refusals.{OnlyMemory};
 ghost use Rattle.lattice.specs.Frontiers.{is_beyond};
-ghost use Rattle.update.specs.declared.refusal.Refusal.TheVariants.{OutOfMemory};
-ghost use Rattle.progress.specs.Counting.{CountAlike, listed};
+ghost use Rattle.progress.specs.CountLists.{CountAlike, listed};
 
 use crate::scan::{insert_entries, insert_listed, is_any_entry, is_any_listed};
 use lattice::Lattice;
@@ -29,7 +30,7 @@ pub(crate) struct Entries<T: Lattice> {
 
 impl<T: Lattice> Model for Entries<T> {
     ghost use Rattle.std.specs.Prelude.{◌++◌, List};
-    ghost use Rattle.progress.specs.Counting.{listed};
+    ghost use Rattle.progress.specs.CountLists.{listed};
 
     ghost Value = { List T };
 
@@ -47,8 +48,8 @@ impl<T: Lattice> Entries<T> {
         }
     }
 
-    /// Counts a time once more. Memory is refused only to a time that has no entry yet; then the time
-    /// is handed back.
+    /// Counts a time once more. Memory is refused only to a time that has no entry yet; then the
+    /// time is handed back.
     ///
     /// Cost: logarithmic in the different times that are counted.
     pub(crate) fn put(&mut self, t: T) -> Result<(), T>
@@ -81,9 +82,9 @@ impl<T: Lattice> Entries<T> {
     ///
     /// Cost: linear in the different times that are counted, times the elements of the frontier.
     pub(crate) fn insert_into(&self, found: &mut Vec<T>) -> Result<(), Refusal>
-        ensures beyond { OnOk result ((s : T) → is_beyond T.below found.new.items s
-            ≡ (is_beyond T.below found.old.items s || is_beyond T.below self.now s)) }
-        ensures refused { IfErr result (λ refusal. refusal ≡ OutOfMemory) }
+        ensures beyond { OnOk result ((s : T) → is_beyond T.times found.new.items s
+            ≡ (is_beyond T.times found.old.items s || is_beyond T.times self.now s)) }
+        ensures refused { OnlyMemory result }
     {
         insert_entries(found, self.few.as_slice())?;
         insert_listed(found, &self.others)?;
@@ -94,7 +95,7 @@ impl<T: Lattice> Entries<T> {
     ///
     /// Cost: linear in the different times that are counted. The first such time settles it.
     pub(crate) fn is_any_before(&self, t: &T) -> bool
-        ensures { result ≡ is_beyond T.below self.now t.now }
+        ensures { result ≡ is_beyond T.times self.now t.now }
     {
         is_any_entry(self.few.as_slice(), t) || is_any_listed(&self.others, t)
     }

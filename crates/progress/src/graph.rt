@@ -1,9 +1,9 @@
 //! A plan and its ancestors. Each question about a frontier asks of every item whether its node is
 //! above another one. To answer it from the plan, one would go over the plan each time. So the
 //! ancestors are found once, and an answer takes two steps into a table.
-ghost use Rattle.std.specs.Prelude.{◌≡◌, ◌<◌, ◌≤◌, IfErr, IfOk, IfSome, slice_get, false, get_or, length, map};
+ghost use Rattle.std.specs.Prelude.{◌≡◌, ◌<◌, ◌≤◌, IfOk, IfSome, slice_get, false, get_or, length, map};
 ghost use Rattle.std.specs.List.{list_any};
-ghost use Rattle.update.specs.declared.refusal.Refusal.TheVariants.{OutOfMemory};
+ghost use Rattle.update.specs.Refusals.{OnlyMemory};
 ghost use Rattle.plan.specs.Ancestors.{reaches, numbers_below};
 ghost use Rattle.plan.specs.Nodes.{node_at, sources};
 ghost use Rattle.plan.specs.Rules.{IsPlan};
@@ -67,7 +67,7 @@ impl Graph {
     /// Cost: the square of the nodes, of which a plan has at most 256.
     pub fn of(alloc: Global, plan: Plan) -> Result<Graph, Refusal>
         ensures of { IfOk result (λ graph. graph ≡ plan) }
-        ensures refused { IfErr result (λ refusal. refusal ≡ OutOfMemory) }
+        ensures refused { OnlyMemory result }
     {
         let above = all_ancestors(alloc, &plan)?;
         Ok(Graph { plan, above })
@@ -129,7 +129,7 @@ impl Graph {
 fn all_ancestors(alloc: Global, plan: &Plan) -> Result<Vec<Ancestors>, Refusal>
     ensures above { IfOk result (λ above. above.items ≡ all_ancestors plan.now) }
     ensures plan { IsPlan plan.now }
-    ensures refused { IfErr result (λ refusal. refusal ≡ OutOfMemory) }
+    ensures refused { OnlyMemory result }
 {
     let mut above = Vec::new(alloc);
     for n in 0..plan.len() {
@@ -148,7 +148,7 @@ fn ancestors_of(
     requires node { node < length plan.now }
     requires before { before.now ≡ map (ancestors_of plan.now) (numbers_below node) }
     ensures marks { IfOk result (λ ancestors. ancestors ≡ ancestors_of plan.now node) }
-    ensures refused { IfErr result (λ refusal. refusal ≡ OutOfMemory) }
+    ensures refused { OnlyMemory result }
 {
     let mut marks = Vec::new(alloc);
     for n in 0..plan.len() {

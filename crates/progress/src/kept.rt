@@ -1,11 +1,11 @@
-//! What is kept of one node: its frontier, its input frontier, the input frontiers of its two ports,
-//! and a mark. While the node is marked, the elements mean nothing. The next question about the
-//! node finds all four anew. So a node that nobody asks about is never found anew, and one that is
-//! marked already costs the counting nothing.
-ghost use Rattle.std.specs.Prelude.{◌≡◌, ◌<◌, ◌∷◌, ◌⊎◌, true, false, IsTrue, IfErr, IfOk, IfSome, OnErr, OnOk, List, length};
+//! What is kept of one node: its frontier, its input frontier, the input frontiers of its two
+//! ports, and a mark. While the node is marked, the elements mean nothing. The next question about
+//! the node finds all four anew. So a node that nobody asks about is never found anew, and one that
+//! is marked already costs the counting nothing.
+ghost use Rattle.std.specs.Prelude.{◌≡◌, ◌<◌, ◌∷◌, ◌⊎◌, true, false, IsTrue, IfOk, IfSome, OnErr, OnOk, List, length};
+ghost use Rattle.update.specs.Refusals.{OnlyMemory};
 ghost use Rattle.lattice.specs.Frontiers.{is_beyond};
 ghost use Rattle.antichain.specs.Antichains.{SameElements, least};
-ghost use Rattle.update.specs.declared.refusal.Refusal.TheVariants.{OutOfMemory};
 ghost use Rattle.plan.specs.Ancestors.{reaches};
 ghost use Rattle.plan.specs.Changes.{has_passed};
 ghost use Rattle.plan.specs.declared.node.Node.{Node};
@@ -82,9 +82,9 @@ impl<T: Lattice> Kept<T> {
     ) -> Result<(), Refusal>
         requires { node < length graph.now }
         ensures inserted { OnOk result
-            (IsInserted T.below graph.now place.now t node self.old self.new) }
+            (IsInserted T.times graph.now place.now t node self.old self.new) }
         ensures spared { IsSpared graph.now place.now node self.old self.new }
-        ensures refused { IfErr result (λ refusal. refusal ≡ OutOfMemory) }
+        ensures refused { OnlyMemory result }
     {
         if !self.marked && is_reached(graph, node, place) {
             self.insert_in_all(graph, node, place, t)?;
@@ -92,8 +92,8 @@ impl<T: Lattice> Kept<T> {
         Ok(())
     }
 
-    // Inserts the time into each of the frontiers for which the place counts. It lies at the node or
-    // above it.
+    // Inserts the time into each of the frontiers for which the place counts. It lies at the node
+    // or above it.
     fn insert_in_all(
         &mut self,
         graph: &Graph,
@@ -104,11 +104,11 @@ impl<T: Lattice> Kept<T> {
         requires node { node < length graph.now }
         requires reached { reaches graph.now (node_of place.now) node ≡ true }
         ensures fronts { OnOk result ((items : List (Counted T))
-            → AreFronts T.below graph.now items node self.old
-            → AreFronts T.below graph.now (record { place = place.now; time = t } ∷ items) node
+            → AreFronts T.times graph.now items node self.old
+            → AreFronts T.times graph.now (record { place = place.now; time = t } ∷ items) node
             self.new) }
         ensures mark { self.new.marked ≡ self.old.marked }
-        ensures refused { IfErr result (λ refusal. refusal ≡ OutOfMemory) }
+        ensures refused { OnlyMemory result }
     {
         let at_first = Scope::Port(node, 0).counts(graph, place);
         let at_second = Scope::Port(node, 1).counts(graph, place);
@@ -126,7 +126,7 @@ impl<T: Lattice> Kept<T> {
     /// Cost: linear in the elements; constant if the node is marked or does not count the place.
     pub(crate) fn forget(&mut self, graph: &Graph, node: NodeId, place: &Place, t: &T)
         requires { node < length graph.now }
-        ensures { IsForgotten T.below graph.now place.now t.now node self.old self.new }
+        ensures { IsForgotten T.times graph.now place.now t.now node self.old self.new }
     {
         if !self.marked
             && is_reached(graph, node, place)
@@ -142,14 +142,14 @@ impl<T: Lattice> Kept<T> {
         requires node { node < length graph.now }
         requires reached { reaches graph.now (node_of place.now) node ≡ true }
         ensures gone { result ≡ false → (items : List (Counted T))
-            → AreFronts T.below graph.now (record { place = place.now; time = t.now } ∷ items) node
+            → AreFronts T.times graph.now (record { place = place.now; time = t.now } ∷ items) node
             self.now
-            → AreFronts T.below graph.now items node self.now }
+            → AreFronts T.times graph.now items node self.now }
         ensures later { result ≡ false → (items : List (Counted T)) (u : T)
-            → IsTrue (T.below t.now u)
-            → AreFronts T.below graph.now (record { place = place.now; time = t.now } ∷ items) node
+            → IsTrue (T.times.below t.now u)
+            → AreFronts T.times graph.now (record { place = place.now; time = t.now } ∷ items) node
             self.now
-            → AreFronts T.below graph.now (record { place = place.now; time = u } ∷ items) node
+            → AreFronts T.times graph.now (record { place = place.now; time = u } ∷ items) node
             self.now }
     {
         if has_element_if(&self.output, true, t) {
@@ -179,16 +179,16 @@ impl<T: Lattice> Kept<T> {
         items: &Counts<T>,
     ) -> Result<Antichain<T>, Refusal>
         requires node { scope_node scope.now < length graph.now }
-        requires current { IsCurrent T.below graph.now items.now (scope_node scope.now) self.old }
-        ensures current { IsCurrent T.below graph.now items.now (scope_node scope.now) self.new }
+        requires current { IsCurrent T.times graph.now items.now (scope_node scope.now) self.old }
+        ensures current { IsCurrent T.times graph.now items.now (scope_node scope.now) self.new }
         ensures unmarked { OnOk result (self.new.marked ≡ false) }
         ensures unchanged { OnErr result (self.new.marked ≡ self.old.marked) }
         ensures least { IfOk result (λ found. SameElements found
-            (least T.below (times_where (is_in_scope graph.now scope.now) items.now))) }
-        ensures beyond { IfOk result (λ found. (t : T) → is_beyond T.below found t
-            ≡ is_beyond T.below
-            (least T.below (times_where (is_in_scope graph.now scope.now) items.now)) t) }
-        ensures refused { IfErr result (λ refusal. refusal ≡ OutOfMemory) }
+            (least T.times (times_where (is_in_scope graph.now scope.now) items.now))) }
+        ensures beyond { IfOk result (λ found. (t : T) → is_beyond T.times found t
+            ≡ is_beyond T.times
+            (least T.times (times_where (is_in_scope graph.now scope.now) items.now)) t) }
+        ensures refused { OnlyMemory result }
     {
         self.find_all(graph, scope.node(), items)?;
         let answer = self.least(graph, scope, items)?;
@@ -199,8 +199,8 @@ impl<T: Lattice> Kept<T> {
     /// Finds all frontiers of a node anew if it is marked, and unmarks it. Refused only with
     /// `OutOfMemory`, and then the mark is what it was.
     ///
-    /// Cost: nothing for a node that is not marked. Otherwise linear in the different items that are
-    /// counted, times the elements.
+    /// Cost: nothing for a node that is not marked. Otherwise linear in the different items that
+    /// are counted, times the elements.
     pub(crate) fn refresh(
         &mut self,
         graph: &Graph,
@@ -208,20 +208,20 @@ impl<T: Lattice> Kept<T> {
         items: &Counts<T>,
     ) -> Result<(), Refusal>
         requires node { node < length graph.now }
-        requires current { IsCurrent T.below graph.now items.now node self.old }
-        ensures current { IsCurrent T.below graph.now items.now node self.new }
+        requires current { IsCurrent T.times graph.now items.now node self.old }
+        ensures current { IsCurrent T.times graph.now items.now node self.new }
         ensures unmarked { OnOk result (self.new.marked ≡ false) }
         ensures unchanged { OnErr result (self.new.marked ≡ self.old.marked) }
-        ensures refused { IfErr result (λ refusal. refusal ≡ OutOfMemory) }
+        ensures refused { OnlyMemory result }
     {
         self.find_all(graph, node, items)?;
         self.marked = false;
         Ok(())
     }
 
-    /// Times that tell the input frontier of the node: what is beyond them is beyond it. If the node
-    /// is marked, all that is kept of it is found anew, and it is marked no more. Refused only with
-    /// `OutOfMemory`, and then its mark is what it was.
+    /// Times that tell the input frontier of the node: what is beyond them is beyond it. If the
+    /// node is marked, all that is kept of it is found anew, and it is marked no more. Refused only
+    /// with `OutOfMemory`, and then its mark is what it was.
     ///
     /// Cost: that of `refresh`, and linear in the elements.
     pub(crate) fn input_times(
@@ -231,13 +231,13 @@ impl<T: Lattice> Kept<T> {
         items: &Counts<T>,
     ) -> Result<Times<T>, Refusal>
         requires node { node < length graph.now }
-        requires current { IsCurrent T.below graph.now items.now node self.old }
-        ensures current { IsCurrent T.below graph.now items.now node self.new }
+        requires current { IsCurrent T.times graph.now items.now node self.old }
+        ensures current { IsCurrent T.times graph.now items.now node self.new }
         ensures unmarked { OnOk result (self.new.marked ≡ false) }
         ensures unchanged { OnErr result (self.new.marked ≡ self.old.marked) }
         ensures front { IfOk result (λ times.
-            IsFront T.below graph.now items.now (Input node) times) }
-        ensures refused { IfErr result (λ refusal. refusal ≡ OutOfMemory) }
+            IsFront T.times graph.now items.now (Input node) times) }
+        ensures refused { OnlyMemory result }
     {
         self.find_all(graph, node, items)?;
         let mut times = Vec::new(*self.input.allocator());
@@ -249,11 +249,11 @@ impl<T: Lattice> Kept<T> {
     // Finds all frontiers anew if the node is marked. It stays marked.
     fn find_all(&mut self, graph: &Graph, node: NodeId, items: &Counts<T>) -> Result<(), Refusal>
         requires node { node < length graph.now }
-        requires current { IsCurrent T.below graph.now items.now node self.old }
-        ensures fronts { OnOk result (AreFronts T.below graph.now items.now node self.new) }
-        ensures current { IsCurrent T.below graph.now items.now node self.new }
+        requires current { IsCurrent T.times graph.now items.now node self.old }
+        ensures fronts { OnOk result (AreFronts T.times graph.now items.now node self.new) }
+        ensures current { IsCurrent T.times graph.now items.now node self.new }
         ensures mark { self.new.marked ≡ self.old.marked }
-        ensures refused { IfErr result (λ refusal. refusal ≡ OutOfMemory) }
+        ensures refused { OnlyMemory result }
     {
         if self.marked {
             find(&mut self.output, graph, &Scope::Output(node), items)?;
@@ -273,13 +273,13 @@ impl<T: Lattice> Kept<T> {
         items: &Counts<T>,
     ) -> Result<Antichain<T>, Refusal>
         requires node { scope_node scope.now < length graph.now }
-        requires fronts { AreFronts T.below graph.now items.now (scope_node scope.now) self.now }
+        requires fronts { AreFronts T.times graph.now items.now (scope_node scope.now) self.now }
         ensures least { IfOk result (λ found. SameElements found
-            (least T.below (times_where (is_in_scope graph.now scope.now) items.now))) }
-        ensures beyond { IfOk result (λ found. (t : T) → is_beyond T.below found t
-            ≡ is_beyond T.below
-            (least T.below (times_where (is_in_scope graph.now scope.now) items.now)) t) }
-        ensures refused { IfErr result (λ refusal. refusal ≡ OutOfMemory) }
+            (least T.times (times_where (is_in_scope graph.now scope.now) items.now))) }
+        ensures beyond { IfOk result (λ found. (t : T) → is_beyond T.times found t
+            ≡ is_beyond T.times
+            (least T.times (times_where (is_in_scope graph.now scope.now) items.now)) t) }
+        ensures refused { OnlyMemory result }
     {
         let alloc = *self.output.allocator();
         if let Some(elements) = self.elements(scope) {
@@ -296,8 +296,8 @@ impl<T: Lattice> Kept<T> {
     /// counted.
     pub(crate) fn has_passed(&self, graph: &Graph, scope: &Scope, items: &Counts<T>, t: &T) -> bool
         requires node { scope_node scope.now < length graph.now }
-        requires current { IsCurrent T.below graph.now items.now (scope_node scope.now) self.now }
-        ensures { result ≡ has_passed T.below (least T.below
+        requires current { IsCurrent T.times graph.now items.now (scope_node scope.now) self.now }
+        ensures { result ≡ has_passed T.times (least T.times
             (times_where (is_in_scope graph.now scope.now) items.now)) t.now }
     {
         if !self.marked
@@ -311,8 +311,8 @@ impl<T: Lattice> Kept<T> {
     // The elements that are kept for a frontier. None are for a port of 2 or more.
     fn elements(&self, scope: &Scope) -> Option<&[T]>
         ensures { IfSome result (λ elements. (nodes : List Node) (items : List (Counted T))
-            → AreFronts T.below nodes items (scope_node scope.now) self.now
-            → IsFront T.below nodes items scope.now elements.now) }
+            → AreFronts T.times nodes items (scope_node scope.now) self.now
+            → IsFront T.times nodes items scope.now elements.now) }
     {
         match scope {
             Scope::Output(_) => Some(self.output.as_slice()),

@@ -16,20 +16,20 @@
 //! A time more is inserted into what is kept. A time less is harder: whether the frontier moves
 //! depends on all else that is counted. But it can move only if the time is one of its elements.
 //! Otherwise some element is before the time, what is counted there is still counted, and the
-//! frontier is what it was. So a time that is an element marks the node, and the next question finds
-//! its frontiers anew; any other time costs nothing more. [`Tally::rebuilt`] counts how often a node
-//! was found anew. At first all nodes are marked, so a node that nobody asks about is never found, and
-//! it costs an event nothing: events go over the nodes alone that somebody asked about.
+//! frontier is what it was. So a time that is an element marks the node, and the next question
+//! finds its frontiers anew; any other time costs nothing more. [`Tally::rebuilt`] counts how often
+//! a node was found anew. At first all nodes are marked, so a node that nobody asks about is never
+//! found, and it costs an event nothing: events go over the nodes alone that somebody asked about.
 //!
 //! Of what is counted, a contract says only how often each item occurs, and nothing of the order.
-//! [`counts_determine_frontiers`] proves that no frontier depends on more than that. So the times of
-//! each place stand in a tree, each once with a number, and a million bundles at one time are one entry.
-//! Questions borrow the tally mutably, since they change what is kept.
+//! [`counts_determine_frontiers`] proves that no frontier depends on more than that. So the times
+//! of each place stand in a tree, each once with a number, and a million bundles at one time are
+//! one entry. Questions borrow the tally mutably, since they change what is kept.
 //!
 //! A [`Capability`] is the right to give updates at a place at a time or later. The tally counts
 //! it as long as it lives. It cannot be dropped: it goes back to the tally, or is given anew at a
-//! later time. So a worker cannot forget a time that it holds. [`Capabilities`] are all that an owner
-//! holds at one place, as one such value.
+//! later time. So a worker cannot forget a time that it holds. [`Capabilities`] are all that an
+//! owner holds at one place, as one such value.
 //!
 //! The code knows no workers, no bundles and no updates. The functions with empty bodies, such as
 //! [`ports_make_the_input_frontier`], state the laws that a board needs.

@@ -1,9 +1,9 @@
 //! What is found from all that is counted: the least times that count for a frontier, and whether
 //! any is at or before a time.
-ghost use Rattle.std.specs.Prelude.{◌≡◌, ◌<◌, ◌||◌, IfErr, OnOk, length};
+ghost use Rattle.std.specs.Prelude.{◌≡◌, ◌<◌, ◌||◌, OnOk, length};
+ghost use Rattle.update.specs.Refusals.{OnlyMemory};
 ghost use Rattle.lattice.specs.Frontiers.{is_beyond};
-ghost use Rattle.update.specs.declared.refusal.Refusal.TheVariants.{OutOfMemory};
-ghost use Rattle.progress.specs.Counting.{listed};
+ghost use Rattle.progress.specs.CountLists.{listed};
 ghost use Rattle.progress.specs.Tallies.{times_where};
 ghost use Rattle.progress.specs.Scopes.{scope_node, is_in_scope};
 
@@ -23,10 +23,10 @@ pub(crate) fn insert_times<T: Lattice>(
     items: &[Counted<T>],
 ) -> Result<(), Refusal>
     requires { scope_node scope.now < length graph.now }
-    ensures beyond { OnOk result ((t : T) → is_beyond T.below found.new.items t
-        ≡ (is_beyond T.below found.old.items t
-        || is_beyond T.below (times_where (is_in_scope graph.now scope.now) items.now) t)) }
-    ensures refused { IfErr result (λ refusal. refusal ≡ OutOfMemory) }
+    ensures beyond { OnOk result ((t : T) → is_beyond T.times found.new.items t
+        ≡ (is_beyond T.times found.old.items t
+        || is_beyond T.times (times_where (is_in_scope graph.now scope.now) items.now) t)) }
+    ensures refused { OnlyMemory result }
 {
     for item in items {
         if scope.counts(graph, &item.place) {
@@ -46,7 +46,7 @@ pub(crate) fn is_any_in<T: Lattice>(
 ) -> bool
     requires { scope_node scope.now < length graph.now }
     ensures { result
-        ≡ is_beyond T.below (times_where (is_in_scope graph.now scope.now) items.now) t.now }
+        ≡ is_beyond T.times (times_where (is_in_scope graph.now scope.now) items.now) t.now }
 {
     for item in items {
         if scope.counts(graph, &item.place) && item.time.less_equal(t) {
@@ -58,9 +58,9 @@ pub(crate) fn is_any_in<T: Lattice>(
 
 // Inserts all of these times.
 pub(crate) fn insert_all<T: Lattice>(found: &mut Vec<T>, times: &[T]) -> Result<(), Refusal>
-    ensures beyond { OnOk result ((s : T) → is_beyond T.below found.new.items s
-        ≡ (is_beyond T.below found.old.items s || is_beyond T.below times.now s)) }
-    ensures refused { IfErr result (λ refusal. refusal ≡ OutOfMemory) }
+    ensures beyond { OnOk result ((s : T) → is_beyond T.times found.new.items s
+        ≡ (is_beyond T.times found.old.items s || is_beyond T.times times.now s)) }
+    ensures refused { OnlyMemory result }
 {
     for t in times {
         insert_time(found, *t)?;
@@ -73,9 +73,9 @@ pub(crate) fn insert_entries<T: Lattice>(
     found: &mut Vec<T>,
     few: &[(T, usize)],
 ) -> Result<(), Refusal>
-    ensures beyond { OnOk result ((s : T) → is_beyond T.below found.new.items s
-        ≡ (is_beyond T.below found.old.items s || is_beyond T.below (listed few.now) s)) }
-    ensures refused { IfErr result (λ refusal. refusal ≡ OutOfMemory) }
+    ensures beyond { OnOk result ((s : T) → is_beyond T.times found.new.items s
+        ≡ (is_beyond T.times found.old.items s || is_beyond T.times (listed few.now) s)) }
+    ensures refused { OnlyMemory result }
 {
     for entry in few {
         insert_time(found, entry.0)?;
@@ -85,7 +85,7 @@ pub(crate) fn insert_entries<T: Lattice>(
 
 // Whether some time that has an entry in a list is at or before this one.
 pub(crate) fn is_any_entry<T: Lattice>(few: &[(T, usize)], t: &T) -> bool
-    ensures { result ≡ is_beyond T.below (listed few.now) t.now }
+    ensures { result ≡ is_beyond T.times (listed few.now) t.now }
 {
     for entry in few {
         if entry.0.less_equal(t) {
@@ -100,10 +100,10 @@ pub(crate) fn insert_listed<T: Lattice>(
     found: &mut Vec<T>,
     more: &BTreeMap<T, usize>,
 ) -> Result<(), Refusal>
-    ensures beyond { OnOk result ((s : T) → is_beyond T.below found.new.items s
-        ≡ (is_beyond T.below found.old.items s
-        || is_beyond T.below (listed more.now.entries) s)) }
-    ensures refused { IfErr result (λ refusal. refusal ≡ OutOfMemory) }
+    ensures beyond { OnOk result ((s : T) → is_beyond T.times found.new.items s
+        ≡ (is_beyond T.times found.old.items s
+        || is_beyond T.times (listed more.now.entries) s)) }
+    ensures refused { OnlyMemory result }
 {
     for (entry, _) in more {
         insert_time(found, *entry)?;
@@ -113,7 +113,7 @@ pub(crate) fn insert_listed<T: Lattice>(
 
 // Whether some time that has an entry in a tree is at or before this one.
 pub(crate) fn is_any_listed<T: Lattice>(more: &BTreeMap<T, usize>, t: &T) -> bool
-    ensures { result ≡ is_beyond T.below (listed more.now.entries) t.now }
+    ensures { result ≡ is_beyond T.times (listed more.now.entries) t.now }
 {
     for (entry, _) in more {
         if entry.less_equal(t) {

@@ -1,8 +1,8 @@
 //! Several times at one place, counted or not counted together. The stamp of a bundle is counted in
 //! this way, and so is what a worker holds at a node. Either all are counted or none is, so a
 //! caller that is refused memory has nothing to take back.
-ghost use Rattle.std.specs.Prelude.{◌≡◌, ◌++◌, IfErr, OnErr, OnOk};
-ghost use Rattle.update.specs.declared.refusal.Refusal.TheVariants.{OutOfMemory};
+ghost use Rattle.std.specs.Prelude.{◌≡◌, ◌++◌, OnErr, OnOk};
+ghost use Rattle.update.specs.Refusals.{OnlyMemory};
 ghost use Rattle.progress.specs.Tallies.{AreMarksBelow, SameCounts};
 ghost use Rattle.progress.specs.Several.{items_at, AreCounted};
 
@@ -20,7 +20,7 @@ impl<T: Lattice> Tally<T> {
         ensures counted { OnOk result
             (SameCounts self.new.items (items_at place.now times.now ++ self.old.items)) }
         ensures nodes { self.new.nodes ≡ self.old.nodes }
-        ensures refused { IfErr result (λ refusal. refusal ≡ OutOfMemory) }
+        ensures refused { OnlyMemory result }
         ensures unchanged { OnErr result (SameCounts self.new.items self.old.items) }
         ensures marked { OnOk result (self.new.marked ≡ self.old.marked) }
         ensures below { OnErr result

@@ -3,14 +3,14 @@
 //! something.
 //!
 //! The one invariant: a node that nobody asked about is marked. An event leaves a marked node as it
-//! is, so it goes over the nodes alone that somebody asked about. A plan has up to 256 nodes, but the
-//! questions are about few: the inputs of what runs, and what is read from outside. A node is put
-//! among them at the first question about it, before it is unmarked. It stays among them, since who
-//! asks once asks again.
-ghost use Rattle.std.specs.Prelude.{◌≡◌, ◌<◌, ◌&&◌, ℕ, true, not, eqb, IfErr, IfOk, OnErr, OnOk, length};
+//! is, so it goes over the nodes alone that somebody asked about. A plan has up to 256 nodes, but
+//! the questions are about few: the inputs of what runs, and what is read from outside. A node is
+//! put among them at the first question about it, before it is unmarked. It stays among them, since
+//! who asks once asks again.
+ghost use Rattle.std.specs.Prelude.{◌≡◌, ◌<◌, ◌&&◌, ℕ, true, not, eqb, IfOk, OnErr, OnOk, length};
+ghost use Rattle.update.specs.Refusals.{OnlyMemory};
 ghost use Rattle.lattice.specs.Frontiers.{is_beyond};
 ghost use Rattle.antichain.specs.Antichains.{SameElements, least};
-ghost use Rattle.update.specs.declared.refusal.Refusal.TheVariants.{OutOfMemory};
 ghost use Rattle.plan.specs.Changes.{has_passed};
 ghost use Rattle.progress.specs.Tallies.{is_marked, times_where};
 ghost use Rattle.progress.specs.Kept.{AreAsked, HaveChanged, HaveChangedAt, IsInserted, IsSpared, IsMarked, IsForgotten, IsTally, IsFront, is_asked, marks_of};
@@ -56,7 +56,7 @@ impl<T: Lattice> Table<T> {
         ensures len { IfOk result (λ table. length table ≡ len) }
         ensures marked { IfOk result (λ table. (n : ℕ) → n < len
             → is_marked (marks_of table) n ≡ true) }
-        ensures refused { IfErr result (λ refusal. refusal ≡ OutOfMemory) }
+        ensures refused { OnlyMemory result }
     {
         let kept = all_marked(alloc, len)?;
         let asked = Vec::new(alloc);
@@ -78,23 +78,23 @@ impl<T: Lattice> Table<T> {
     /// that are not marked.
     pub(crate) fn insert(&mut self, graph: &Graph, place: &Place, t: T) -> Result<(), Refusal>
         requires { length self.old ≡ length graph.now }
-        ensures inserted { OnOk result (HaveChanged (IsInserted T.below graph.now place.now t)
+        ensures inserted { OnOk result (HaveChanged (IsInserted T.times graph.now place.now t)
             self.old self.new (length self.old)) }
         ensures spared { HaveChanged (IsSpared graph.now place.now) self.old self.new
             (length self.old) }
-        ensures refused { IfErr result (λ refusal. refusal ≡ OutOfMemory) }
+        ensures refused { OnlyMemory result }
     {
         insert_in_each(&mut self.kept, &self.asked, graph, place, t)?;
         Ok(())
     }
 
-    /// A time is counted once less at a place, or a later one in its place: each node is marked that
-    /// had it as an element. Takes no memory.
+    /// A time is counted once less at a place, or a later one in its place: each node is marked
+    /// that had it as an element. Takes no memory.
     ///
     /// Cost: as that of an insertion.
     pub(crate) fn forget(&mut self, graph: &Graph, place: &Place, t: &T)
         requires { length self.old ≡ length graph.now }
-        ensures { HaveChanged (IsForgotten T.below graph.now place.now t.now) self.old self.new
+        ensures { HaveChanged (IsForgotten T.times graph.now place.now t.now) self.old self.new
             (length self.old) }
     {
         forget_in_each(&mut self.kept, &self.asked, graph, place, t);
@@ -113,8 +113,8 @@ impl<T: Lattice> Table<T> {
     /// from what is counted, and it is marked no more. Refused only with `OutOfMemory`; then its
     /// mark is what it was.
     ///
-    /// Cost: that of [`Kept::answer`]. If the node is marked, also linear in the nodes that somebody
-    /// asked about.
+    /// Cost: that of [`Kept::answer`]. If the node is marked, also linear in the nodes that
+    /// somebody asked about.
     pub(crate) fn answer(
         &mut self,
         graph: &Graph,
@@ -122,17 +122,17 @@ impl<T: Lattice> Table<T> {
         items: &Counts<T>,
     ) -> Result<Antichain<T>, Refusal>
         requires node { scope_node scope.now < length graph.now }
-        requires tally { IsTally T.below graph.now items.now self.old }
-        ensures tally { IsTally T.below graph.now items.now self.new }
+        requires tally { IsTally T.times graph.now items.now self.old }
+        ensures tally { IsTally T.times graph.now items.now self.new }
         ensures unmarked { OnOk result ((n : ℕ) → is_marked (marks_of self.new) n
             ≡ (is_marked (marks_of self.old) n && not (eqb n (scope_node scope.now)))) }
         ensures unanswered { OnErr result (marks_of self.new ≡ marks_of self.old) }
         ensures least { IfOk result (λ found. SameElements found
-            (least T.below (times_where (is_in_scope graph.now scope.now) items.now))) }
-        ensures beyond { IfOk result (λ found. (t : T) → is_beyond T.below found t
-            ≡ is_beyond T.below
-            (least T.below (times_where (is_in_scope graph.now scope.now) items.now)) t) }
-        ensures refused { IfErr result (λ refusal. refusal ≡ OutOfMemory) }
+            (least T.times (times_where (is_in_scope graph.now scope.now) items.now))) }
+        ensures beyond { IfOk result (λ found. (t : T) → is_beyond T.times found t
+            ≡ is_beyond T.times
+            (least T.times (times_where (is_in_scope graph.now scope.now) items.now)) t) }
+        ensures refused { OnlyMemory result }
     {
         remember(&mut self.asked, &self.kept, scope.node())?;
         let found = self.kept[scope.node().number()].answer(graph, scope, items)?;
@@ -142,8 +142,8 @@ impl<T: Lattice> Table<T> {
     /// Finds all frontiers of a node anew if it is marked, and unmarks it. Refused only with
     /// `OutOfMemory`, and then the mark is what it was.
     ///
-    /// Cost: that of [`Kept::refresh`]. If the node is marked, also linear in the nodes that somebody
-    /// asked about.
+    /// Cost: that of [`Kept::refresh`]. If the node is marked, also linear in the nodes that
+    /// somebody asked about.
     pub(crate) fn refresh(
         &mut self,
         graph: &Graph,
@@ -151,21 +151,21 @@ impl<T: Lattice> Table<T> {
         items: &Counts<T>,
     ) -> Result<(), Refusal>
         requires node { node < length graph.now }
-        requires tally { IsTally T.below graph.now items.now self.old }
-        ensures tally { IsTally T.below graph.now items.now self.new }
+        requires tally { IsTally T.times graph.now items.now self.old }
+        ensures tally { IsTally T.times graph.now items.now self.new }
         ensures unmarked { OnOk result ((n : ℕ) → is_marked (marks_of self.new) n
             ≡ (is_marked (marks_of self.old) n && not (eqb n node))) }
         ensures unanswered { OnErr result (marks_of self.new ≡ marks_of self.old) }
-        ensures refused { IfErr result (λ refusal. refusal ≡ OutOfMemory) }
+        ensures refused { OnlyMemory result }
     {
         remember(&mut self.asked, &self.kept, node)?;
         self.kept[node.number()].refresh(graph, node, items)?;
         Ok(())
     }
 
-    /// Times that tell the input frontier of a node: what is beyond them is beyond it. A marked node
-    /// is found anew, and unmarked, as by `refresh`. Refused only with `OutOfMemory`, and then the mark
-    /// is what it was.
+    /// Times that tell the input frontier of a node: what is beyond them is beyond it. A marked
+    /// node is found anew, and unmarked, as by `refresh`. Refused only with `OutOfMemory`, and then
+    /// the mark is what it was.
     ///
     /// Cost: that of `refresh`, and linear in the elements.
     pub(crate) fn input_times(
@@ -175,14 +175,14 @@ impl<T: Lattice> Table<T> {
         items: &Counts<T>,
     ) -> Result<Times<T>, Refusal>
         requires node { node < length graph.now }
-        requires tally { IsTally T.below graph.now items.now self.old }
-        ensures tally { IsTally T.below graph.now items.now self.new }
+        requires tally { IsTally T.times graph.now items.now self.old }
+        ensures tally { IsTally T.times graph.now items.now self.new }
         ensures unmarked { OnOk result ((n : ℕ) → is_marked (marks_of self.new) n
             ≡ (is_marked (marks_of self.old) n && not (eqb n node))) }
         ensures unanswered { OnErr result (marks_of self.new ≡ marks_of self.old) }
         ensures front { IfOk result (λ times.
-            IsFront T.below graph.now items.now (Input node) times) }
-        ensures refused { IfErr result (λ refusal. refusal ≡ OutOfMemory) }
+            IsFront T.times graph.now items.now (Input node) times) }
+        ensures refused { OnlyMemory result }
     {
         remember(&mut self.asked, &self.kept, node)?;
         let times = self.kept[node.number()].input_times(graph, node, items)?;
@@ -194,8 +194,8 @@ impl<T: Lattice> Table<T> {
     /// Cost: that of [`Kept::has_passed`].
     pub(crate) fn has_passed(&self, graph: &Graph, scope: &Scope, items: &Counts<T>, t: &T) -> bool
         requires node { scope_node scope.now < length graph.now }
-        requires tally { IsTally T.below graph.now items.now self.now }
-        ensures { result ≡ has_passed T.below (least T.below
+        requires tally { IsTally T.times graph.now items.now self.now }
+        ensures { result ≡ has_passed T.times (least T.times
             (times_where (is_in_scope graph.now scope.now) items.now)) t.now }
     {
         self.kept[scope.node().number()].has_passed(graph, scope, items, t)
@@ -207,7 +207,7 @@ fn all_marked<T: Lattice>(alloc: Global, len: usize) -> Result<Vec<Kept<T>>, Ref
     ensures len { IfOk result (λ kept. length kept.items ≡ len) }
     ensures marked { IfOk result (λ kept. (n : ℕ) → n < len
         → is_marked (marks_of kept.items) n ≡ true) }
-    ensures refused { IfErr result (λ refusal. refusal ≡ OutOfMemory) }
+    ensures refused { OnlyMemory result }
 {
     let mut kept = Vec::new(alloc);
     for _made in 0..len {
@@ -226,7 +226,7 @@ fn remember<T: Lattice>(
     requires node { node < length kept.now.items }
     ensures asked { AreAsked asked.new.items kept.now.items }
     ensures there { OnOk result (is_asked asked.new.items node ≡ true) }
-    ensures refused { IfErr result (λ refusal. refusal ≡ OutOfMemory) }
+    ensures refused { OnlyMemory result }
 {
     if kept[node.number()].is_marked() && !asked.contains(&node) {
         asked.push(node)?;
@@ -244,11 +244,11 @@ fn insert_in_each<T: Lattice>(
 ) -> Result<(), Refusal>
     requires len { length kept.old.items ≡ length graph.now }
     requires asked { AreAsked asked.now kept.old.items }
-    ensures inserted { OnOk result (HaveChangedAt (IsInserted T.below graph.now place.now t)
+    ensures inserted { OnOk result (HaveChangedAt (IsInserted T.times graph.now place.now t)
         asked.now kept.old.items kept.new.items) }
     ensures spared { HaveChangedAt (IsSpared graph.now place.now) asked.now kept.old.items
         kept.new.items }
-    ensures refused { IfErr result (λ refusal. refusal ≡ OutOfMemory) }
+    ensures refused { OnlyMemory result }
 {
     for number in 0..asked.len() {
         let node = asked[number];
@@ -267,7 +267,7 @@ fn forget_in_each<T: Lattice>(
 )
     requires len { length kept.old.items ≡ length graph.now }
     requires asked { AreAsked asked.now kept.old.items }
-    ensures { HaveChangedAt (IsForgotten T.below graph.now place.now t.now) asked.now
+    ensures { HaveChangedAt (IsForgotten T.times graph.now place.now t.now) asked.now
         kept.old.items kept.new.items }
 {
     for number in 0..asked.len() {

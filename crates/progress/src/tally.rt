@@ -1,9 +1,9 @@
 //! The tally: counts of what is outstanding, and the frontiers of those nodes that somebody asked
 //! about. What is kept of a node is right, or the node is marked.
-ghost use Rattle.std.specs.Prelude.{◌≡◌, ℕ, ◌<◌, true, not, ◌&&◌, eqb, [], ◌∷◌, IsTrue, IfErr, IfOk, OnErr, OnOk, Contains, length};
+ghost use Rattle.std.specs.Prelude.{◌≡◌, ℕ, ◌<◌, true, not, ◌&&◌, eqb, [], ◌∷◌, IsTrue, IfOk, OnErr, OnOk, Contains, length};
+ghost use Rattle.update.specs.Refusals.{OnlyMemory};
 ghost use Rattle.lattice.specs.Frontiers.{is_beyond};
 ghost use Rattle.antichain.specs.Antichains.{SameElements, least};
-ghost use Rattle.update.specs.declared.refusal.Refusal.TheVariants.{OutOfMemory};
 ghost use Rattle.plan.specs.Changes.{has_passed};
 ghost use Rattle.plan.specs.Rules.{IsPlan};
 ghost use Rattle.progress.specs.Kept.{HaveChanged, IsInserted, IsSpared};
@@ -48,11 +48,12 @@ impl<T: Lattice> Model for Tally<T> {
       rebuilt = t.rebuilt;
     } };
 
-    ghost invariant = { λ t. IsTally T.below t.graph t.items t.table };
+    ghost invariant = { λ t. IsTally T.times t.graph t.items t.table };
 }
 
 impl<T: Lattice> Tally<T> {
-    /// A tally of a plan that counts nothing. All nodes are marked. Refused only with `OutOfMemory`.
+    /// A tally of a plan that counts nothing. All nodes are marked. Refused only with
+    /// `OutOfMemory`.
     ///
     /// Cost: the square of the nodes, of which a plan has at most 256.
     pub fn new(alloc: Global, plan: Plan) -> Result<Tally<T>, Refusal>
@@ -61,7 +62,7 @@ impl<T: Lattice> Tally<T> {
         ensures marked { IfOk result (λ tally. (n : ℕ) → n < length plan
             → is_marked tally.marked n ≡ true) }
         ensures rebuilt { IfOk result (λ tally. tally.rebuilt ≡ 0) }
-        ensures refused { IfErr result (λ refusal. refusal ≡ OutOfMemory) }
+        ensures refused { OnlyMemory result }
     {
         let graph = Graph::of(alloc, plan)?;
         let items = Counts::new(alloc, graph.len())?;
@@ -94,13 +95,13 @@ impl<T: Lattice> Tally<T> {
     /// `OutOfMemory`, and then nothing is counted. The time is inserted into what is kept of the
     /// nodes that count the place. If that is refused, these nodes are marked.
     ///
-    /// Cost: logarithmic in the different times that are counted at the place; constant for each node
-    /// that somebody asked about, and linear in what is kept of those that are not marked.
+    /// Cost: logarithmic in the different times that are counted at the place; constant for each
+    /// node that somebody asked about, and linear in what is kept of those that are not marked.
     pub fn add(&mut self, place: Place, t: T) -> Result<(), Refusal>
         ensures counted { OnOk result
             (SameCounts self.new.items (record { place = place; time = t } ∷ self.old.items)) }
         ensures nodes { self.new.nodes ≡ self.old.nodes }
-        ensures refused { IfErr result (λ refusal. refusal ≡ OutOfMemory) }
+        ensures refused { OnlyMemory result }
         ensures unchanged { OnErr result (self.new.items ≡ self.old.items) }
         ensures marked { OnOk result (self.new.marked ≡ self.old.marked) }
         ensures below { OnErr result
@@ -115,8 +116,8 @@ impl<T: Lattice> Tally<T> {
     }
 
     /// Counts a time at a place once less. It must be counted there. Takes no memory. A node is
-    /// marked if the place counts for one of its frontiers that has the time as an element. If it is
-    /// no element, then an earlier time keeps that frontier back, and it stays what it is.
+    /// marked if the place counts for one of its frontiers that has the time as an element. If it
+    /// is no element, then an earlier time keeps that frontier back, and it stays what it is.
     ///
     /// Cost: that of `add`.
     pub fn remove(&mut self, place: &Place, t: &T)
@@ -141,7 +142,7 @@ impl<T: Lattice> Tally<T> {
         ensures counted { OnOk result
             (SameCounts self.new.items (record { place = place; time = t } ∷ self.old.items)) }
         ensures nodes { self.new.nodes ≡ self.old.nodes }
-        ensures refused { IfErr result (λ refusal. refusal ≡ OutOfMemory) }
+        ensures refused { OnlyMemory result }
         ensures unchanged { OnErr result (self.new.items ≡ self.old.items) }
         ensures marked { OnOk result (self.new.marked ≡ self.old.marked) }
         ensures below { OnErr result
@@ -163,7 +164,7 @@ impl<T: Lattice> Tally<T> {
     /// Cost: that of `remove`.
     pub fn downgrade(&mut self, capability: Capability<T>, later: T) -> Capability<T>
         requires counted { Contains self.old.items capability }
-        requires later { IsTrue (T.below capability.time later) }
+        requires later { IsTrue (T.times.below capability.time later) }
         ensures capability { result ≡ record capability { time = later } }
         ensures counted { SameCounts (capability ∷ self.new.items) (result ∷ self.old.items) }
         ensures nodes { self.new.nodes ≡ self.old.nodes }
@@ -204,10 +205,10 @@ impl<T: Lattice> Tally<T> {
         ensures items { self.new.items ≡ self.old.items }
         ensures nodes { self.new.nodes ≡ self.old.nodes }
         ensures least { IfOk result (λ found.
-            SameElements found (frontier T.below self.old.nodes self.old.items node)) }
-        ensures beyond { IfOk result (λ found. (t : T) → is_beyond T.below found t
-            ≡ is_beyond T.below (frontier T.below self.old.nodes self.old.items node) t) }
-        ensures refused { IfErr result (λ refusal. refusal ≡ OutOfMemory) }
+            SameElements found (frontier T.times self.old.nodes self.old.items node)) }
+        ensures beyond { IfOk result (λ found. (t : T) → is_beyond T.times found t
+            ≡ is_beyond T.times (frontier T.times self.old.nodes self.old.items node) t) }
+        ensures refused { OnlyMemory result }
         ensures unmarked { OnOk result ((n : ℕ) → is_marked self.new.marked n
             ≡ (is_marked self.old.marked n && not (eqb n node))) }
         ensures unanswered { OnErr result (self.new.marked ≡ self.old.marked) }
@@ -227,10 +228,10 @@ impl<T: Lattice> Tally<T> {
         ensures items { self.new.items ≡ self.old.items }
         ensures nodes { self.new.nodes ≡ self.old.nodes }
         ensures least { IfOk result (λ found.
-            SameElements found (input_frontier T.below self.old.nodes self.old.items node)) }
-        ensures beyond { IfOk result (λ found. (t : T) → is_beyond T.below found t
-            ≡ is_beyond T.below (input_frontier T.below self.old.nodes self.old.items node) t) }
-        ensures refused { IfErr result (λ refusal. refusal ≡ OutOfMemory) }
+            SameElements found (input_frontier T.times self.old.nodes self.old.items node)) }
+        ensures beyond { IfOk result (λ found. (t : T) → is_beyond T.times found t
+            ≡ is_beyond T.times (input_frontier T.times self.old.nodes self.old.items node) t) }
+        ensures refused { OnlyMemory result }
         ensures unmarked { OnOk result ((n : ℕ) → is_marked self.new.marked n
             ≡ (is_marked self.old.marked n && not (eqb n node))) }
         ensures unanswered { OnErr result (self.new.marked ≡ self.old.marked) }
@@ -242,9 +243,10 @@ impl<T: Lattice> Tally<T> {
     }
 
     /// The input frontier of one port: the least of what is in flight to it, and of what is
-    /// outstanding at its source or above; at an input, of that input's own frontier. It is answered,
-    /// and refused, as `frontier` is. No frontier is kept of a port of 2 or more, which no node has:
-    /// it is found from what is counted at each question, and marks go as at the other ports.
+    /// outstanding at its source or above; at an input, of that input's own frontier. It is
+    /// answered, and refused, as `frontier` is. No frontier is kept of a port of 2 or more, which
+    /// no node has: it is found from what is counted at each question, and marks go as at the other
+    /// ports.
     ///
     /// Cost: that of `frontier`. For a port of 2 or more always that of a marked node.
     pub fn input_frontier(&mut self, node: NodeId, port: usize) -> Result<Antichain<T>, Refusal>
@@ -252,10 +254,10 @@ impl<T: Lattice> Tally<T> {
         ensures items { self.new.items ≡ self.old.items }
         ensures nodes { self.new.nodes ≡ self.old.nodes }
         ensures least { IfOk result (λ found.
-            SameElements found (port_frontier T.below self.old.nodes self.old.items node port)) }
-        ensures beyond { IfOk result (λ found. (t : T) → is_beyond T.below found t
-            ≡ is_beyond T.below (port_frontier T.below self.old.nodes self.old.items node port) t) }
-        ensures refused { IfErr result (λ refusal. refusal ≡ OutOfMemory) }
+            SameElements found (port_frontier T.times self.old.nodes self.old.items node port)) }
+        ensures beyond { IfOk result (λ found. (t : T) → is_beyond T.times found t
+            ≡ is_beyond T.times (port_frontier T.times self.old.nodes self.old.items node port) t) }
+        ensures refused { OnlyMemory result }
         ensures unmarked { OnOk result ((n : ℕ) → is_marked self.new.marked n
             ≡ (is_marked self.old.marked n && not (eqb n node))) }
         ensures unanswered { OnErr result (self.new.marked ≡ self.old.marked) }
@@ -266,17 +268,17 @@ impl<T: Lattice> Tally<T> {
         self.answer(&Scope::Port(node, port))
     }
 
-    /// Finds anew what is kept of a node if the node is marked, and unmarks it, as a question for one
-    /// of its frontiers does. A caller that asks about many times calls this first, since
-    /// [`Tally::has_passed`] leaves a mark. Refused only with `OutOfMemory`, and then the mark is what
-    /// it was.
+    /// Finds anew what is kept of a node if the node is marked, and unmarks it, as a question for
+    /// one of its frontiers does. A caller that asks about many times calls this first, since
+    /// [`Tally::has_passed`] leaves a mark. Refused only with `OutOfMemory`, and then the mark is
+    /// what it was.
     ///
     /// Cost: nothing for a node that is not marked, otherwise that of `frontier`.
     pub fn refresh(&mut self, node: NodeId) -> Result<(), Refusal>
         requires { node < length self.old.nodes }
         ensures items { self.new.items ≡ self.old.items }
         ensures nodes { self.new.nodes ≡ self.old.nodes }
-        ensures refused { IfErr result (λ refusal. refusal ≡ OutOfMemory) }
+        ensures refused { OnlyMemory result }
         ensures unmarked { OnOk result ((n : ℕ) → is_marked self.new.marked n
             ≡ (is_marked self.old.marked n && not (eqb n node))) }
         ensures unanswered { OnErr result (self.new.marked ≡ self.old.marked) }
@@ -290,18 +292,18 @@ impl<T: Lattice> Tally<T> {
         Ok(())
     }
 
-    /// Times that tell the input frontier of a node: a time is beyond them if and only if it is beyond
-    /// that frontier. This is for who keeps them and has no use for an antichain. It is answered, and
-    /// refused, as `input_frontier_of` is.
+    /// Times that tell the input frontier of a node: a time is beyond them if and only if it is
+    /// beyond that frontier. This is for who keeps them and has no use for an antichain. It is
+    /// answered, and refused, as `input_frontier_of` is.
     ///
     /// Cost: that of `refresh`, and linear in the elements.
     pub fn input_times_of(&mut self, node: NodeId) -> Result<Times<T>, Refusal>
         requires { node < length self.old.nodes }
         ensures items { self.new.items ≡ self.old.items }
         ensures nodes { self.new.nodes ≡ self.old.nodes }
-        ensures beyond { IfOk result (λ found. (t : T) → is_beyond T.below found t
-            ≡ is_beyond T.below (input_frontier T.below self.old.nodes self.old.items node) t) }
-        ensures refused { IfErr result (λ refusal. refusal ≡ OutOfMemory) }
+        ensures beyond { IfOk result (λ found. (t : T) → is_beyond T.times found t
+            ≡ is_beyond T.times (input_frontier T.times self.old.nodes self.old.items node) t) }
+        ensures refused { OnlyMemory result }
         ensures unmarked { OnOk result ((n : ℕ) → is_marked self.new.marked n
             ≡ (is_marked self.old.marked n && not (eqb n node))) }
         ensures unanswered { OnErr result (self.new.marked ≡ self.old.marked) }
@@ -324,7 +326,7 @@ impl<T: Lattice> Tally<T> {
         ensures items { self.new.items ≡ self.old.items }
         ensures nodes { self.new.nodes ≡ self.old.nodes }
         ensures value { result
-            ≡ has_passed T.below (frontier T.below self.old.nodes self.old.items node) t.now }
+            ≡ has_passed T.times (frontier T.times self.old.nodes self.old.items node) t.now }
         ensures marked { self.new.marked ≡ self.old.marked }
         ensures rebuilt { self.new.rebuilt ≡ self.old.rebuilt }
     {
@@ -339,7 +341,7 @@ impl<T: Lattice> Tally<T> {
         ensures items { self.new.items ≡ self.old.items }
         ensures nodes { self.new.nodes ≡ self.old.nodes }
         ensures value { result
-            ≡ has_passed T.below (input_frontier T.below self.old.nodes self.old.items node) t.now }
+            ≡ has_passed T.times (input_frontier T.times self.old.nodes self.old.items node) t.now }
         ensures marked { self.new.marked ≡ self.old.marked }
         ensures rebuilt { self.new.rebuilt ≡ self.old.rebuilt }
     {
@@ -352,11 +354,11 @@ impl<T: Lattice> Tally<T> {
         ensures items { self.new.items ≡ self.old.items }
         ensures nodes { self.new.nodes ≡ self.old.nodes }
         ensures least { IfOk result (λ found. SameElements found
-            (least T.below (times_where (is_in_scope self.old.nodes scope.now) self.old.items))) }
-        ensures beyond { IfOk result (λ found. (t : T) → is_beyond T.below found t
-            ≡ is_beyond T.below
-            (least T.below (times_where (is_in_scope self.old.nodes scope.now) self.old.items)) t) }
-        ensures refused { IfErr result (λ refusal. refusal ≡ OutOfMemory) }
+            (least T.times (times_where (is_in_scope self.old.nodes scope.now) self.old.items))) }
+        ensures beyond { IfOk result (λ found. (t : T) → is_beyond T.times found t
+            ≡ is_beyond T.times
+            (least T.times (times_where (is_in_scope self.old.nodes scope.now) self.old.items)) t) }
+        ensures refused { OnlyMemory result }
         ensures unmarked { OnOk result ((n : ℕ) → is_marked self.new.marked n
             ≡ (is_marked self.old.marked n && not (eqb n (scope_node scope.now)))) }
         ensures unanswered { OnErr result (self.new.marked ≡ self.old.marked) }
@@ -374,7 +376,7 @@ impl<T: Lattice> Tally<T> {
     // Whether nothing that counts for a frontier is at or before a time.
     fn is_passed(&self, scope: &Scope, t: &T) -> bool
         requires { scope_node scope.now < length self.now.nodes }
-        ensures { result ≡ has_passed T.below (least T.below
+        ensures { result ≡ has_passed T.times (least T.times
             (times_where (is_in_scope self.now.nodes scope.now) self.now.items)) t.now }
     {
         self.table.has_passed(&self.graph, scope, &self.items, t)
@@ -403,11 +405,11 @@ fn count<T: Lattice>(
     requires { length table.old ≡ length graph.now }
     ensures counted { OnOk result (SameCounts items.new
         (record { place = place.now; time = t } ∷ items.old)) }
-    ensures inserted { OnOk result (HaveChanged (IsInserted T.below graph.now place.now t)
+    ensures inserted { OnOk result (HaveChanged (IsInserted T.times graph.now place.now t)
         table.old table.new (length table.old)) }
     ensures spared { HaveChanged (IsSpared graph.now place.now) table.old table.new
         (length table.old) }
-    ensures refused { IfErr result (λ refusal. refusal ≡ OutOfMemory) }
+    ensures refused { OnlyMemory result }
     ensures unchanged { OnErr result (items.new ≡ items.old) }
 {
     table.insert(graph, place, t)?;

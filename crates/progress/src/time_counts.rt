@@ -1,14 +1,16 @@
-//! How often each time is counted at one place. A bulk load has very many bundles in flight at a few
-//! times, so each time has one entry with a number. Counting one more or one less finds that entry.
+//! How often each time is counted at one place. A bulk load has very many bundles in flight at a
+//! few times, so each time has one entry with a number. Counting one more or one less finds that
+//! entry.
 //!
-//! A later time in place of an earlier one may need a new entry, but a downgrade takes no memory. So
-//! there is always room in a list for as many times as are counted. The list is used only if a new
-//! entry is refused memory, and mostly it is empty.
-ghost use Rattle.std.specs.Prelude.{◌≡◌, ◌<◌, ◌≤◌, ◌||◌, [], ◌∷◌, ◌++◌, IfErr, OnErr, OnOk, Contains, length, slice_index_or};
+//! A later time in place of an earlier one may need a new entry, but a downgrade takes no memory.
+//! So there is always room in a list for as many times as are counted. The list is used only if a
+//! new entry is refused memory, and mostly it is empty.
+ghost use Rattle.std.specs.Prelude.{◌≡◌, ◌<◌, ◌≤◌, ◌||◌, [], ◌∷◌, ◌++◌, OnErr, OnOk, Contains, length, slice_index_or};
 ghost use Rattle.std.specs.Vec.{vec_len, vec_capacity};
+ghost use Rattle.update.specs.Refusals.{OnlyMemory};
 ghost use Rattle.lattice.specs.Frontiers.{is_beyond};
 ghost use Rattle.update.specs.declared.refusal.Refusal.TheVariants.{OutOfMemory};
-ghost use Rattle.progress.specs.Counting.{CountAlike};
+ghost use Rattle.progress.specs.CountLists.{CountAlike};
 
 use crate::entries::Entries;
 use crate::scan::insert_all;
@@ -57,7 +59,7 @@ impl<T: Lattice> TimeCounts<T> {
     /// Cost: logarithmic in the different times that are counted.
     pub(crate) fn add(&mut self, t: T) -> Result<(), Refusal>
         ensures counted { OnOk result (CountAlike self.new (t ∷ self.old)) }
-        ensures refused { IfErr result (λ refusal. refusal ≡ OutOfMemory) }
+        ensures refused { OnlyMemory result }
         ensures unchanged { OnErr result (self.new ≡ self.old) }
     {
         make_room(&mut self.moved, self.len)?;
@@ -97,9 +99,9 @@ impl<T: Lattice> TimeCounts<T> {
     ///
     /// Cost: linear in the different times that are counted, times the elements of the frontier.
     pub(crate) fn insert_into(&self, found: &mut Vec<T>) -> Result<(), Refusal>
-        ensures beyond { OnOk result ((s : T) → is_beyond T.below found.new.items s
-            ≡ (is_beyond T.below found.old.items s || is_beyond T.below self.now s)) }
-        ensures refused { IfErr result (λ refusal. refusal ≡ OutOfMemory) }
+        ensures beyond { OnOk result ((s : T) → is_beyond T.times found.new.items s
+            ≡ (is_beyond T.times found.old.items s || is_beyond T.times self.now s)) }
+        ensures refused { OnlyMemory result }
     {
         self.entries.insert_into(found)?;
         insert_all(found, self.moved.as_slice())?;
@@ -110,7 +112,7 @@ impl<T: Lattice> TimeCounts<T> {
     ///
     /// Cost: linear in the different times that are counted. The first such time settles it.
     pub(crate) fn is_any_before(&self, t: &T) -> bool
-        ensures { result ≡ is_beyond T.below self.now t.now }
+        ensures { result ≡ is_beyond T.times self.now t.now }
     {
         self.entries.is_any_before(t) || is_beyond(self.moved.as_slice(), t)
     }
@@ -122,7 +124,7 @@ fn make_room<T: Lattice>(moved: &mut Vec<T>, len: usize) -> Result<(), Refusal>
     ensures items { moved.new.items ≡ moved.old.items }
     ensures room { OnOk result (len < vec_capacity moved.new) }
     ensures capacity { vec_capacity moved.old ≤ vec_capacity moved.new }
-    ensures refused { IfErr result (λ refusal. refusal ≡ OutOfMemory) }
+    ensures refused { OnlyMemory result }
 {
     if len == usize::MAX {
         return Err(Refusal::OutOfMemory);

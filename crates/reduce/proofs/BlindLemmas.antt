@@ -19,8 +19,9 @@ use Rattle.reducer.specs.Refusals.{HasLargeSum}
 use Rattle.reduce.specs.Seen.{as_seen, without_rows}
 use Rattle.joined_times.specs.Joined.{Member, of_key, times_of, IsJoined}
 use Rattle.correction.specs.Corrections.{IsRight, IsTooLarge, IsTooMuch}
-use Rattle.key_history.specs.Standing.{KeyStands}
-use Rattle.key_history.specs.Settling.{Settling, ReadsAs, IsOverfullFor}
+use Rattle.key_history.specs.Duties.{KeyStands}
+use Rattle.key_history.specs.Settlements.{Settling, ReadsAs, IsOverfullFor}
+use Rattle.lattice.specs.Times.{Times}
 
 -- ---- lists
 
@@ -162,42 +163,42 @@ module _ (key : List ℤ) where
         step true e h = rw own_key (ap (λ z. as_seen false key u ∷ z) h)
         step false e h = rw e h
 
-    module _ (below : T → T → Bool) where
-      as_of-without : (t : T) (us : List (Update T)) → as_of below t (without_rows k key us) ≡ map bare_entry (as_of below t us)
+    module _ (times : Times T) where
+      as_of-without : (t : T) (us : List (Update T)) → as_of times t (without_rows k key us) ≡ map bare_entry (as_of times t us)
       as_of-without t [] = refl
-      as_of-without t (u ∷ us) = step (below u.time t) (as_of-without t us)
+      as_of-without t (u ∷ us) = step (times.below u.time t) (as_of-without t us)
         where
-          step : (b : Bool) → as_of below t (without_rows k key us) ≡ map bare_entry (as_of below t us)
-              → map entry (cond b (bare u ∷ filter (λ v. below v.time t) (without_rows k key us)) (filter (λ v. below v.time t) (without_rows k key us))) ≡ map bare_entry (map entry (cond b (u ∷ filter (λ v. below v.time t) us) (filter (λ v. below v.time t) us)))
+          step : (b : Bool) → as_of times t (without_rows k key us) ≡ map bare_entry (as_of times t us)
+              → map entry (cond b (bare u ∷ filter (λ v. times.below v.time t) (without_rows k key us)) (filter (λ v. times.below v.time t) (without_rows k key us))) ≡ map bare_entry (map entry (cond b (u ∷ filter (λ v. times.below v.time t) us) (filter (λ v. times.below v.time t) us)))
           step true h = ap (λ z. bare_entry (entry u) ∷ z) h
           step false h = h
 
-      reads_without : (front due : List T) (content taken : List (Update T)) → ReadsAs below front due content taken → ReadsAs below front due (without_rows k key content) (without_rows k key taken)
+      reads_without : (front due : List T) (content taken : List (Update T)) → ReadsAs times front due content taken → ReadsAs times front due (without_rows k key content) (without_rows k key taken)
       reads_without front due content taken h t m p row =
           ap (λ z. count_of z row) (as_of-without t content)
-          ∙ (bare_alike (as_of below t content) (as_of below t taken) (h t m p) row ∙ ap (λ z. count_of z row) (sym (as_of-without t taken)))
+          ∙ (bare_alike (as_of times t content) (as_of times t taken) (h t m p) row ∙ ap (λ z. count_of z row) (sym (as_of-without t taken)))
 
-      module _ (joined : T → T → T) (reduce : List ℤ → List Entry → List Entry) (blind : IsBlind k reduce) where
+      module _ (reduce : List ℤ → List Entry → List Entry) (blind : IsBlind k reduce) where
         same_answer : (taken : List (Update T)) (other row : List ℤ) (t : T)
-            → count_of (reduce other (filter (has_key k other) (as_of below t (without_rows k key taken)))) row ≡ count_of (reduce other (filter (has_key k other) (as_of below t taken))) row
+            → count_of (reduce other (filter (has_key k other) (as_of times t (without_rows k key taken)))) row ≡ count_of (reduce other (filter (has_key k other) (as_of times t taken))) row
         same_answer taken other row t =
-            ap (λ z. count_of (reduce other (filter (has_key k other) z)) row) (as_of-without t taken) ∙ bare_answer reduce blind other (as_of below t taken) row
+            ap (λ z. count_of (reduce other (filter (has_key k other) z)) row) (as_of-without t taken) ∙ bare_answer reduce blind other (as_of times t taken) row
 
-        right_without : (taken given : List (Update T)) (other : List ℤ) (t : T) → IsRight below k reduce taken given other t → IsRight below k reduce (without_rows k key taken) given other t
+        right_without : (taken given : List (Update T)) (other : List ℤ) (t : T) → IsRight times k reduce taken given other t → IsRight times k reduce (without_rows k key taken) given other t
         right_without taken given other t h row d = h row d ∙ sym (same_answer taken other row t)
 
-        right_with : (taken given : List (Update T)) (other : List ℤ) (t : T) → IsRight below k reduce (without_rows k key taken) given other t → IsRight below k reduce taken given other t
+        right_with : (taken given : List (Update T)) (other : List ℤ) (t : T) → IsRight times k reduce (without_rows k key taken) given other t → IsRight times k reduce taken given other t
         right_with taken given other t h row d = h row d ∙ same_answer taken other row t
 
         -- what is too large without rows is so with them
-        too_much_with : (taken given : List (Update T)) (other : List ℤ) (t : T) → IsTooMuch below k reduce (without_rows k key taken) given other t → IsTooMuch below k reduce taken given other t
-        too_much_with taken given other t (inl h) = inl (bare_large other (as_of below t taken) (subst (λ z. IsTooLarge (filter (has_key k other) z)) (as_of-without t taken) h))
+        too_much_with : (taken given : List (Update T)) (other : List ℤ) (t : T) → IsTooMuch times k reduce (without_rows k key taken) given other t → IsTooMuch times k reduce taken given other t
+        too_much_with taken given other t (inl h) = inl (bare_large other (as_of times t taken) (subst (λ z. IsTooLarge (filter (has_key k other) z)) (as_of-without t taken) h))
         too_much_with taken given other t (inr h) =
-            inr (h.0, h.1, λ fits. h.2 (subst (λ z. FitsSigned w64 (z +ℤ neg_ℤ (count_of (as_of below t given) h.0))) (sym (same_answer taken other h.0 t)) fits))
+            inr (h.0, h.1, λ fits. h.2 (subst (λ z. FitsSigned w64 (z +ℤ neg_ℤ (count_of (as_of times t given) h.0))) (sym (same_answer taken other h.0 t)) fits))
 
         -- a key stands after updates of the same times that are right where the others are
-        stands_alike : (a b given : List (Update T)) (due : List T) → times_of k key a ≡ times_of k key b → ((t : T) → IsRight below k reduce a given key t → IsRight below k reduce b given key t)
-            → KeyStands below joined k reduce a given key due → KeyStands below joined k reduce b given key due
+        stands_alike : (a b given : List (Update T)) (due : List T) → times_of k key a ≡ times_of k key b → ((t : T) → IsRight times k reduce a given key t → IsRight times k reduce b given key t)
+            → KeyStands times k reduce a given key due → KeyStands times k reduce b given key due
         stands_alike a b given due same right s = record {
           given_joined = λ g m e. there g.time (s.given_joined g m e);
           pending = λ t m. there t (s.pending t m);
@@ -205,20 +206,20 @@ module _ (key : List ℤ) where
           settled = λ t j. ⊎_elim inl (λ r. inr (right t r)) (s.settled t (back t j));
         }
           where
-            there : (t : T) → IsJoined joined k a key t → IsJoined joined k b key t
-            there t j = subst (λ z. Member t (joins_of joined z)) same j
+            there : (t : T) → IsJoined times k a key t → IsJoined times k b key t
+            there t j = subst (λ z. Member t (joins_of times z)) same j
 
-            back : (t : T) → IsJoined joined k b key t → IsJoined joined k a key t
-            back t j = subst (λ z. Member t (joins_of joined z)) (sym same) j
+            back : (t : T) → IsJoined times k b key t → IsJoined times k a key t
+            back t j = subst (λ z. Member t (joins_of times z)) (sym same) j
 
-        stands_without : (taken given : List (Update T)) (due : List T) → KeyStands below joined k reduce taken given key due → KeyStands below joined k reduce (without_rows k key taken) given key due
+        stands_without : (taken given : List (Update T)) (due : List T) → KeyStands times k reduce taken given key due → KeyStands times k reduce (without_rows k key taken) given key due
         stands_without taken given due = stands_alike taken (without_rows k key taken) given due (sym (same_times key taken)) (right_without taken given key)
 
-        stands_with : (taken given : List (Update T)) (due : List T) → KeyStands below joined k reduce (without_rows k key taken) given key due → KeyStands below joined k reduce taken given key due
+        stands_with : (taken given : List (Update T)) (due : List T) → KeyStands times k reduce (without_rows k key taken) given key due → KeyStands times k reduce taken given key due
         stands_with taken given due = stands_alike (without_rows k key taken) taken given due (same_times key taken) (right_with taken given key)
 
         module _ (content stored : List (Update T)) (front due : List T) where
-          settles_with : (i : ℕ) (more : List (Update T)) (rest : List T) → Settling below joined k reduce key (without_rows k key content) stored front due i more rest → Settling below joined k reduce key content stored front due i more rest
+          settles_with : (i : ℕ) (more : List (Update T)) (rest : List T) → Settling times k reduce key (without_rows k key content) stored front due i more rest → Settling times k reduce key content stored front due i more rest
           settles_with i more rest s = record {
             rest_is = s.rest_is;
             stands = λ since taken given be rd sh w.
@@ -229,7 +230,7 @@ module _ (key : List ℤ) where
             nonzero = s.nonzero;
           }
 
-          overfull_with : IsOverfullFor below joined k reduce key (without_rows k key content) stored front due → IsOverfullFor below joined k reduce key content stored front due
+          overfull_with : IsOverfullFor times k reduce key (without_rows k key content) stored front due → IsOverfullFor times k reduce key content stored front due
           overfull_with h since taken given be rd sh w apart settled passed =
               let z = h since (without_rows k key taken) given be (reads_without front due content taken rd) sh (stands_without taken given due w) apart settled passed in
               let at = z.3 in (
@@ -259,7 +260,7 @@ module _ {T : Type 0} (sees : Bool) (key : List ℤ) (content rows : List (Updat
   pub seen_length : length rows ≡ length (filter (of_key (length key) key) content)
   seen_length = ap length read ∙ length-map (filter (of_key (length key) key) content) (as_seen sees key)
 
-  module _ (below : T → T → Bool) (joined : T → T → T) (reduce : List ℤ → List Entry → List Entry) (blind : sees ≡ false → IsBlind (length key) reduce) (stored : List (Update T)) (front due : List T) where
+  module _ (times : Times T) (reduce : List ℤ → List Entry → List Entry) (blind : sees ≡ false → IsBlind (length key) reduce) (stored : List (Update T)) (front due : List T) where
     -- whatever can be said of all updates whose part of the key was given and carries over from
     -- those without rows, can be said of the updates
     carried : (P : List (Update T) → Type 0) → (IsBlind (length key) reduce → P (without_rows (length key) key content) → P content)
@@ -272,12 +273,12 @@ module _ {T : Type 0} (sees : Bool) (key : List ℤ) (content rows : List (Updat
 
     -- a key whose pending times are settled from what was given is settled
     pub seen_settles : (i : ℕ) (more : List (Update T)) (rest : List T)
-        → ((us : List (Update T)) → rows ≡ filter (of_key (length key) key) us → Settling below joined (length key) reduce key us stored front due i more rest)
-        → Settling below joined (length key) reduce key content stored front due i more rest
+        → ((us : List (Update T)) → rows ≡ filter (of_key (length key) key) us → Settling times (length key) reduce key us stored front due i more rest)
+        → Settling times (length key) reduce key content stored front due i more rest
     seen_settles i more rest =
-        carried (λ us. Settling below joined (length key) reduce key us stored front due i more rest) (λ b. settles_with key below joined reduce b content stored front due i more rest)
+        carried (λ us. Settling times (length key) reduce key us stored front due i more rest) (λ b. settles_with key times reduce b content stored front due i more rest)
 
     -- and the cause of a refusal is one
-    pub seen_overfull : ((us : List (Update T)) → rows ≡ filter (of_key (length key) key) us → IsOverfullFor below joined (length key) reduce key us stored front due)
-        → IsOverfullFor below joined (length key) reduce key content stored front due
-    seen_overfull = carried (λ us. IsOverfullFor below joined (length key) reduce key us stored front due) (λ b. overfull_with key below joined reduce b content stored front due)
+    pub seen_overfull : ((us : List (Update T)) → rows ≡ filter (of_key (length key) key) us → IsOverfullFor times (length key) reduce key us stored front due)
+        → IsOverfullFor times (length key) reduce key content stored front due
+    seen_overfull = carried (λ us. IsOverfullFor times (length key) reduce key us stored front due) (λ b. overfull_with key times reduce b content stored front due)

@@ -7,7 +7,7 @@ use Rattle.std.proofs.lemmas.Option.{same_Some}
 use Rattle.update.specs.declared.change.Update.{Update}
 use Rattle.joined_times.specs.Joined.{Member, AreOnce}
 use Rattle.reduce.specs.Histories.{HistoryState, AreKeysApart, changed_at, given_more, given_less, due_left}
-use Rattle.reduce.specs.Visiting.{ChangeState, AreCut, all_given, all_taken_back, all_left, all_changed}
+use Rattle.reduce.specs.Visits.{ChangeState, AreCut, all_given, all_taken_back, all_left, all_changed}
 use Rattle.reduce.proofs.HistoryLemmas.{keys_kept}
 
 module _ {X : Type 0} where

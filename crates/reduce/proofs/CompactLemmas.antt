@@ -5,6 +5,7 @@ use Rattle.std.specs.List.Sorted.{IsStrictlySortedBy}
 use Rattle.std.specs.declared.cmp.Ordering.{Ordering}
 use Rattle.std.proofs.lemmas.Bool.{cases_lt}
 use Rattle.std.proofs.lemmas.Option.{same_Some}
+use Rattle.lattice.specs.Times.{Times}
 use Rattle.lattice.specs.Order.{PartialOrderLaws, LatticeLaws}
 use Rattle.lattice.specs.Frontiers.{all_beyond}
 use Rattle.lattice.proofs.FrontierLemmas.{beyond_later}
@@ -14,7 +15,7 @@ use Rattle.update.specs.declared.change.Update.{Update}
 use Rattle.joined_times.specs.Joined.{JoinAlike, of_key, times_of}
 use Rattle.joined_times.proofs.AlikeLemmas.{alike_later}
 use Rattle.key_history.specs.Compaction.{IsCompacted, StandsBeyond}
-use Rattle.key_history.specs.Standing.{KeyStands}
+use Rattle.key_history.specs.Duties.{KeyStands}
 use Rattle.key_history.proofs.CompactionLemmas.{alike_itself, alike_through, alike_append, beyond_itself, beyond_append, compacted_itself, compacted_through}
 use Rattle.reduce.specs.Compacted.{AreCompacted}
 use Rattle.reduce.specs.Histories.{HistoryState, AreHistories, IsWaiting, due_of, given_of, joined_of}
@@ -23,42 +24,42 @@ use Rattle.reduce.specs.Reductions.{StandsFor}
 module _ {T : Type 0} where
   -- a history with other joined times and another list of what was given
   abbrev pub moved : List T → List (Update T) → HistoryState T → HistoryState T
-  moved times given h = record h { times = times; given = given }
+  moved ts given h = record h { times = ts; given = given }
 
-module _ {T : Type 0} (below : T → T → Bool) (cmp : T → T → Ordering) (joined : T → T → T) (since : List T) where
+module _ {T : Type 0} (times : Times T) (cmp : T → T → Ordering) (since : List T) where
   abbrev All : List (HistoryState T) → List (HistoryState T) → Type 0
-  All = AreCompacted below cmp joined since
+  All = AreCompacted times cmp since
 
   -- a history that is compacted has other times and another list alone
-  pub is_moved : (old new : HistoryState T) → IsCompacted below cmp joined since old new → new ≡ moved new.times new.given old
+  pub is_moved : (old new : HistoryState T) → IsCompacted times cmp since old new → new ≡ moved new.times new.given old
   is_moved old new c = ap (λ k. record new { key = k }) c.key_is ∙ ap (λ d. record new { key = old.key; due = d }) c.due_is
 
-  pub all_itself : (hs : List (HistoryState T)) → AreCompacted below cmp joined since hs hs
+  pub all_itself : (hs : List (HistoryState T)) → AreCompacted times cmp since hs hs
   all_itself [] = tt
-  all_itself (h ∷ hs) = (compacted_itself below cmp joined since h, all_itself hs)
+  all_itself (h ∷ hs) = (compacted_itself times cmp since h, all_itself hs)
 
-  pub all_through : (xs ys zs : List (HistoryState T)) → AreCompacted below cmp joined since xs ys → AreCompacted below cmp joined since ys zs → AreCompacted below cmp joined since xs zs
+  pub all_through : (xs ys zs : List (HistoryState T)) → AreCompacted times cmp since xs ys → AreCompacted times cmp since ys zs → AreCompacted times cmp since xs zs
   all_through [] [] zs a b = b
   all_through [] (y ∷ ys) zs a b = absurd a
   all_through (x ∷ xs) [] zs a b = absurd a
   all_through (x ∷ xs) (y ∷ ys) [] a b = absurd b
-  all_through (x ∷ xs) (y ∷ ys) (z ∷ zs) a b = (compacted_through below cmp joined since x y z a.0 b.0, all_through xs ys zs a.1 b.1)
+  all_through (x ∷ xs) (y ∷ ys) (z ∷ zs) a b = (compacted_through times cmp since x y z a.0 b.0, all_through xs ys zs a.1 b.1)
 
   -- one of them is
-  pub one_compacted : (hs : List (HistoryState T)) (i : ℕ) (old new : HistoryState T) → slice_get hs i ≡ Some old → IsCompacted below cmp joined since old new → AreCompacted below cmp joined since hs (set hs i new)
+  pub one_compacted : (hs : List (HistoryState T)) (i : ℕ) (old new : HistoryState T) → slice_get hs i ≡ Some old → IsCompacted times cmp since old new → AreCompacted times cmp since hs (set hs i new)
   one_compacted [] i old new e c = tt
-  one_compacted (h ∷ hs) zero old new e c = (subst (λ z. IsCompacted below cmp joined since z new) (sym (same_Some h old e)) c, all_itself hs)
-  one_compacted (h ∷ hs) (suc i) old new e c = (compacted_itself below cmp joined since h, one_compacted hs i old new e c)
+  one_compacted (h ∷ hs) zero old new e c = (subst (λ z. IsCompacted times cmp since z new) (sym (same_Some h old e)) c, all_itself hs)
+  one_compacted (h ∷ hs) (suc i) old new e c = (compacted_itself times cmp since h, one_compacted hs i old new e c)
 
   -- as many as before
-  pub compacted_length : (hs gs : List (HistoryState T)) → AreCompacted below cmp joined since hs gs → length gs ≡ length hs
+  pub compacted_length : (hs gs : List (HistoryState T)) → AreCompacted times cmp since hs gs → length gs ≡ length hs
   compacted_length [] [] a = refl
   compacted_length [] (g ∷ gs) a = absurd a
   compacted_length (h ∷ hs) [] a = absurd a
   compacted_length (h ∷ hs) (g ∷ gs) a = ap suc (compacted_length hs gs a.1)
 
   -- the pending times of each key stay
-  pub compacted_due : (key : List ℤ) (hs gs : List (HistoryState T)) → AreCompacted below cmp joined since hs gs → due_of key gs ≡ due_of key hs
+  pub compacted_due : (key : List ℤ) (hs gs : List (HistoryState T)) → AreCompacted times cmp since hs gs → due_of key gs ≡ due_of key hs
   compacted_due key [] [] a = refl
   compacted_due key [] (g ∷ gs) a = absurd a
   compacted_due key (h ∷ hs) [] a = absurd a
@@ -68,33 +69,33 @@ module _ {T : Type 0} (below : T → T → Bool) (cmp : T → T → Ordering) (j
       ∙ ap (λ z. cond (same_row h.key key) h.due [] ++ z) (compacted_due key hs gs a.1))
 
   -- the kept times of each key join alike
-  pub compacted_joined : (key : List ℤ) (hs gs : List (HistoryState T)) → AreCompacted below cmp joined since hs gs → JoinAlike below joined since (joined_of key gs) (joined_of key hs)
-  compacted_joined key [] [] a = alike_itself below joined since []
+  pub compacted_joined : (key : List ℤ) (hs gs : List (HistoryState T)) → AreCompacted times cmp since hs gs → JoinAlike times since (joined_of key gs) (joined_of key hs)
+  compacted_joined key [] [] a = alike_itself times since []
   compacted_joined key [] (g ∷ gs) a = absurd a
   compacted_joined key (h ∷ hs) [] a = absurd a
   compacted_joined key (h ∷ hs) (g ∷ gs) a =
-      subst (λ z. JoinAlike below joined since (cond (same_row z key) g.times [] ++ joined_of key gs) (joined_of key (h ∷ hs))) (sym a.0.key_is)
-      (alike_append below joined since (cond (same_row h.key key) g.times []) (cond (same_row h.key key) h.times []) (joined_of key gs) (joined_of key hs) (step (same_row h.key key)) (compacted_joined key hs gs a.1))
+      subst (λ z. JoinAlike times since (cond (same_row z key) g.times [] ++ joined_of key gs) (joined_of key (h ∷ hs))) (sym a.0.key_is)
+      (alike_append times since (cond (same_row h.key key) g.times []) (cond (same_row h.key key) h.times []) (joined_of key gs) (joined_of key hs) (step (same_row h.key key)) (compacted_joined key hs gs a.1))
     where
-      step : (b : Bool) → JoinAlike below joined since (cond b g.times []) (cond b h.times [])
-      step true = a.0.times
-      step false = alike_itself below joined since []
+      step : (b : Bool) → JoinAlike times since (cond b g.times []) (cond b h.times [])
+      step true = a.0.alike
+      step false = alike_itself times since []
 
   -- what was given of each key sums to the same
-  pub compacted_given : (key : List ℤ) (hs gs : List (HistoryState T)) → AreCompacted below cmp joined since hs gs → StandsBeyond below since (given_of key hs) (given_of key gs)
-  compacted_given key [] [] a = beyond_itself below since []
+  pub compacted_given : (key : List ℤ) (hs gs : List (HistoryState T)) → AreCompacted times cmp since hs gs → StandsBeyond times since (given_of key hs) (given_of key gs)
+  compacted_given key [] [] a = beyond_itself times since []
   compacted_given key [] (g ∷ gs) a = absurd a
   compacted_given key (h ∷ hs) [] a = absurd a
   compacted_given key (h ∷ hs) (g ∷ gs) a =
-      subst (λ z. StandsBeyond below since (given_of key (h ∷ hs)) (cond (same_row z key) g.given [] ++ given_of key gs)) (sym a.0.key_is)
-      (beyond_append below since (cond (same_row h.key key) h.given []) (cond (same_row h.key key) g.given []) (given_of key hs) (given_of key gs) (step (same_row h.key key)) (compacted_given key hs gs a.1))
+      subst (λ z. StandsBeyond times since (given_of key (h ∷ hs)) (cond (same_row z key) g.given [] ++ given_of key gs)) (sym a.0.key_is)
+      (beyond_append times since (cond (same_row h.key key) h.given []) (cond (same_row h.key key) g.given []) (given_of key hs) (given_of key gs) (step (same_row h.key key)) (compacted_given key hs gs a.1))
     where
-      step : (b : Bool) → StandsBeyond below since (cond b h.given []) (cond b g.given [])
+      step : (b : Bool) → StandsBeyond times since (cond b h.given []) (cond b g.given [])
       step true = a.0.given
-      step false = beyond_itself below since []
+      step false = beyond_itself times since []
 
   -- they are histories still
-  pub compacted_known : (k : ℕ) (hs gs : List (HistoryState T)) → AreCompacted below cmp joined since hs gs → AreHistories cmp k hs → AreHistories cmp k gs
+  pub compacted_known : (k : ℕ) (hs gs : List (HistoryState T)) → AreCompacted times cmp since hs gs → AreHistories cmp k hs → AreHistories cmp k gs
   compacted_known k [] [] a known = tt
   compacted_known k [] (g ∷ gs) a known = absurd a
   compacted_known k (h ∷ hs) [] a known = absurd a
@@ -109,13 +110,13 @@ module _ {T : Type 0} (below : T → T → Bool) (cmp : T → T → Ordering) (j
   )
 
   -- the same keys wait
-  pub compacted_waits : (hs gs : List (HistoryState T)) → AreCompacted below cmp joined since hs gs → (places : List ℕ) → IsWaiting hs places → IsWaiting gs places
+  pub compacted_waits : (hs gs : List (HistoryState T)) → AreCompacted times cmp since hs gs → (places : List ℕ) → IsWaiting hs places → IsWaiting gs places
   compacted_waits hs gs a places w = record {
     once = w.once;
     exact = λ i. ((λ m. (same hs gs i a).0 ((w.exact i).0 m)), (λ s. (w.exact i).1 ((same hs gs i a).1 s)));
   }
     where
-      same : (hs gs : List (HistoryState T)) (i : ℕ) → AreCompacted below cmp joined since hs gs → IsSomeAnd (slice_get hs i) (λ h. h.due ≢ []) ↔ IsSomeAnd (slice_get gs i) (λ h. h.due ≢ [])
+      same : (hs gs : List (HistoryState T)) (i : ℕ) → AreCompacted times cmp since hs gs → IsSomeAnd (slice_get hs i) (λ h. h.due ≢ []) ↔ IsSomeAnd (slice_get gs i) (λ h. h.due ≢ [])
       same [] [] i a = ((λ s. s), (λ s. s))
       same [] (g ∷ gs) i a = absurd a
       same (h ∷ hs) [] i a = absurd a
@@ -177,18 +178,18 @@ module _ {T : Type 0} (P : HistoryState T → Type 0) where
   pub folded_all : (i : ℕ) (old new : List (HistoryState T)) → length new ≤ i → AreFoldedTo P i old new → (k : ℕ) (h : HistoryState T) → slice_get new k ≡ Some h → P h
   folded_all i old new l a k h at = let w = within_get new k h at in a.folded k h (omega (arith, l, w)) at
 
-module _ {T : Type 0} {below : T → T → Bool} {joined met : T → T → T} (cmp : T → T → Ordering) (o : PartialOrderLaws below) (l : LatticeLaws below joined met) (since : List T) (hs gs : List (HistoryState T)) (all : AreCompacted below cmp joined since hs gs) where
+module _ {T : Type 0} {times : Times T} (cmp : T → T → Ordering) (o : PartialOrderLaws times) (l : LatticeLaws times) (since : List T) (hs gs : List (HistoryState T)) (all : AreCompacted times cmp since hs gs) where
   -- what stood as of an earlier since stands as of this one
-  pub stands_compacted : (k : ℕ) (reduce : List ℤ → List Entry → List Entry) (earlier : List T) (taken given : List (Update T)) → IsTrue (all_beyond below earlier since)
-      → StandsFor below earlier joined k reduce hs taken given → StandsFor below since joined k reduce gs taken given
+  pub stands_compacted : (k : ℕ) (reduce : List ℤ → List Entry → List Entry) (earlier : List T) (taken given : List (Update T)) → IsTrue (all_beyond times earlier since)
+      → StandsFor times earlier k reduce hs taken given → StandsFor times since k reduce gs taken given
   stands_compacted k reduce earlier taken given a st = record {
     wide = st.wide;
-    times = λ key.
-        alike_through below joined since (joined_of key gs) (joined_of key hs) (joins_of joined (times_of k key taken)) (compacted_joined below cmp joined since key hs gs all)
-        (alike_later o l earlier since (joined_of key hs) (joins_of joined (times_of k key taken)) a (st.times key));
-    keys = λ key. subst (KeyStands below joined k reduce taken given key) (sym (compacted_due below cmp joined since key hs gs all)) (st.keys key);
+    joins = λ key.
+        alike_through times since (joined_of key gs) (joined_of key hs) (joins_of times (times_of k key taken)) (compacted_joined times cmp since key hs gs all)
+        (alike_later o l earlier since (joined_of key hs) (joins_of times (times_of k key taken)) a (st.joins key));
+    keys = λ key. subst (KeyStands times k reduce taken given key) (sym (compacted_due times cmp since key hs gs all)) (st.keys key);
     shown = λ key.
-        let s = compacted_given below cmp joined since key hs gs all in
+        let s = compacted_given times cmp since key hs gs all in
         record {
           sums = λ t row h d. s.sums t h row ∙ (st.shown key).sums t row (beyond_later o earlier since t a h) d;
           smaller = let x = s.smaller in let y = (st.shown key).smaller in omega (arith, x, y);

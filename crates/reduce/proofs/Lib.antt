@@ -8,7 +8,7 @@ pub mod HistoryLemmas
 pub mod LawLemmas
 pub mod OutputLemmas
 pub mod PermutedLemmas
-pub mod ReadingLemmas
+pub mod KeyRowLemmas
 pub mod ReadyLemmas
 pub mod RenewLemmas
 pub mod RestLemmas
@@ -16,7 +16,7 @@ pub mod RowLemmas
 pub mod RunLemmas
 pub mod StandLemmas
 pub mod TakenLemmas
-pub mod TakingLemmas
+pub mod IntakeLemmas
 pub mod TraceLemmas
 pub mod VisitLemmas
-pub mod WaitingLemmas
+pub mod WaitLemmas

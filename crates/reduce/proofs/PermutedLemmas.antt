@@ -6,6 +6,7 @@ use Rattle.std.specs.List.Sorted.{IsPermutation}
 use Rattle.std.proofs.lemmas.List.Sorted.{Contains-permutation, IsPermutation-sym, sum_by-IsPermutation}
 use Rattle.std.proofs.lemmas.List.Recursion.{is_sum_by}
 use Rattle.std.proofs.lemmas.Bool.{and_parts, and_from}
+use Rattle.lattice.specs.Times.{Times}
 use Rattle.lattice.specs.Order.{PartialOrderLaws, LatticeLaws}
 use Rattle.update.specs.Bags.{Entry, count_of, same_row}
 use Rattle.update.specs.Joins.{joins_of}
@@ -14,10 +15,10 @@ use Rattle.update.specs.declared.change.Update.{Update}
 use Rattle.update.proofs.SumLemmas.{total_by-permutation}
 use Rattle.plan.specs.Reductions.{IsReducer}
 use Rattle.joined_times.specs.Joined.{Member, of_key, times_of, IsJoined, JoinAlike}
-use Rattle.joined_times.specs.Adding.{SameMembers}
+use Rattle.joined_times.specs.Additions.{SameMembers}
 use Rattle.reduce.specs.Histories.{HistoryState, due_of, joined_of, given_of}
 use Rattle.correction.specs.Corrections.{IsRight}
-use Rattle.key_history.specs.Standing.{KeyStands}
+use Rattle.key_history.specs.Duties.{KeyStands}
 use Rattle.reduce.specs.Reductions.{StandsFor}
 use Rattle.joined_times.proofs.MemberLemmas.{member_from_contains, contains_from_member, image_in, image_of}
 use Rattle.joined_times.proofs.JoinLemmas.{joins_same}
@@ -90,29 +91,29 @@ module _ {T : Type 0} where
   size_kept q us vs p =
       sym (weight_is (filter q us)) ∙ (weight_kept q us ∙ (sym (sum_by-IsPermutation (λ u. cond (q u) (unsigned_abs u.diff) 0) us vs p) ∙ (sym (weight_kept q vs) ∙ weight_is (filter q vs))))
 
-  sum_same : (below : T → T → Bool) (t : T) (us vs : List (Update T)) → IsPermutation us vs → (row : List ℤ) → count_of (as_of below t us) row ≡ count_of (as_of below t vs) row
-  sum_same below t us vs p row = through_is below row t us ∙ (total_by-permutation (λ u. cond (below u.time t) (value row u) (pos 0)) us vs p ∙ sym (through_is below row t vs))
+  sum_same : (times : Times T) (t : T) (us vs : List (Update T)) → IsPermutation us vs → (row : List ℤ) → count_of (as_of times t us) row ≡ count_of (as_of times t vs) row
+  sum_same times t us vs p row = through_is times row t us ∙ (total_by-permutation (λ u. cond (times.below u.time t) (value row u) (pos 0)) us vs p ∙ sym (through_is times row t vs))
 
-module _ {T : Type 0} {below : T → T → Bool} {joined met : T → T → T} (o : PartialOrderLaws below) (l : LatticeLaws below joined met)
+module _ {T : Type 0} {times : Times T} (o : PartialOrderLaws times) (l : LatticeLaws times)
     (k : ℕ) (reduce : List ℤ → List Entry → List Entry) (q : IsReducer k reduce)
     (hs : List (HistoryState T)) (taken taken2 given given2 : List (Update T)) (p : IsPermutation taken taken2) (r : IsPermutation given given2) where
-  same_joined : (key : List ℤ) (t : T) → IsJoined joined k taken key t ↔ IsJoined joined k taken2 key t
+  same_joined : (key : List ℤ) (t : T) → IsJoined times k taken key t ↔ IsJoined times k taken2 key t
   same_joined key t = joins_same o l (times_of k key taken) (times_of k key taken2) (times_same k key taken taken2 (permuted taken taken2 p)) t
 
   -- times join alike with the same times in another order
-  alike_same : (since xs ys zs : List T) → SameMembers ys zs → JoinAlike below joined since xs ys → JoinAlike below joined since xs zs
+  alike_same : (since xs ys zs : List T) → SameMembers ys zs → JoinAlike times since xs ys → JoinAlike times since xs zs
   alike_same since xs ys zs same alike n t h = (
     λ r. let s = (alike n t h).0 r in (s.0, (same s.0).0 s.1, s.2),
     λ r. (alike n t h).1 (r.0, (same r.0).1 r.1, r.2),
   )
 
-  same_right : (key : List ℤ) (t : T) → IsRight below k reduce taken given key t → IsRight below k reduce taken2 given2 key t
+  same_right : (key : List ℤ) (t : T) → IsRight times k reduce taken given key t → IsRight times k reduce taken2 given2 key t
   same_right key t h row d =
-      sym (sum_same below t given given2 r row)
-      ∙ (h row d ∙ q.alike key (filter (λ e. same_row (take k e.row) key) (as_of below t taken)) (filter (λ e. same_row (take k e.row) key) (as_of below t taken2))
-      (had-alike below k key t taken taken2 (sum_same below t taken taken2 p)) row)
+      sym (sum_same times t given given2 r row)
+      ∙ (h row d ∙ q.alike key (filter (λ e. same_row (take k e.row) key) (as_of times t taken)) (filter (λ e. same_row (take k e.row) key) (as_of times t taken2))
+      (had-alike times k key t taken taken2 (sum_same times t taken taken2 p)) row)
 
-  same_key : (key : List ℤ) (due : List T) → KeyStands below joined k reduce taken given key due → KeyStands below joined k reduce taken2 given2 key due
+  same_key : (key : List ℤ) (due : List T) → KeyStands times k reduce taken given key due → KeyStands times k reduce taken2 given2 key due
   same_key key due h = record {
     given_joined = λ g m d. (same_joined key g.time).0 (h.given_joined g ((permuted given given2 r g).1 m) d);
     pending = λ t m. (same_joined key t).0 (h.pending t m);
@@ -120,13 +121,13 @@ module _ {T : Type 0} {below : T → T → Bool} {joined met : T → T → T} (o
     settled = λ t j. ⊎_elim inl (λ x. inr (same_right key t x)) (h.settled t ((same_joined key t).1 j));
   }
 
-  pub stands_permuted : (since : List T) → StandsFor below since joined k reduce hs taken given → StandsFor below since joined k reduce hs taken2 given2
+  pub stands_permuted : (since : List T) → StandsFor times since k reduce hs taken given → StandsFor times since k reduce hs taken2 given2
   stands_permuted since h = record {
     wide = all_from (λ u. nat_le k (length u.row)) taken2 (λ u m. all_to (λ u. nat_le k (length u.row)) taken h.wide u ((permuted taken taken2 p u).1 m));
-    times = λ key. alike_same since (joined_of key hs) (joins_of joined (times_of k key taken)) (joins_of joined (times_of k key taken2)) (same_joined key) (h.times key);
+    joins = λ key. alike_same since (joined_of key hs) (joins_of times (times_of k key taken)) (joins_of times (times_of k key taken2)) (same_joined key) (h.joins key);
     keys = λ key. same_key key (due_of key hs) (h.keys key);
     shown = λ key. record {
-      sums = λ t row late d. (h.shown key).sums t row late d ∙ sum_same below t given given2 r row;
+      sums = λ t row late d. (h.shown key).sums t row late d ∙ sum_same times t given given2 r row;
       smaller = subst (λ z. size (given_of key hs) ≤ z) (size_kept (of_key k key) given given2 r) (h.shown key).smaller;
     };
   }

@@ -9,13 +9,14 @@ use Rattle.std.proofs.lemmas.List.Folds.{list_all-append}
 use Rattle.std.proofs.lemmas.List.Kept.{IsStrictlySortedBy-filter}
 use Rattle.std.proofs.lemmas.List.Recursion.{is_sum_by}
 use Rattle.std.proofs.lemmas.Option.{same_Some, none-some}
+use Rattle.lattice.specs.Times.{Times}
 use Rattle.lattice.specs.Frontiers.{is_beyond}
 use Rattle.update.specs.Bags.{Entry}
 use Rattle.update.specs.declared.change.Update.{Update}
 use Rattle.joined_times.specs.Joined.{Member, AreOnce, of_key}
 use Rattle.reduce.specs.Histories.{HistoryState, IsHistory, AreHistories, IsWaiting}
 use Rattle.reduce.specs.Reductions.{reads_in, all_reads}
-use Rattle.reduce.specs.Visiting.{Visit, AreVisits, renewed, all_renewed, waits_on, reads_of}
+use Rattle.reduce.specs.Visits.{Visit, AreVisits, renewed, all_renewed, waits_on, reads_of}
 use Rattle.joined_times.proofs.MemberLemmas.{in_either, in_left, in_right, image_in, image_of}
 use Rattle.reduce.proofs.RenewLemmas.{set_other, some_there, visits_after, own_more}
 use Rattle.key_history.proofs.SettleLemmas.{take_whole}
@@ -41,7 +42,7 @@ summed f (x ∷ xs) = f x + summed f xs
 summed_is : {X : Type 0} (f : X → ℕ) (xs : List X) → summed f xs ≡ sum_by f xs
 summed_is f xs = is_sum_by (summed f) f refl (λ _ _. refl) xs
 
-module _ {T : Type 0} (below : T → T → Bool) (front : List T) (joined : T → T → T) (reduce : List ℤ → List Entry → List Entry) (content : List (Update T)) where
+module _ {T : Type 0} (times : Times T) (front : List T) (reduce : List ℤ → List Entry → List Entry) (content : List (Update T)) where
   abbrev places : List (Visit T) → List ℕ
   places vs = map (λ v. v.place) vs
 
@@ -51,11 +52,11 @@ module _ {T : Type 0} (below : T → T → Bool) (front : List T) (joined : T �
   elsewhere (v ∷ vs) hs i n = elsewhere vs (set hs v.place (renewed v)) i (λ m. n (inr m)) ∙ set_other hs v.place i (renewed v) (λ e. n (inl (sym e)))
 
   -- at the place of a visit is the history that it renewed
-  renewed_there : (vs : List (Visit T)) (hs : List (HistoryState T)) → AreOnce (places vs) → AreVisits below front joined reduce content hs vs → (v : Visit T) → Member v vs → slice_get (all_renewed vs hs) v.place ≡ Some (renewed v)
+  renewed_there : (vs : List (Visit T)) (hs : List (HistoryState T)) → AreOnce (places vs) → AreVisits times front reduce content hs vs → (v : Visit T) → Member v vs → slice_get (all_renewed vs hs) v.place ≡ Some (renewed v)
   renewed_there (w ∷ vs) hs o a v (inl e) =
       subst (λ z. slice_get (all_renewed vs (set hs w.place (renewed w))) z.place ≡ Some (renewed z)) (sym e)
       (elsewhere vs (set hs w.place (renewed w)) w.place o.0 ∙ set_here hs w.place (renewed w) w.history a.0.there)
-  renewed_there (w ∷ vs) hs o a v (inr m) = renewed_there vs (set hs w.place (renewed w)) o.1 (visits_after below front joined reduce content hs w vs o.0 a.1) v m
+  renewed_there (w ∷ vs) hs o a v (inr m) = renewed_there vs (set hs w.place (renewed w)) o.1 (visits_after times front reduce content hs w vs o.0 a.1) v m
   renewed_there [] hs o a v m = absurd m
 
   waits : (v : Visit T) → v.rest ≢ [] → waits_on v ≡ v.place ∷ []
@@ -98,7 +99,7 @@ module _ {T : Type 0} (below : T → T → Bool) (front : List T) (joined : T �
       ((λ m. let r = waiting_in vs v.place m in o.0 (subst (λ z. Member z (places vs)) r.2 (image_in (λ (v : Visit T). v.place) r.0 vs r.1))), waiting_once vs o.1))
       (empty_or v.rest)
 
-  pub waiting_after : (vs : List (Visit T)) (hs : List (HistoryState T)) → AreOnce (places vs) → AreVisits below front joined reduce content hs vs → IsWaiting hs (places vs) → IsWaiting (all_renewed vs hs) (flat_map waits_on vs)
+  pub waiting_after : (vs : List (Visit T)) (hs : List (HistoryState T)) → AreOnce (places vs) → AreVisits times front reduce content hs vs → IsWaiting hs (places vs) → IsWaiting (all_renewed vs hs) (flat_map waits_on vs)
   waiting_after vs hs o a w = record {
     once = waiting_once vs o;
     exact = λ i. (there i, back i);
@@ -145,27 +146,27 @@ module _ {T : Type 0} (below : T → T → Bool) (front : List T) (joined : T �
   all_of p [] h = refl
   all_of p (u ∷ us) h = and_from (p u) (list_all p us) (h u (inl refl)) (all_of p us (λ v m. h v (inr m)))
 
-  pub histories_after : (cmp : T → T → Ordering) (k : ℕ) (vs : List (Visit T)) (hs : List (HistoryState T)) → AreOnce (places vs) → AreVisits below front joined reduce content hs vs → AreHistories cmp k hs → AreHistories cmp k (all_renewed vs hs)
+  pub histories_after : (cmp : T → T → Ordering) (k : ℕ) (vs : List (Visit T)) (hs : List (HistoryState T)) → AreOnce (places vs) → AreVisits times front reduce content hs vs → AreHistories cmp k hs → AreHistories cmp k (all_renewed vs hs)
   histories_after cmp k [] hs o a known = known
   histories_after cmp k (v ∷ vs) hs o a known =
       let h = history_there cmp k hs v.place v.history a.0.there known in
-      let own = own_more below front joined reduce content k cmp hs known v a.0 in
+      let own = own_more times front reduce content k cmp hs known v a.0 in
       let one : IsHistory cmp k (renewed v) = record {
         width = h.width;
         times = h.times;
-        due = subst (IsStrictlySortedBy cmp) (sym (a.0.settled.rest_is ∙ ap (filter (λ t. is_beyond below front t)) (take_whole v.history.due))) (IsStrictlySortedBy-filter cmp (λ t. is_beyond below front t) v.history.due h.due);
+        due = subst (IsStrictlySortedBy cmp) (sym (a.0.settled.rest_is ∙ ap (filter (λ t. is_beyond times front t)) (take_whole v.history.due))) (IsStrictlySortedBy-filter cmp (λ t. is_beyond times front t) v.history.due h.due);
         keyed = list_all-append (of_key k v.history.key) v.history.given v.more ∙ and_from (list_all (of_key k v.history.key) v.history.given) (list_all (of_key k v.history.key) v.more) h.keyed (all_of (of_key k v.history.key) v.more own.1);
       } in
-      histories_after cmp k vs (set hs v.place (renewed v)) o.1 (visits_after below front joined reduce content hs v vs o.0 a.1) (histories_set cmp k hs v.place (renewed v) known one)
+      histories_after cmp k vs (set hs v.place (renewed v)) o.1 (visits_after times front reduce content hs v vs o.0 a.1) (histories_set cmp k hs v.place (renewed v) known one)
 
   -- ---- how much was read
 
-  pub reads_are_all : (vs : List (Visit T)) (hs : List (HistoryState T)) → AreVisits below front joined reduce content hs vs → sum_by (reads_of below front content) vs ≡ all_reads below front content hs (places vs)
-  reads_are_all vs hs a = sym (summed_is (reads_of below front content) vs) ∙ (go vs a ∙ summed_is (λ i. reads_in below front content (slice_get hs i)) (places vs))
+  pub reads_are_all : (vs : List (Visit T)) (hs : List (HistoryState T)) → AreVisits times front reduce content hs vs → sum_by (reads_of times front content) vs ≡ all_reads times front content hs (places vs)
+  reads_are_all vs hs a = sym (summed_is (reads_of times front content) vs) ∙ (go vs a ∙ summed_is (λ i. reads_in times front content (slice_get hs i)) (places vs))
     where
-      go : (vs : List (Visit T)) → AreVisits below front joined reduce content hs vs → summed (reads_of below front content) vs ≡ summed (λ i. reads_in below front content (slice_get hs i)) (places vs)
+      go : (vs : List (Visit T)) → AreVisits times front reduce content hs vs → summed (reads_of times front content) vs ≡ summed (λ i. reads_in times front content (slice_get hs i)) (places vs)
       go [] a = refl
       go (v ∷ vs) a =
-          let one : reads_of below front content v ≡ reads_in below front content (slice_get hs v.place) = sym (ap (reads_in below front content) a.0.there) in
+          let one : reads_of times front content v ≡ reads_in times front content (slice_get hs v.place) = sym (ap (reads_in times front content) a.0.there) in
           let rest = go vs a.1 in
           omega (arith, one, rest)

@@ -25,7 +25,7 @@ use Rattle.batch.proofs.KeyLemmas.{parted, keeps_before}
 use Rattle.batch.proofs.SeekLemmas.{found_is_filter}
 use Rattle.plan.proofs.CountLemmas.{row_same}
 use Rattle.joined_times.specs.Joined.{of_key}
-use Rattle.key_history.specs.Standing.{are_wide}
+use Rattle.key_history.specs.Duties.{are_wide}
 use Rattle.reduce.proofs.HistoryLemmas.{at_place}
 use Rattle.correction.proofs.KeyedLemmas.{own_kept}
 

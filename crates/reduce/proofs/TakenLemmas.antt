@@ -10,16 +10,17 @@ use Rattle.std.proofs.lemmas.List.Elements.{filter-append}
 use Rattle.update.specs.Bags.{same_row}
 use Rattle.update.specs.declared.change.Update.{Update}
 use Rattle.plan.proofs.CountLemmas.{row_same, row_itself}
-use Rattle.reduce.specs.declared.taking.Renewal.{Renewal}
+use Rattle.reduce.specs.declared.intake.Renewal.{Renewal}
 use Rattle.joined_times.specs.Joined.{Member, of_key, times_of}
-use Rattle.joined_times.specs.Adding.{IsFreshBy}
+use Rattle.joined_times.specs.Additions.{IsFreshBy}
 use Rattle.reduce.specs.Histories.{HistoryState, AreKeysApart, AreHistories, ArePending, IsHistory, of_history, history_of, joined_of, due_of, given_of}
-use Rattle.reduce.specs.Taking.{HasTaken, IsRenewed, AreRenewed, made_from, or_else}
+use Rattle.reduce.specs.Intake.{HasTaken, IsRenewed, AreRenewed, made_from, or_else}
 use Rattle.reduce.proofs.HistoryLemmas.{at_place, of_absent, of_there, of_pushed, of_its_history, apart_pushed}
 use Rattle.correction.proofs.KeyedLemmas.{own_kept}
 use Rattle.joined_times.proofs.JoinLemmas.{joins_have}
 use Rattle.reduce.proofs.RunLemmas.{IsRun, IsBorder, others_none, front_longer, run_first, run_some}
-use Rattle.reduce.proofs.TakingLemmas.{absent_from, histories_behind}
+use Rattle.reduce.proofs.IntakeLemmas.{absent_from, histories_behind}
+use Rattle.lattice.specs.Times.{Times}
 
 module _ {T : Type 0} where
   abbrev alone : HistoryState T → List (HistoryState T)
@@ -49,9 +50,9 @@ module _ {T : Type 0} where
 
   -- an empty one stands for a key without a history
   pub stands_none : (hs : List (HistoryState T)) (key : List ℤ) (old : HistoryState T) → list_any (λ h. same_row key h.key) hs ≡ false → old.key ≡ key → old.times ≡ [] → old.due ≡ [] → old.given ≡ [] → StandsFor hs key old
-  stands_none hs key old none own times due given = record {
+  stands_none hs key old none own elements due given = record {
     key_is = own;
-    times_are = times ∙ sym (of_absent (λ h. h.times) key hs none);
+    times_are = elements ∙ sym (of_absent (λ h. h.times) key hs none);
     due_are = due ∙ sym (of_absent (λ h. h.due) key hs none);
     given_is = given ∙ sym (of_absent (λ h. h.given) key hs none);
   }
@@ -62,9 +63,9 @@ module _ {T : Type 0} where
 
   -- an empty history is one
   pub empty_history : (cmp : T → T → Ordering) (h : HistoryState T) → h.times ≡ [] → h.due ≡ [] → h.given ≡ [] → IsHistory cmp (length h.key) h
-  empty_history cmp h times due given = record {
+  empty_history cmp h elements due given = record {
     width = refl;
-    times = rw times (nothing_sorted cmp);
+    times = rw elements (nothing_sorted cmp);
     due = rw due (nothing_sorted cmp);
     keyed = rw given refl;
   }
@@ -77,12 +78,12 @@ module _ {T : Type 0} where
 
   -- new times that were made from those of the history that stands for a key make the key's new
   -- history
-  pub renewed_from : (joined : T → T → T) (cmp : T → T → Ordering) (hs : List (HistoryState T)) (key : List ℤ) (old : HistoryState T) (new : List T) (r : Renewal T) → StandsFor hs key old → IsHistory cmp (length old.key) old → r.key ≡ key
+  pub renewed_from : (times : Times T) (cmp : T → T → Ordering) (hs : List (HistoryState T)) (key : List ℤ) (old : HistoryState T) (new : List T) (r : Renewal T) → StandsFor hs key old → IsHistory cmp (length old.key) old → r.key ≡ key
       → IsStrictlySortedBy cmp r.times.items → IsStrictlySortedBy cmp r.due.items
-      → ((t : T) → Member t r.times.items ↔ (Member t old.times ⊎ IsFreshBy joined new old.times t))
-      → ((t : T) → Member t r.due.items ↔ (Member t old.due ⊎ IsFreshBy joined new old.times t))
-      → IsRenewed joined cmp (length key) hs key new (made_from hs r)
-  renewed_from joined cmp hs key old new r stands is own sorted waits timely pending =
+      → ((t : T) → Member t r.times.items ↔ (Member t old.times ⊎ IsFreshBy times new old.times t))
+      → ((t : T) → Member t r.due.items ↔ (Member t old.due ⊎ IsFreshBy times new old.times t))
+      → IsRenewed times cmp (length key) hs key new (made_from hs r)
+  renewed_from times cmp hs key old new r stands is own sorted waits timely pending =
       let a = subst (λ z. IsTrue (list_all (of_key (length z) z) old.given)) stands.key_is is.keyed in
       let b = subst (λ us. IsTrue (list_all (of_key (length key) key) us)) stands.given_is a in
       record {
@@ -95,10 +96,10 @@ module _ {T : Type 0} where
         };
         given_is = ap (λ z. given_of z hs) own;
         taken = record {
-          times_are = λ t. subst (λ z. Member t r.times.items ↔ (Member t z ⊎ IsFreshBy joined new z t)) stands.times_are (timely t);
+          times_are = λ t. subst (λ z. Member t r.times.items ↔ (Member t z ⊎ IsFreshBy times new z t)) stands.times_are (timely t);
           due_are = λ t.
-              subst (λ z. Member t r.due.items ↔ (Member t (due_of key hs) ⊎ IsFreshBy joined new z t)) stands.times_are
-              (subst (λ z. Member t r.due.items ↔ (Member t z ⊎ IsFreshBy joined new old.times t)) stands.due_are (pending t));
+              subst (λ z. Member t r.due.items ↔ (Member t (due_of key hs) ⊎ IsFreshBy times new z t)) stands.times_are
+              (subst (λ z. Member t r.due.items ↔ (Member t z ⊎ IsFreshBy times new old.times t)) stands.due_are (pending t));
         };
       }
 
@@ -110,10 +111,10 @@ module _ {T : Type 0} where
       ap (map (λ u. u.time)) (filter-append (of_key k key) us vs)
       ∙ map-append (λ (u : Update T). u.time) (filter (of_key k key) us) (filter (of_key k key) vs)
 
-module _ {T : Type 0} (joined : T → T → T) (cmp : T → T → Ordering) (k : ℕ) (hs : List (HistoryState T)) where
+module _ {T : Type 0} (times : Times T) (cmp : T → T → Ordering) (k : ℕ) (hs : List (HistoryState T)) where
   -- the updates of a new key make one more
   pub renewed_more : (front run : List (Update T)) (key : List ℤ) (made : List (HistoryState T)) (h : HistoryState T) → filter (of_key k key) front ≡ [] → IsTrue (list_all (of_key k key) run) → 0 < length run
-      → IsRenewed joined cmp k hs key (map (λ u. u.time) run) h → AreRenewed joined cmp k front hs made → AreRenewed joined cmp k (front ++ run) hs (made ++ h ∷ [])
+      → IsRenewed times cmp k hs key (map (λ u. u.time) run) h → AreRenewed times cmp k front hs made → AreRenewed times cmp k (front ++ run) hs (made ++ h ∷ [])
   renewed_more front run key made h first own some one so_far =
       let none_made : history_of h.key made ≡ [] = so_far.others h.key (ap (λ r. times_of k r front) one.key_is ∙ ap (map (λ u. u.time)) first) in
       record {
@@ -123,8 +124,8 @@ module _ {T : Type 0} (joined : T → T → T) (cmp : T → T → Ordering) (k :
         taken = λ other e. taken other e (same_row h.key other) refl;
       }
     where
-      times : List T
-      times = map (λ u. u.time) run
+      elements : List T
+      elements = map (λ u. u.time) run
 
       -- the times of the key are those of the run
       own_times : times_of k key (front ++ run) ≡ map (λ u. u.time) run
@@ -165,20 +166,20 @@ module _ {T : Type 0} (joined : T → T → T) (cmp : T → T → Ordering) (k :
       others other e false d = other_history other d ∙ so_far.others other (sym (other_times other d) ∙ e)
 
       taken : (other : List ℤ) → (times_of k other (front ++ run) ≡ [] → ⊥) → (b : Bool) → same_row h.key other ≡ b
-          → (g : HistoryState T) × (history_of other (made ++ h ∷ []) ≡ g ∷ []) × (g.given ≡ given_of other hs) × HasTaken joined (joined_of other hs) (due_of other hs) (times_of k other (front ++ run)) g
+          → (g : HistoryState T) × (history_of other (made ++ h ∷ []) ≡ g ∷ []) × (g.given ≡ given_of other hs) × HasTaken times (joined_of other hs) (due_of other hs) (times_of k other (front ++ run)) g
       taken other e true d =
           let same : key ≡ other = sym one.key_is ∙ row_same h.key other d in
           subst
-          (λ r. (g : HistoryState T) × (history_of r (made ++ h ∷ []) ≡ g ∷ []) × (g.given ≡ given_of r hs) × HasTaken joined (joined_of r hs) (due_of r hs) (times_of k r (front ++ run)) g)
+          (λ r. (g : HistoryState T) × (history_of r (made ++ h ∷ []) ≡ g ∷ []) × (g.given ≡ given_of r hs) × HasTaken times (joined_of r hs) (due_of r hs) (times_of k r (front ++ run)) g)
           same
-          (h, own_history, one.given_is, subst (λ ts. HasTaken joined (joined_of key hs) (due_of key hs) ts h) (sym own_times) one.taken)
+          (h, own_history, one.given_is, subst (λ ts. HasTaken times (joined_of key hs) (due_of key hs) ts h) (sym own_times) one.taken)
       taken other e false d =
           let was = so_far.taken other (λ n. e (other_times other d ∙ n)) in
-          (was.0, other_history other d ∙ was.1, was.2, subst (λ ts. HasTaken joined (joined_of other hs) (due_of other hs) ts was.0) (sym (other_times other d)) was.3)
+          (was.0, other_history other d ∙ was.1, was.2, subst (λ ts. HasTaken times (joined_of other hs) (due_of other hs) ts was.0) (sym (other_times other d)) was.3)
 
   -- one more run makes one more
   pub renewed_step : (us : List (Update T)) (start end : ℕ) (key : List ℤ) (made new : List (Renewal T)) (r : Renewal T) → start ≤ end → end ≤ length us → IsRun k key us start end → IsBorder k (take start us) (drop start us)
-      → IsRenewed joined cmp k hs key (map (λ u. u.time) (slice_range us start end)) (made_from hs r) → AreRenewed joined cmp k (take start us) hs (map (made_from hs) made) → new ≡ made ++ r ∷ [] → AreRenewed joined cmp k (take end us) hs (map (made_from hs) new)
+      → IsRenewed times cmp k hs key (map (λ u. u.time) (slice_range us start end)) (made_from hs r) → AreRenewed times cmp k (take start us) hs (map (made_from hs) made) → new ≡ made ++ r ∷ [] → AreRenewed times cmp k (take end us) hs (map (made_from hs) new)
   renewed_step us start end key made new r g l run border one so_far push =
       rw (ap (map (made_from hs)) push ∙ map_push (made_from hs) made r, front_longer us start end g)
       (renewed_more (take start us) (slice_range us start end) key (map (made_from hs) made) (made_from hs r) (run_first k key us start end g l run border) run.own (run_some k key us start end l run) one so_far)
@@ -186,10 +187,10 @@ module _ {T : Type 0} (joined : T → T → T) (cmp : T → T → Ordering) (k :
   -- ---- pending times
 
   -- a key with new times has pending ones
-  pending_with : (h : HistoryState T) (times due new : List T) → (new ≡ [] → ⊥) → HasTaken joined times due new h → h.due ≢ []
-  pending_with h times due [] some taken none = some refl
-  pending_with h times due (t ∷ ts) some taken none =
-      let there : Member t h.due = (taken.due_are t).1 (inr (inl (joins_have joined (t ∷ ts) t (inl refl)))) in
+  pending_with : (h : HistoryState T) (elements due new : List T) → (new ≡ [] → ⊥) → HasTaken times elements due new h → h.due ≢ []
+  pending_with h elements due [] some taken none = some refl
+  pending_with h elements due (t ∷ ts) some taken none =
+      let there : Member t h.due = (taken.due_are t).1 (inr (inl (joins_have times (t ∷ ts) t (inl refl)))) in
       subst (Member t) none there
 
   -- the history of a key of the list is the one that is found
@@ -201,21 +202,21 @@ module _ {T : Type 0} (joined : T → T → T) (cmp : T → T → Ordering) (k :
       place_of (g ∷ gs) h m = ⊎_elim (λ e. (0, ap (λ x. Some x) (sym e))) (λ n. let at = place_of gs h n in (suc at.0, at.1)) m
 
   -- each new history has pending times
-  pub renewed_pending : (content : List (Update T)) (made : List (HistoryState T)) → AreRenewed joined cmp k content hs made → ArePending made
+  pub renewed_pending : (content : List (Update T)) (made : List (HistoryState T)) → AreRenewed times cmp k content hs made → ArePending made
   renewed_pending content made all h m =
       let found = found_itself made h all.apart m in
       let some : times_of k h.key content ≡ [] → ⊥ = λ e. let long : length (h ∷ []) ≡ 0 = ap length (sym found ∙ all.others h.key e) in omega (arith, long) in
       let r = all.taken h.key some in
       let same : r.0 ≡ h = head_same r.0 h (sym r.1 ∙ found) in
       pending_with h (joined_of h.key hs) (due_of h.key hs) (times_of k h.key content) some
-      (subst (HasTaken joined (joined_of h.key hs) (due_of h.key hs) (times_of k h.key content)) same r.3)
+      (subst (HasTaken times (joined_of h.key hs) (due_of h.key hs) (times_of k h.key content)) same r.3)
     where
       head_same : (a b : HistoryState T) → a ∷ [] ≡ b ∷ [] → a ≡ b
       head_same a b e = cc
 
   -- ---- after all are put in place
 
-  module _ (content : List (Update T)) (made new : List (HistoryState T)) (all : AreRenewed joined cmp k content hs made)
+  module _ (content : List (Update T)) (made new : List (HistoryState T)) (all : AreRenewed times cmp k content hs made)
       (put : (key : List ℤ) → history_of key new ≡ or_else (history_of key made) (history_of key hs)) where
     -- of a key that the batch has not, the histories have what they had
     pub key_kept : {X : Type 0} (f : HistoryState T → List X) (key : List ℤ) → times_of k key content ≡ [] → of_history f key new ≡ of_history f key hs

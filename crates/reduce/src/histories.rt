@@ -13,7 +13,7 @@ ghost use Rattle.std.specs.List.{list_any};
 ghost use Rattle.update.specs.Bags.{same_row};
 ghost use Rattle.update.specs.declared.refusal.Refusal.{Refusal};
 ghost use Rattle.lattice.specs.Representatives.{representative_of};
-ghost use Rattle.update.specs.Refusals.{IsMemoryOrOverflow};
+ghost use Rattle.update.specs.Refusals.{OnlyMemory, IsMemoryOrOverflow};
 ghost use Rattle.update.specs.Updates.{HasLargeTotal};
 ghost use Rattle.key_history.specs.Compaction.{IsCompacted, IsFolded, retimed};
 ghost use Rattle.reduce.specs.Compacted.{AreCompacted, AreFolded, HasLargeGiven};
@@ -109,7 +109,7 @@ impl<T: Lattice> Histories<T> {
         ensures items { self.new.items ≡ self.old.items }
         ensures room { OnOk result (more ≤ self.new.spare) }
         ensures kept { self.old.spare ≤ self.new.spare }
-        ensures only { IfErr result (λ refused. refused ≡ Refusal.OutOfMemory) }
+        ensures only { OnlyMemory result }
     {
         self.keys.reserve(more)?;
         self.histories.reserve(more)?;
@@ -153,18 +153,18 @@ impl<T: Lattice> Histories<T> {
         history.fold(alloc, since);
     }
 
-    /// Moves what is kept of the key at an index as of a since: its joined times and what was given.
-    /// Its pending times stay. Refused as [`KeyHistory::compact`] is.
+    /// Moves what is kept of the key at an index as of a since: its joined times and what was
+    /// given. Its pending times stay. Refused as [`KeyHistory::compact`] is.
     ///
     /// Cost: that of [`KeyHistory::compact`].
     pub(crate) fn compact(&mut self, alloc: Global, i: usize, since: &[T]) -> Result<(), Refusal>
         requires { i < length self.old.items }
         ensures { (old new : HistoryState T) × (slice_get self.old.items i ≡ Some old)
             × (self.new.items ≡ set self.old.items i new)
-            × IsCompacted T.below T.cmp T.joined since.now old new
-            × OnOk result (IsFolded T.below T.joined T.met since.now T.cmp new)
-            × IfErr result (IsMemoryOrOverflow (HasLargeTotal T.below
-            (retimed (representative_of T.joined T.met since.now) old.given))) }
+            × IsCompacted T.times T.cmp since.now old new
+            × OnOk result (IsFolded T.times since.now T.cmp new)
+            × IfErr result (IsMemoryOrOverflow (HasLargeTotal T.times
+            (retimed (representative_of T.times since.now) old.given))) }
     {
         let history = &mut self.histories[i];
         history.compact(alloc, since)
@@ -188,7 +188,7 @@ impl<T: Lattice> Histories<T> {
         ensures items { OnOk result (self.new.items ≡ changed_at i
             (given_more (slice_range out.now part.start part.end)) self.old.items) }
         ensures same { OnErr result (self.new.items ≡ self.old.items) }
-        ensures only { IfErr result (λ refused. refused ≡ Refusal.OutOfMemory) }
+        ensures only { OnlyMemory result }
     {
         let history = &mut self.histories[i];
         history.give(out, part)?;
@@ -222,12 +222,12 @@ pub(crate) fn compact_all<T: Lattice>(
     histories: &mut Histories<T>,
     since: &[T],
 ) -> Result<(), Refusal>
-    ensures items { AreCompacted T.below T.cmp T.joined since.now
+    ensures items { AreCompacted T.times T.cmp since.now
         histories.old.items histories.new.items }
     ensures folded { OnOk result
-        (AreFolded T.below T.joined T.met since.now T.cmp histories.new.items) }
+        (AreFolded T.times since.now T.cmp histories.new.items) }
     ensures refused { IfErr result (IsMemoryOrOverflow
-        (HasLargeGiven T.below T.joined T.met since.now histories.old.items)) }
+        (HasLargeGiven T.times since.now histories.old.items)) }
 {
     for i in 0..histories.len() {
         histories.compact(alloc, i, since)?;

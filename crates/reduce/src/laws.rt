@@ -12,7 +12,7 @@ ghost use Rattle.plan.specs.Changes.{has_passed};
 ghost use Rattle.plan.specs.Operators.{reduction_output};
 ghost use Rattle.plan.specs.Reductions.{IsReducer, has_key};
 ghost use Rattle.joined_times.specs.Joined.{Member, IsJoined};
-ghost use Rattle.key_history.specs.Owing.{IsOwed, IsOverfull};
+ghost use Rattle.key_history.specs.Debts.{IsOwed, IsOverfull};
 ghost use Rattle.reduce.specs.Histories.{HistoryState};
 ghost use Rattle.reduce.specs.Reductions.{StandsFor, IsQuietAt};
 
@@ -24,22 +24,23 @@ use lattice::Lattice;
 pub fn outputs_change_at_joined_times<T: Lattice>()
     ensures joined { (k : ℕ) (reduce : List ℤ → List Entry → List Entry) → IsReducer k reduce
         → (us : List (Update T)) (key : List ℤ) (t : T)
-        → Alike (reduce key (filter (has_key k key) (as_of T.below t us))) []
-        ⊎ ((s : T) × IsJoined T.joined k us key s × (T.below s t ≡ true)
-        × ((r : T) → IsJoined T.joined k us key r → T.below r t ≡ true → T.below r s ≡ true)
-        × (filter (has_key k key) (as_of T.below s us)
-        ≡ filter (has_key k key) (as_of T.below t us))) }
+        → Alike (reduce key (filter (has_key k key) (as_of T.times t us))) []
+        ⊎ ((s : T) × IsJoined T.times k us key s × (T.times.below s t ≡ true)
+        × ((r : T) → IsJoined T.times k us key r → T.times.below r t ≡ true
+        → T.times.below r s ≡ true)
+        × (filter (has_key k key) (as_of T.times s us)
+        ≡ filter (has_key k key) (as_of T.times t us))) }
 {}
 
 /// The joins of some times have each of these times, and with any two of them their join. They are
 /// the least list that has both. Costs nothing.
 pub fn joined_times_are_closed<T: Lattice>()
-    ensures times { (ts : List T) (t : T) → Member t ts → Member t (joins_of T.joined ts) }
-    ensures joins { (ts : List T) (s t : T) → Member s (joins_of T.joined ts)
-        → Member t (joins_of T.joined ts) → Member (T.joined s t) (joins_of T.joined ts) }
+    ensures times { (ts : List T) (t : T) → Member t ts → Member t (joins_of T.times ts) }
+    ensures joins { (ts : List T) (s t : T) → Member s (joins_of T.times ts)
+        → Member t (joins_of T.times ts) → Member (T.times.joined s t) (joins_of T.times ts) }
     ensures least { (ts us : List T) → ((t : T) → Member t ts → Member t us)
-        → ((s t : T) → Member s us → Member t us → Member (T.joined s t) us)
-        → (t : T) → Member t (joins_of T.joined ts) → Member t us }
+        → ((s t : T) → Member s us → Member t us → Member (T.times.joined s t) us)
+        → (t : T) → Member t (joins_of T.times ts) → Member t us }
 {}
 
 /// Where nothing is pending at or before a time, what was given sums there to the reduction of what
@@ -47,9 +48,9 @@ pub fn joined_times_are_closed<T: Lattice>()
 pub fn settled_is_right<T: Lattice>()
     ensures sums { (k : ℕ) (reduce : List ℤ → List Entry → List Entry) → IsReducer k reduce
         → (since : List T) (hs : List (HistoryState T)) (taken given : List (Update T))
-        → StandsFor T.below since T.joined k reduce hs taken given
-        → (t : T) → IsQuietAt T.below hs t
-        → Alike (as_of T.below t given) (reduction_output k reduce (as_of T.below t taken)) }
+        → StandsFor T.times since k reduce hs taken given
+        → (t : T) → IsQuietAt T.times hs t
+        → Alike (as_of T.times t given) (reduction_output k reduce (as_of T.times t taken)) }
 {}
 
 /// If a frontier has passed only times at or before which nothing is pending, and has passed the
@@ -61,15 +62,15 @@ pub fn answers_are_the_differences<T: Lattice>()
     ensures one { (k : ℕ) (reduce : List ℤ → List Entry → List Entry) → IsReducer k reduce
         → (frontier since : List T) (hs : List (HistoryState T))
         (taken given us vs : List (Update T))
-        → StandsFor T.below since T.joined k reduce hs taken given
-        → ((t : T) → IsTrue (has_passed T.below frontier t) → IsQuietAt T.below hs t)
+        → StandsFor T.times since k reduce hs taken given
+        → ((t : T) → IsTrue (has_passed T.times frontier t) → IsQuietAt T.times hs t)
         → IsConsolidated T.cmp us
-        → IsTrue (list_all (λ u. has_passed T.below frontier u.time) us)
-        → ((t : T) → Alike (as_of T.below t us) (as_of T.below t given))
+        → IsTrue (list_all (λ u. has_passed T.times frontier u.time) us)
+        → ((t : T) → Alike (as_of T.times t us) (as_of T.times t given))
         → IsConsolidated T.cmp vs
-        → IsTrue (list_all (λ u. has_passed T.below frontier u.time) vs)
-        → ((t : T) → IsTrue (has_passed T.below frontier t)
-        → Alike (as_of T.below t vs) (reduction_output k reduce (as_of T.below t taken)))
+        → IsTrue (list_all (λ u. has_passed T.times frontier u.time) vs)
+        → ((t : T) → IsTrue (has_passed T.times frontier t)
+        → Alike (as_of T.times t vs) (reduction_output k reduce (as_of T.times t taken)))
         → us ≡ vs }
 {}
 
@@ -81,8 +82,8 @@ pub fn order_does_not_matter<T: Lattice>()
         → (since : List T) (hs : List (HistoryState T))
         (taken taken2 given given2 : List (Update T))
         → IsPermutation taken taken2 → IsPermutation given given2
-        → StandsFor T.below since T.joined k reduce hs taken given
-        → StandsFor T.below since T.joined k reduce hs taken2 given2 }
+        → StandsFor T.times since k reduce hs taken given
+        → StandsFor T.times since k reduce hs taken2 given2 }
 {}
 
 /// What stands as of a since stands as of each later one. So kept times and kept answers may be
@@ -90,9 +91,9 @@ pub fn order_does_not_matter<T: Lattice>()
 pub fn stands_as_of_later_frontiers<T: Lattice>()
     ensures stands { (k : ℕ) (reduce : List ℤ → List Entry → List Entry) (since later : List T)
         (hs : List (HistoryState T)) (taken given : List (Update T))
-        → IsTrue (all_beyond T.below since later)
-        → StandsFor T.below since T.joined k reduce hs taken given
-        → StandsFor T.below later T.joined k reduce hs taken given }
+        → IsTrue (all_beyond T.times since later)
+        → StandsFor T.times since k reduce hs taken given
+        → StandsFor T.times later k reduce hs taken given }
 {}
 
 /// No row is given that no answer has. If a test passes for each row of the answers at the times
@@ -103,13 +104,13 @@ pub fn rows_given_are_answered<T: Lattice>()
     ensures rows { (k : ℕ) (reduce : List ℤ → List Entry → List Entry) → IsReducer k reduce
         → (p : List ℤ → Bool) (frontier since : List T) (hs : List (HistoryState T))
         (taken given out : List (Update T))
-        → StandsFor T.below since T.joined k reduce hs taken (given ++ out)
-        → ((t : T) → IsTrue (has_passed T.below frontier t) → IsQuietAt T.below hs t)
-        → AreApart T.below out → AllByRecursion (λ u. u.diff ≢ pos 0) out
-        → IsTrue (list_all (λ u. has_passed T.below frontier u.time) out)
+        → StandsFor T.times since k reduce hs taken (given ++ out)
+        → ((t : T) → IsTrue (has_passed T.times frontier t) → IsQuietAt T.times hs t)
+        → AreApart T.times out → AllByRecursion (λ u. u.diff ≢ pos 0) out
+        → IsTrue (list_all (λ u. has_passed T.times frontier u.time) out)
         → IsTrue (list_all (λ u. p u.row) given)
-        → ((t : T) → IsTrue (has_passed T.below frontier t)
-        → IsTrue (list_all (λ e. p e.row) (reduction_output k reduce (as_of T.below t taken))))
+        → ((t : T) → IsTrue (has_passed T.times frontier t)
+        → IsTrue (list_all (λ e. p e.row) (reduction_output k reduce (as_of T.times t taken))))
         → IsTrue (list_all (λ u. p u.row) out) }
 {}
 
@@ -120,8 +121,8 @@ pub fn rows_given_are_answered<T: Lattice>()
 pub fn large_numbers_have_large_sizes<T: Lattice>()
     ensures sizes { (k : ℕ) (reduce : List ℤ → List Entry → List Entry) → IsReducer k reduce
         → (taken : List (Update T)) (frontier : List T)
-        → IsOverfull T.below k reduce taken frontier
+        → IsOverfull T.times k reduce taken frontier
         → (2 ^ 63 ≤ size taken)
         ⊎ ((key : List ℤ) × (us : List (Update T))
-        × IsOwed T.below k reduce taken key frontier us × (2 ^ 63 ≤ size us)) }
+        × IsOwed T.times k reduce taken key frontier us × (2 ^ 63 ≤ size us)) }
 {}

@@ -28,12 +28,12 @@
 #![tactic(auto)]
 
 mod histories;
+mod intake;
+mod key_rows;
 mod laws;
 mod places;
-mod reading;
 mod state;
-mod taking;
-mod visiting;
+mod visits;
 
 pub use key_history::KeyHistory;
 pub use laws::{

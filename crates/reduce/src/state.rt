@@ -21,7 +21,7 @@ ghost use Rattle.std.specs.Prelude.{◌≡◌, ◌≢◌, ◌↔◌, ◌⊎◌, 
 ghost use Rattle.std.specs.List.{AllByRecursion, filter, list_all};
 ghost use Rattle.lattice.specs.Frontiers.{is_beyond, all_beyond};
 ghost use Rattle.update.specs.Bags.{Alike};
-ghost use Rattle.update.specs.Refusals.{IsMemoryOrOverflow};
+ghost use Rattle.update.specs.Refusals.{OnlyMemory, IsMemoryOrOverflow};
 ghost use Rattle.update.specs.Updates.{as_of, AreApart};
 ghost use Rattle.update.specs.declared.change.Update.{Update};
 ghost use Rattle.plan.specs.Changes.{has_passed};
@@ -30,16 +30,16 @@ ghost use Rattle.trace.specs.Readings.{Insertion, all_updates};
 ghost use Rattle.joined_times.specs.Joined.{Member, IsFresh, times_of};
 ghost use Rattle.reduce.specs.Compacted.{AreCompacted, AreFolded, HasLargeGiven};
 ghost use Rattle.reduce.specs.Histories.{AreHistories, IsWaiting, due_of};
-ghost use Rattle.key_history.specs.Owing.{IsOverfull};
-ghost use Rattle.key_history.specs.Standing.{are_wide};
+ghost use Rattle.key_history.specs.Debts.{IsOverfull};
+ghost use Rattle.key_history.specs.Duties.{are_wide};
 ghost use Rattle.reduce.specs.Outputs.{AreApplicable, IsAtDueTimes, IsOutput, IsQuietWherePassed, IsTooLarge, OthersStayDue, StandsWithOutput, StaysApart, SumsToReduction};
-ghost use Rattle.reduce.specs.Visiting.{all_changed};
+ghost use Rattle.reduce.specs.Visits.{all_changed};
 ghost use Rattle.reduce.specs.Reductions.{StandsFor, IsOpenTo, IsQuietAt, SumsToTaken, all_reads};
 
 use crate::histories::{Histories, compact_all};
+use crate::intake::{put_all, renewed_by};
 use crate::places::Places;
-use crate::taking::{put_all, renewed_by};
-use crate::visiting::{Gathered, change_all, fold_all, visit_all};
+use crate::visits::{Gathered, change_all, fold_all, visit_all};
 use antichain::Antichain;
 use batch::BatchReader;
 use columns::Columns;
@@ -88,9 +88,9 @@ impl<T: Lattice, R> Model for ReduceState<T, R> {
 
 // Inserts all of these times.
 fn insert_all<T: Lattice>(held: &mut Antichain<T>, times: &[T]) -> Result<(), Refusal>
-    ensures beyond { OnOk result ((t : T) → is_beyond T.below held.new t
-        ≡ (is_beyond T.below held.old t || is_beyond T.below times.now t)) }
-    ensures only { IfErr result (λ refused. refused ≡ Refusal.OutOfMemory) }
+    ensures beyond { OnOk result ((t : T) → is_beyond T.times held.new t
+        ≡ (is_beyond T.times held.old t || is_beyond T.times times.now t)) }
+    ensures only { OnlyMemory result }
 {
     for time in times {
         held.insert(*time)?;
@@ -124,7 +124,7 @@ impl<T: Lattice, R: Reducer> ReduceState<T, R> {
           looked = 0;
         } }
         ensures stands { (since : List T)
-            → StandsFor T.below since T.joined key (R.reduces reducer) result.histories [] [] }
+            → StandsFor T.times since key (R.reduces reducer) result.histories [] [] }
     {
         ReduceState {
             key,
@@ -178,10 +178,10 @@ impl<T: Lattice, R: Reducer> ReduceState<T, R> {
     ///
     /// Cost: each pending time is compared with the least ones so far.
     pub fn held(&self, alloc: Global) -> Result<Antichain<T>, Refusal>
-        ensures beyond { IfOk result (λ held. (t : T) → IsTrue (is_beyond T.below held t)
+        ensures beyond { IfOk result (λ held. (t : T) → IsTrue (is_beyond T.times held t)
             ↔ ((key : List ℤ) × (s : T) × Member s (due_of key self.now.histories)
-            × (T.below s t ≡ true))) }
-        ensures only { IfErr result (λ refused. refused ≡ Refusal.OutOfMemory) }
+            × (T.times.below s t ≡ true))) }
+        ensures only { OnlyMemory result }
     {
         self.histories.known();
         let mut held = Antichain::new(alloc);
@@ -210,35 +210,36 @@ impl<T: Lattice, R: Reducer> ReduceState<T, R> {
     ) -> Result<(), Refusal>
         requires wide { IsTrue (are_wide self.old.key (B.content batch.now)) }
         ensures stands { OnOk result ((since : List T) (taken given : List (Update T))
-            → IsTrue (list_all (λ u. is_beyond T.below since u.time) (B.content batch.now))
-            → StandsFor T.below since T.joined self.old.key (R.reduces self.old.reducer)
+            → IsTrue (list_all (λ u. is_beyond T.times since u.time) (B.content batch.now))
+            → StandsFor T.times since self.old.key (R.reduces self.old.reducer)
             self.old.histories taken given
-            → StandsFor T.below since T.joined self.old.key (R.reduces self.old.reducer)
+            → StandsFor T.times since self.old.key (R.reduces self.old.reducer)
             self.new.histories (B.content batch.now ++ taken) given) }
         ensures pending { OnOk result ((since : List T) (taken given : List (Update T))
-            → IsTrue (list_all (λ u. is_beyond T.below since u.time) (B.content batch.now))
-            → StandsFor T.below since T.joined self.old.key (R.reduces self.old.reducer)
+            → IsTrue (list_all (λ u. is_beyond T.times since u.time) (B.content batch.now))
+            → StandsFor T.times since self.old.key (R.reduces self.old.reducer)
             self.old.histories taken given
             → (key : List ℤ) (t : T) → Member t (due_of key self.new.histories)
             ↔ (Member t (due_of key self.old.histories)
-            ⊎ IsFresh T.joined (times_of self.old.key key (B.content batch.now))
+            ⊎ IsFresh T.times (times_of self.old.key key (B.content batch.now))
             (times_of self.old.key key taken) t)) }
         ensures later { OnOk result ((key : List ℤ) (t : T)
             → Member t (due_of key self.new.histories)
             → Member t (due_of key self.old.histories)
             ⊎ ((u : Update T) × Member u (B.content batch.now) × (take self.old.key u.row ≡ key)
-            × (T.below u.time t ≡ true))) }
+            × (T.times.below u.time t ≡ true))) }
         ensures open { OnOk result ((given : List (Update T))
-            → IsOpenTo T.below self.old.key given self.old.histories
+            → IsOpenTo T.times self.old.key given self.old.histories
             → ((u g : Update T) → Member u (B.content batch.now) → Member g given
-            → take self.old.key u.row ≡ take self.old.key g.row → T.below u.time g.time ≡ false)
-            → IsOpenTo T.below self.old.key given self.new.histories) }
+            → take self.old.key u.row ≡ take self.old.key g.row
+            → T.times.below u.time g.time ≡ false)
+            → IsOpenTo T.times self.old.key given self.new.histories) }
         ensures kept { OnOk result (self.new ≡ record self.old {
           histories = self.new.histories;
           waiting = self.new.waiting;
         }) }
         ensures same { OnErr result (self.new ≡ self.old) }
-        ensures only { IfErr result (λ refused. refused ≡ Refusal.OutOfMemory) }
+        ensures only { OnlyMemory result }
     {
         let made = renewed_by(alloc, self.key, &self.histories, batch)?;
         self.histories.reserve(made.len())?;
@@ -247,14 +248,14 @@ impl<T: Lattice, R: Reducer> ReduceState<T, R> {
         Ok(())
     }
 
-    /// Folds what is kept as of a since: the frontier beyond which all reads and all batches to come
-    /// are. Each kept time is moved to its representative as of the since, each once, and what was
-    /// given is added up there. The pending times stay, and so does what the reduction is to give.
-    /// If the call is refused, then some keys may have been folded, and what is left undone stays as
-    /// it was.
+    /// Folds what is kept as of a since: the frontier beyond which all reads and all batches to
+    /// come are. Each kept time is moved to its representative as of the since, each once, and what
+    /// was given is added up there. The pending times stay, and so does what the reduction is to
+    /// give. If the call is refused, then some keys may have been folded, and what is left undone
+    /// stays as it was.
     ///
-    /// - [`Refusal::Overflow`] only if the total of some row at some moved time, over what was given
-    ///   of one key, is no 64-bit number.
+    /// - [`Refusal::Overflow`] only if the total of some row at some moved time, over what was
+    ///   given of one key, is no 64-bit number.
     /// - [`Refusal::OutOfMemory`] only if memory for the moved times or updates of one key was
     ///   refused.
     ///
@@ -262,20 +263,20 @@ impl<T: Lattice, R: Reducer> ReduceState<T, R> {
     /// the since, and a sort of both for each key.
     pub fn compact(&mut self, alloc: Global, since: &[T]) -> Result<(), Refusal>
         ensures stands { (earlier : List T) (taken given : List (Update T))
-            → IsTrue (all_beyond T.below earlier since.now)
-            → StandsFor T.below earlier T.joined self.old.key (R.reduces self.old.reducer)
+            → IsTrue (all_beyond T.times earlier since.now)
+            → StandsFor T.times earlier self.old.key (R.reduces self.old.reducer)
             self.old.histories taken given
-            → StandsFor T.below since.now T.joined self.old.key (R.reduces self.old.reducer)
+            → StandsFor T.times since.now self.old.key (R.reduces self.old.reducer)
             self.new.histories taken given }
         ensures due { (key : List ℤ)
             → due_of key self.new.histories ≡ due_of key self.old.histories }
-        ensures places { AreCompacted T.below T.cmp T.joined since.now
+        ensures places { AreCompacted T.times T.cmp since.now
             self.old.histories self.new.histories }
         ensures folded { OnOk result
-            (AreFolded T.below T.joined T.met since.now T.cmp self.new.histories) }
+            (AreFolded T.times since.now T.cmp self.new.histories) }
         ensures kept { self.new ≡ record self.old { histories = self.new.histories } }
         ensures refused { IfErr result (IsMemoryOrOverflow
-            (HasLargeGiven T.below T.joined T.met since.now self.old.histories)) }
+            (HasLargeGiven T.times since.now self.old.histories)) }
     {
         compact_all(alloc, &mut self.histories, since)
     }
@@ -307,9 +308,9 @@ impl<T: Lattice, R: Reducer> ReduceState<T, R> {
     /// has changed.
     ///
     /// - [`Refusal::Overflow`] only if, at some time that the frontier has passed, the count of a
-    ///   row of what was taken, the sum of the counts of a key's rows, or what the count of a row is
-    ///   to change by is no 64-bit number. The change is the one that the key is owed there after
-    ///   all that it is owed before.
+    ///   row of what was taken, the sum of the counts of a key's rows, or what the count of a row
+    ///   is to change by is no 64-bit number. The change is the one that the key is owed there
+    ///   after all that it is owed before.
     /// - [`Refusal::OutOfMemory`] only if memory was refused.
     ///
     /// Cost: a comparison with the frontier for each pending time. For each key of which some time
@@ -319,9 +320,9 @@ impl<T: Lattice, R: Reducer> ReduceState<T, R> {
     /// that not all times to come see, each once for all that these times do not tell apart, a
     /// search in the key's rows for each, and the reducer's own cost. So times of one revision cost
     /// n log n. What is given is copied twice: into the histories of its keys, and into the plain
-    /// list, which takes 104 bytes an update at times of 16 bytes. What was given before stays where
-    /// it is. No other key is read. [`ready_columns`](ReduceState::ready_columns) makes no plain
-    /// list.
+    /// list, which takes 104 bytes an update at times of 16 bytes. What was given before stays
+    /// where it is. No other key is read. [`ready_columns`](ReduceState::ready_columns) makes no
+    /// plain list.
     pub fn ready<S: Trace<Time = T>>(
         &mut self,
         alloc: Global,
@@ -329,45 +330,45 @@ impl<T: Lattice, R: Reducer> ReduceState<T, R> {
         trace: &S,
     ) -> Result<Vec<Update<T>>, Refusal>
         requires held { (key : List ℤ) (t : T) → Member t (due_of key self.old.histories)
-            → is_beyond T.below frontier.now t ≡ false
-            → IsTrue (is_beyond T.below (S.held trace.now) t) }
-        ensures once { IfOk result (λ out. AreApart T.below out.items) }
+            → is_beyond T.times frontier.now t ≡ false
+            → IsTrue (is_beyond T.times (S.held trace.now) t) }
+        ensures once { IfOk result (λ out. AreApart T.times out.items) }
         ensures nonzero { IfOk result (λ out. AllByRecursion (λ u. u.diff ≢ pos 0) out.items) }
         ensures stands { IfOk result (λ out. (since : List T)
             (h : List (Insertion T)) (taken given : List (Update T))
-            → IsTrue (all_beyond T.below since (S.held trace.now))
+            → IsTrue (all_beyond T.times since (S.held trace.now))
             → S.stands trace.now h
-            → SumsToTaken T.below (S.held trace.now) frontier.now (all_updates h) taken
-            → StandsFor T.below since T.joined self.old.key (R.reduces self.old.reducer)
+            → SumsToTaken T.times (S.held trace.now) frontier.now (all_updates h) taken
+            → StandsFor T.times since self.old.key (R.reduces self.old.reducer)
             self.old.histories taken given
-            → StandsFor T.below since T.joined self.old.key (R.reduces self.old.reducer)
+            → StandsFor T.times since self.old.key (R.reduces self.old.reducer)
             self.new.histories taken (given ++ out.items)) }
         ensures law { IfOk result (λ out. (since : List T)
             (h : List (Insertion T)) (taken given : List (Update T))
-            → IsTrue (all_beyond T.below since (S.held trace.now))
+            → IsTrue (all_beyond T.times since (S.held trace.now))
             → S.stands trace.now h
-            → SumsToTaken T.below (S.held trace.now) frontier.now (all_updates h) taken
-            → StandsFor T.below since T.joined self.old.key (R.reduces self.old.reducer)
+            → SumsToTaken T.times (S.held trace.now) frontier.now (all_updates h) taken
+            → StandsFor T.times since self.old.key (R.reduces self.old.reducer)
             self.old.histories taken given
-            → (t : T) → IsQuietAt T.below self.new.histories t
-            → Alike (as_of T.below t (given ++ out.items))
-            (reduction_output self.old.key (R.reduces self.old.reducer) (as_of T.below t taken))) }
+            → (t : T) → IsQuietAt T.times self.new.histories t
+            → Alike (as_of T.times t (given ++ out.items))
+            (reduction_output self.old.key (R.reduces self.old.reducer) (as_of T.times t taken))) }
         ensures rest { OnOk result ((key : List ℤ) → due_of key self.new.histories
-            ≡ filter (λ t. is_beyond T.below frontier.now t) (due_of key self.old.histories)) }
-        ensures quiet { OnOk result ((t : T) → IsTrue (has_passed T.below frontier.now t)
-            → IsQuietAt T.below self.new.histories t) }
+            ≡ filter (λ t. is_beyond T.times frontier.now t) (due_of key self.old.histories)) }
+        ensures quiet { OnOk result ((t : T) → IsTrue (has_passed T.times frontier.now t)
+            → IsQuietAt T.times self.new.histories t) }
         ensures at { IfOk result (λ out. (u : Update T) → Member u out.items
             → Member u.time (due_of (take self.old.key u.row) self.old.histories)
-            × (is_beyond T.below frontier.now u.time ≡ false)) }
+            × (is_beyond T.times frontier.now u.time ≡ false)) }
         ensures apart { IfOk result (λ out. (given : List (Update T))
-            → AreApart T.below given → IsOpenTo T.below self.old.key given self.old.histories
-            → AreApart T.below (given ++ out.items)
-            × IsOpenTo T.below self.old.key (given ++ out.items) self.new.histories) }
+            → AreApart T.times given → IsOpenTo T.times self.old.key given self.old.histories
+            → AreApart T.times (given ++ out.items)
+            × IsOpenTo T.times self.old.key (given ++ out.items) self.new.histories) }
         ensures looked { OnOk result (self.new.looked ≤ self.old.looked
-            + all_reads T.below frontier.now (S.content trace.now)
+            + all_reads T.times frontier.now (S.content trace.now)
             self.old.histories self.old.waiting) }
         ensures counted { OnOk result (min (self.old.looked
-            + all_reads T.below frontier.now (S.content trace.now)
+            + all_reads T.times frontier.now (S.content trace.now)
             self.old.histories self.old.waiting) (2 ^ 64 - 1) ≤ self.new.looked) }
         ensures kept { OnOk result (self.new ≡ record self.old {
           histories = self.new.histories;
@@ -377,14 +378,14 @@ impl<T: Lattice, R: Reducer> ReduceState<T, R> {
         ensures same { OnErr result (self.new ≡ self.old) }
         ensures refused { IfErr result (IsMemoryOrOverflow
             ((since : List T) (h : List (Insertion T)) (taken given : List (Update T))
-            → IsTrue (all_beyond T.below since (S.held trace.now))
+            → IsTrue (all_beyond T.times since (S.held trace.now))
             → S.stands trace.now h
-            → SumsToTaken T.below (S.held trace.now) frontier.now (all_updates h) taken
-            → StandsFor T.below since T.joined self.old.key (R.reduces self.old.reducer)
+            → SumsToTaken T.times (S.held trace.now) frontier.now (all_updates h) taken
+            → StandsFor T.times since self.old.key (R.reduces self.old.reducer)
             self.old.histories taken given
-            → AreApart T.below given → IsOpenTo T.below self.old.key given self.old.histories
-            → ((g : Update T) → Member g given → IsTrue (has_passed T.below frontier.now g.time))
-            → IsOverfull T.below self.old.key (R.reduces self.old.reducer) taken frontier.now)) }
+            → AreApart T.times given → IsOpenTo T.times self.old.key given self.old.histories
+            → ((g : Update T) → Member g given → IsTrue (has_passed T.times frontier.now g.time))
+            → IsOverfull T.times self.old.key (R.reduces self.old.reducer) taken frontier.now)) }
     {
         self.fold(alloc);
         let gathered = self.gather(alloc, frontier, trace)?;
@@ -413,28 +414,28 @@ impl<T: Lattice, R: Reducer> ReduceState<T, R> {
         trace: &S,
     ) -> Result<Columns<T>, Refusal>
         requires held { (key : List ℤ) (t : T) → Member t (due_of key self.old.histories)
-            → is_beyond T.below frontier.now t ≡ false
-            → IsTrue (is_beyond T.below (S.held trace.now) t) }
-        ensures once { IfOk result (λ out. AreApart T.below out) }
+            → is_beyond T.times frontier.now t ≡ false
+            → IsTrue (is_beyond T.times (S.held trace.now) t) }
+        ensures once { IfOk result (λ out. AreApart T.times out) }
         ensures nonzero { IfOk result (λ out. AllByRecursion (λ u. u.diff ≢ pos 0) out) }
-        ensures stands { IfOk result (StandsWithOutput T.below T.joined
+        ensures stands { IfOk result (StandsWithOutput T.times
             self.old.key (R.reduces self.old.reducer) (S.held trace.now) frontier.now
             (S.stands trace.now) self.old.histories self.new.histories) }
-        ensures law { IfOk result (SumsToReduction T.below T.joined
+        ensures law { IfOk result (SumsToReduction T.times
             self.old.key (R.reduces self.old.reducer) (S.held trace.now) frontier.now
             (S.stands trace.now) self.old.histories self.new.histories) }
-        ensures rest { OnOk result (OthersStayDue T.below frontier.now
+        ensures rest { OnOk result (OthersStayDue T.times frontier.now
             self.old.histories self.new.histories) }
-        ensures quiet { OnOk result (IsQuietWherePassed T.below frontier.now self.new.histories) }
-        ensures at { IfOk result (IsAtDueTimes T.below frontier.now
+        ensures quiet { OnOk result (IsQuietWherePassed T.times frontier.now self.new.histories) }
+        ensures at { IfOk result (IsAtDueTimes T.times frontier.now
             self.old.key self.old.histories) }
-        ensures apart { IfOk result (StaysApart T.below
+        ensures apart { IfOk result (StaysApart T.times
             self.old.key self.old.histories self.new.histories) }
         ensures looked { OnOk result (self.new.looked ≤ self.old.looked
-            + all_reads T.below frontier.now (S.content trace.now)
+            + all_reads T.times frontier.now (S.content trace.now)
             self.old.histories self.old.waiting) }
         ensures counted { OnOk result (min (self.old.looked
-            + all_reads T.below frontier.now (S.content trace.now)
+            + all_reads T.times frontier.now (S.content trace.now)
             self.old.histories self.old.waiting) (2 ^ 64 - 1) ≤ self.new.looked) }
         ensures kept { OnOk result (self.new ≡ record self.old {
           histories = self.new.histories;
@@ -442,7 +443,7 @@ impl<T: Lattice, R: Reducer> ReduceState<T, R> {
           looked = self.new.looked;
         }) }
         ensures same { OnErr result (self.new ≡ self.old) }
-        ensures refused { IfErr result (IsMemoryOrOverflow (IsTooLarge T.below T.joined
+        ensures refused { IfErr result (IsMemoryOrOverflow (IsTooLarge T.times
             self.old.key (R.reduces self.old.reducer) (S.held trace.now) frontier.now
             (S.stands trace.now) self.old.histories)) }
     {
@@ -461,21 +462,21 @@ impl<T: Lattice, R: Reducer> ReduceState<T, R> {
         trace: &S,
     ) -> Result<Gathered<T>, Refusal>
         requires held { (key : List ℤ) (t : T) → Member t (due_of key self.now.histories)
-            → is_beyond T.below frontier.now t ≡ false
-            → IsTrue (is_beyond T.below (S.held trace.now) t) }
-        ensures output { IfOk result (λ gathered. IsOutput T.below T.joined
+            → is_beyond T.times frontier.now t ≡ false
+            → IsTrue (is_beyond T.times (S.held trace.now) t) }
+        ensures output { IfOk result (λ gathered. IsOutput T.times
             self.now.key (R.reduces self.now.reducer) (S.held trace.now) frontier.now
             (S.stands trace.now) self.now.histories
             (all_changed gathered.changes.items gathered.out self.now.histories) gathered.out) }
         ensures applicable { IfOk result (λ gathered. AreApplicable T.cmp self.now.key
             self.now.histories gathered.changes.items gathered.out gathered.waiting.items) }
         ensures looked { IfOk result (λ gathered. gathered.looked ≤ self.now.looked
-            + all_reads T.below frontier.now (S.content trace.now)
+            + all_reads T.times frontier.now (S.content trace.now)
             self.now.histories self.now.waiting) }
         ensures counted { IfOk result (λ gathered. min (self.now.looked
-            + all_reads T.below frontier.now (S.content trace.now)
+            + all_reads T.times frontier.now (S.content trace.now)
             self.now.histories self.now.waiting) (2 ^ 64 - 1) ≤ gathered.looked) }
-        ensures refused { IfErr result (IsMemoryOrOverflow (IsTooLarge T.below T.joined
+        ensures refused { IfErr result (IsMemoryOrOverflow (IsTooLarge T.times
             self.now.key (R.reduces self.now.reducer) (S.held trace.now) frontier.now
             (S.stands trace.now) self.now.histories)) }
     {
@@ -505,7 +506,7 @@ impl<T: Lattice, R: Reducer> ReduceState<T, R> {
           looked = gathered.looked;
         }) }
         ensures same { OnErr result (self.new ≡ self.old) }
-        ensures only { IfErr result (λ refused. refused ≡ Refusal.OutOfMemory) }
+        ensures only { OnlyMemory result }
     {
         let Gathered {
             out,

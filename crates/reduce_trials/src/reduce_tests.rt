@@ -5,7 +5,7 @@
 //! a test need not be proved to keep it.
 ghost use Rattle.std.specs.Prelude.{◌≡◌, ◌<◌, ◌≤◌, IsTrue, IsSomeAnd, length, nat_le, slice_get};
 ghost use Rattle.std.specs.Bool.{OnTrue};
-ghost use Rattle.reduce.specs.Standing.{are_wide};
+ghost use Rattle.reduce.specs.Duties.{are_wide};
 
 use antichain::all_beyond;
 use batch::{Batch, BatchReader};

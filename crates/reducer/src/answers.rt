@@ -1,6 +1,7 @@
 //! What the reducers have in common: they read the entries of a key by index, and most answer one
 //! row or none. In such an answer no count is above 1, so only memory can be refused.
-ghost use Rattle.std.specs.Prelude.{◌≡◌, ◌<◌, ◌∷◌, [], length, slice_index_or, IfOk, IfErr};
+ghost use Rattle.std.specs.Prelude.{◌≡◌, ◌<◌, ◌∷◌, [], length, slice_index_or, IfOk};
+ghost use Rattle.update.specs.Refusals.{OnlyMemory};
 ghost use Rattle.update.specs.Bags.{Entry, Alike, IsBag};
 ghost use Rattle.plan.specs.Reductions.{single};
 ghost use Rattle.reducer.specs.Kinds.{is_positive};
@@ -38,7 +39,7 @@ pub(crate) fn is_positive_at<C: RowCounts>(rows: &C, i: usize) -> bool
 pub(crate) fn no_rows(alloc: Global) -> Result<Bag, Refusal>
     ensures none { IfOk result (λ bag. Alike bag []) }
     ensures bag { IfOk result IsBag }
-    ensures refused { IfErr result (λ refused. refused ≡ Refusal.OutOfMemory) }
+    ensures refused { OnlyMemory result }
 {
     Entries::new(alloc).into_bag()
 }
@@ -47,7 +48,7 @@ pub(crate) fn no_rows(alloc: Global) -> Result<Bag, Refusal>
 pub(crate) fn one_row(alloc: Global, row: Row) -> Result<Bag, Refusal>
     ensures one { IfOk result (λ bag. Alike bag (single row ∷ [])) }
     ensures bag { IfOk result IsBag }
-    ensures refused { IfErr result (λ refused. refused ≡ Refusal.OutOfMemory) }
+    ensures refused { OnlyMemory result }
 {
     let mut entries = Entries::new(alloc);
     entries.push(row, 1)?;

@@ -1,6 +1,7 @@
 //! Distinct: each row whose count is above 0, once. A reducer reads each row only once, so one pass
 //! over the entries finds these rows, and no count in the answer can be too large.
-ghost use Rattle.std.specs.Prelude.{◌≡◌, ◌++◌, IfErr, OnOk};
+ghost use Rattle.std.specs.Prelude.{◌≡◌, ◌++◌, OnOk};
+ghost use Rattle.update.specs.Refusals.{OnlyMemory};
 ghost use Rattle.reducer.specs.Kinds.{positive_rows};
 
 use crate::answers::{is_positive_at, row_at};
@@ -18,7 +19,7 @@ pub struct Distinct;
 fn put_positive<C: RowCounts>(entries: &mut Entries, rows: &C) -> Result<(), Refusal>
     ensures positive { OnOk result
         (entries.new ≡ entries.old ++ positive_rows (C.entries rows.now)) }
-    ensures refused { IfErr result (λ refused. refused ≡ Refusal.OutOfMemory) }
+    ensures refused { OnlyMemory result }
 {
     for i in 0..rows.len() {
         if is_positive_at(rows, i) {

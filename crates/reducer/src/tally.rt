@@ -7,9 +7,10 @@
 //!
 //! A change is taken back exactly. Each one notes the place and the count that was there, and the
 //! notes are set back from the last to the first.
-ghost use Rattle.std.specs.Prelude.{◌≡◌, ◌<◌, ◌++◌, ◌∷◌, ◌+ℤ◌, [], Bool, List, ℤ, None, false, length, map, replicate, pos, slice_get, FitsSigned, IsTrue, IsSomeAnd, IfOk, IfErr, IfSome};
+ghost use Rattle.std.specs.Prelude.{◌≡◌, ◌<◌, ◌++◌, ◌∷◌, ◌+ℤ◌, [], Bool, List, ℤ, None, false, length, map, replicate, pos, slice_get, FitsSigned, IsTrue, IsSomeAnd, IfOk, IfSome};
 ghost use Rattle.std.specs.Int.{w64};
 ghost use Rattle.std.specs.List.{Contains, list_all};
+ghost use Rattle.update.specs.Refusals.{OnlyMemory};
 ghost use Rattle.update.specs.Bags.{Alike, Entry, entry_of};
 ghost use Rattle.update.specs.declared.refusal.Refusal.{Refusal};
 ghost use Rattle.reducer.specs.Tallies.{AreInOrder, set_count, undone};
@@ -50,7 +51,7 @@ pub struct Undone {
 // Copies of the rows of updates.
 fn rows_in<T: Lattice>(alloc: Global, updates: &[Update<T>]) -> Result<Vec<Row>, Refusal>
     ensures rows { IfOk result (λ rows. rows.items ≡ map (λ u. u.row) updates.now) }
-    ensures only { IfErr result (λ refused. refused ≡ Refusal.OutOfMemory) }
+    ensures only { OnlyMemory result }
 {
     let mut rows = Vec::with_capacity(alloc, updates.len())?;
     for update in updates {
@@ -62,7 +63,7 @@ fn rows_in<T: Lattice>(alloc: Global, updates: &[Update<T>]) -> Result<Vec<Row>,
 // As many counts of 0.
 fn no_counts(alloc: Global, len: usize) -> Result<Vec<i64>, Refusal>
     ensures counts { IfOk result (λ counts. counts.items ≡ replicate len (pos 0)) }
-    ensures only { IfErr result (λ refused. refused ≡ Refusal.OutOfMemory) }
+    ensures only { OnlyMemory result }
 {
     Ok(vec![in alloc; 0; len]?)
 }
@@ -77,7 +78,7 @@ impl Tally {
         ensures among { IfOk result (λ tally. (p : List ℤ → Bool)
             → IsTrue (list_all (λ u. p u.row) updates.now)
             → IsTrue (list_all (λ e. p e.row) tally)) }
-        ensures only { IfErr result (λ refused. refused ≡ Refusal.OutOfMemory) }
+        ensures only { OnlyMemory result }
     {
         let mut rows = rows_in(alloc, updates)?;
         rows.sort_unstable();
@@ -199,7 +200,7 @@ impl Tally {
         ensures refused { IfOk result (λ added. added ≡ false
             → (e : Entry) → Contains self.old e → e.row ≡ row.now
             → FitsSigned w64 (e.count +ℤ diff) → ⊥) }
-        ensures only { IfErr result (λ refused. refused ≡ Refusal.OutOfMemory) }
+        ensures only { OnlyMemory result }
     {
         let Some((place, count)) = self.moved(row, diff) else {
             return Ok(false);

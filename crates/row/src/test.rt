@@ -2,7 +2,7 @@
 //! that pass its test.
 ghost use Rattle.std.specs.Prelude.{◌≡◌, length, IsTrue};
 ghost use Rattle.row.specs.Projection.{is_within};
-ghost use Rattle.row.specs.Testing.{compares, is_test_within, passes};
+ghost use Rattle.row.specs.Filters.{compares, is_test_within, passes};
 
 use crate::{Item, Row};
 

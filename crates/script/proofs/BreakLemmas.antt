@@ -3,7 +3,7 @@ use Rattle.std.proofs.Common.{ℕ, List, [], Result, Ok, Err}
 use Rattle.std.specs.Prelude.{IfErr}
 use Rattle.output.specs.Outs.{Broke}
 use Rattle.output.proofs.OutLemmas.{broke_before}
-use Rattle.script.specs.Engines.{failures}
+use Rattle.script.specs.RunEnds.{failures}
 use Rattle.script.specs.declared.fault.RunFault.{RunFault}
 
 module _ {W : Type 0} (took : W → List ℕ → ℕ → W → Type 0) where

@@ -3,8 +3,8 @@ use Rattle.std.proofs.Common.{◌≡◌, Bool, true, false, not, ◌||◌, eqb, 
 use Rattle.std.specs.Prelude.{IfErr}
 use Rattle.std.specs.List.{list_all}
 use Rattle.std.proofs.lemmas.Bool.{and_parts, true≢false}
+use Rattle.lattice.specs.Bitimes.{bitime_times}
 use Rattle.lattice.specs.Frontiers.{is_beyond}
-use Rattle.lattice.specs.Pairs.{make_pair}
 use Rattle.update.specs.Refusals.{code_of, IsMemoryOrOverflow}
 use Rattle.update.specs.declared.refusal.Refusal.{Refusal}
 use Rattle.update.specs.declared.refusal.Refusal.TheVariants.{OutOfMemory, Overflow, NoThread, NotPassed, GivenUp}
@@ -20,11 +20,13 @@ use Rattle.histories.specs.Histories.Readings.{is_from_start}
 use Rattle.outstanding.specs.Inputs.{front_at, feed_faults, advance_faults}
 use Rattle.histories.specs.Histories.States.{fed_to}
 use Rattle.script.specs.Ends.{IsTextBefore}
-use Rattle.script.specs.Engines.{EndsRun, IsCrewEnd, IsEnd, IsRunEnd}
-use Rattle.script.specs.Sessions.{view_frontier}
-use Rattle.script.specs.Text.{BitemporalSession, HoldsAlong, command_refusal, frontier_made}
-use Rattle.lattice.specs.Bitimes.{bitime_below}
-use Rattle.script.specs.Bounds.{IsLarge, IsLargeAlong, EndsByBound}
+use Rattle.engines.specs.Engines.{EndsRun}
+use Rattle.script.specs.RunEnds.{IsCrewEnd, IsEnd, IsRunEnd}
+use Rattle.engines.specs.Sessions.{view_frontier}
+use Rattle.engines.specs.Bitemporal.{BitemporalSession}
+use Rattle.script.specs.Text.{HoldsAlong, command_refusal, frontier_made}
+use Rattle.engines.specs.Bounds.{IsLarge, EndsByBound}
+use Rattle.script.specs.Bounds.{IsLargeAlong}
 use Rattle.script.specs.declared.fault.RunFault.{RunFault}
 use Rattle.script.specs.declared.fault.RunFault.TheVariants as fault
 
@@ -99,13 +101,13 @@ first_goes_on ((false, name) ∷ faults) all refusal e ends = first_goes_on faul
 -- a session never refuses a command with a refusal that ends the run
 pub session_goes_on : (p : List Node) (s : BitemporalSession) (command : Command) (refusal : Refusal) → command_refusal p s command ≡ Some refusal → EndsRun refusal → ⊥
 session_goes_on p s (command.Input (Change input time diff row)) refusal e ends =
-    first_goes_on (feed_faults bitime_below p (front_at input s.inputs) (length (fed_to input s.fed)) (record { input = input; update = record { time = time; row = row; diff = diff } })) refl refusal e ends
-session_goes_on p s (command.Input (Advance input times)) refusal e ends = first_goes_on (advance_faults bitime_below (front_at input s.inputs) (frontier_made times)) refl refusal e ends
+    first_goes_on (feed_faults bitime_times p (front_at input s.inputs) (length (fed_to input s.fed)) (record { input = input; update = record { time = time; row = row; diff = diff } })) refl refusal e ends
+session_goes_on p s (command.Input (Advance input ts)) refusal e ends = first_goes_on (advance_faults bitime_times (front_at input s.inputs) (frontier_made ts)) refl refusal e ends
 session_goes_on p s (command.Input (Close input)) refusal e ends = absurd cc
-session_goes_on p s (command.Allow view times) refusal e ends = first_goes_on (advance_faults bitime_below (s.since view) (frontier_made times)) refl refusal e ends
+session_goes_on p s (command.Allow view ts) refusal e ends = first_goes_on (advance_faults bitime_times (s.since view) (frontier_made ts)) refl refusal e ends
 session_goes_on p s (command.View (Read view time)) refusal e ends =
-    first_goes_on ((is_beyond bitime_below (view_frontier bitime_below p s view) time, NotPassed) ∷ (not (is_beyond bitime_below (s.since view) time), GivenUp) ∷ []) refl refusal e ends
-session_goes_on p s (command.View (Changes view)) refusal e ends = first_goes_on ((not (is_from_start bitime_below (make_pair 0 0) (s.since view)), GivenUp) ∷ []) refl refusal e ends
+    first_goes_on ((is_beyond bitime_times (view_frontier bitime_times p s view) time, NotPassed) ∷ (not (is_beyond bitime_times (s.since view) time), GivenUp) ∷ []) refl refusal e ends
+session_goes_on p s (command.View (Changes view)) refusal e ends = first_goes_on ((not (is_from_start bitime_times (s.since view)), GivenUp) ∷ []) refl refusal e ends
 session_goes_on p s (command.View (Frontier view)) refusal e ends = absurd cc
 
 -- a refusal that ends the run comes from the engine, not from the session
@@ -197,8 +199,3 @@ pub overflow_texts : {X : Type 0} (t : ScriptModel) (s : BitemporalSession) (lin
     → IfErr r (λ f. f ≡ fault.Refused 10 → (part : List ℕ) × IsTextBefore (IsLarge t.plan) t s lines part × Took part)
 overflow_texts t s lines Took (Ok x) e = tt
 overflow_texts t s lines Took (Err f) e = λ ten. let met = e ten in (met.0, bound_text t s lines met.0 met.1, met.2)
-
--- weakens the cause of an engine's refusal
-pub refusal_weaker : {A B : Type 0} → (A → B) → (r : Refusal) → IsMemoryOrOverflow A r → IsMemoryOrOverflow B r
-refusal_weaker h r (inl memory) = inl memory
-refusal_weaker h r (inr large) = inr (large.0, h large.1)

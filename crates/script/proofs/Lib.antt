@@ -1,16 +1,4 @@
-pub mod BagLemmas
 pub mod BreakLemmas
 pub mod PrinterLemmas
 pub mod TextLemmas
-pub mod TurnLemmas
-pub mod StandingLemmas
-pub mod ReadLemmas
-pub mod OrderLemmas
-pub mod InputLemmas
-pub mod ChangesLemmas
 pub mod EndLemmas
-pub mod BoundLemmas
-pub mod EveryBoundLemmas
-pub mod LargeLemmas
-pub mod OracleEngineLemmas
-pub mod WitnessLemmas

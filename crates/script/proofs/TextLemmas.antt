@@ -6,7 +6,8 @@ use Rattle.grammar.specs.declared.command.CommandLine.{CommandLine}
 use Rattle.grammar.specs.ScriptModels.{ScriptModel}
 use Rattle.script.specs.Ends.{IsTextBefore}
 use Rattle.output.specs.Outs.{IsBeginning}
-use Rattle.script.specs.Text.{BitemporalSession, after_command, piece, after_lines, lines_text}
+use Rattle.engines.specs.Bitemporal.{BitemporalSession}
+use Rattle.script.specs.Text.{after_command, piece, after_lines, lines_text}
 
 module _ (p : List Node) where
   after_both : (s : BitemporalSession) (xs ys : List CommandLine) → after_lines p s (xs ++ ys) ≡ after_lines p (after_lines p s xs) ys

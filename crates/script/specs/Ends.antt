@@ -3,8 +3,9 @@ use Rattle.std.specs.Prelude.{◌≡◌, ℕ, List, ◌∷◌, ◌++◌}
 use Rattle.grammar.specs.Commands.{IsQuestion}
 use Rattle.grammar.specs.ScriptModels.{ScriptModel}
 use Rattle.grammar.specs.declared.command.CommandLine.{CommandLine}
-use Rattle.script.specs.Text.{BitemporalSession, after_lines, lines_text, opening_session}
-use Rattle.script.specs.Bounds.{IsLarge}
+use Rattle.engines.specs.Bitemporal.{BitemporalSession, opening_session}
+use Rattle.script.specs.Text.{after_lines, lines_text}
+use Rattle.engines.specs.Bounds.{IsLarge}
 
 -- the text of the lines before some question; the property holds of the session after those lines
 pub record IsTextBefore (Holds : BitemporalSession → Type 0) (t : ScriptModel) (s : BitemporalSession) (lines : List CommandLine) (part : List ℕ) : Type 0 where

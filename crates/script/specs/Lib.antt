@@ -1,13 +1,8 @@
-pub mod Bags
-pub mod Orders
-pub mod Changes
-pub mod Sessions
+-- What a script writes, and why a run of it may end early. The definitions of sessions are handed
+-- on.
+pub use Rattle.engines.specs.Sessions
 pub mod Text
+pub mod RunEnds
 pub mod Bounds
-pub mod Engines
 pub mod Ends
-pub mod Answers
 pub mod Reads
-pub mod Standing
-pub mod Employment
-pub mod OracleStanding

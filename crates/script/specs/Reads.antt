@@ -5,9 +5,10 @@ use Rattle.update.specs.Bags.{Entry}
 use Rattle.update.specs.declared.refusal.Refusal.{Refusal}
 use Rattle.update.specs.declared.refusal.Refusal.TheVariants.{NoThread, BadWorkers}
 use Rattle.grammar.specs.ScriptModels.{ScriptModel}
-use Rattle.script.specs.Answers.{FindsRows}
-use Rattle.script.specs.Bounds.{EndsByBound}
-use Rattle.script.specs.Text.{BitemporalSession, after_lines, opening_session}
+use Rattle.engines.specs.Answers.{FindsRows}
+use Rattle.engines.specs.Bounds.{EndsByBound}
+use Rattle.engines.specs.Bitemporal.{BitemporalSession, opening_session}
+use Rattle.script.specs.Text.{after_lines}
 
 -- the session after all lines of a script
 abbrev pub last_session : ScriptModel → BitemporalSession

@@ -1,7 +1,6 @@
 -- The text of a script: the pieces that its commands print, in order.
 use Rattle.std.specs.Prelude.{◌≡◌, ℕ, List, [], ◌∷◌, ◌++◌, Option, Some, None}
 use Rattle.lattice.specs.declared.product.Pair.{Pair}
-use Rattle.lattice.specs.Pairs.{make_pair}
 use Rattle.update.specs.declared.refusal.Refusal.{Refusal}
 use Rattle.plan.specs.declared.node.Node.{Node}
 use Rattle.grammar.specs.declared.command.Command.{Command}
@@ -13,46 +12,43 @@ use Rattle.grammar.specs.declared.command.ViewCommand.TheVariants.{Read, Changes
 use Rattle.grammar.specs.declared.command.CommandLine.{CommandLine}
 use Rattle.grammar.specs.ScriptModels.{ScriptModel, name_at}
 use Rattle.antichain.specs.Antichains.{least}
-use Rattle.script.specs.Orders.{in_order}
-use Rattle.output.specs.Printing.{refused_text, rows_text, changes_text, frontier_text}
-use Rattle.script.specs.Sessions.{Session, first_session, with_change, with_frontier, with_since, change_refusal, frontier_refusal, since_refusal, read_refusal, changes_refusal, rows_at, changes_at, frontier_at}
-use Rattle.lattice.specs.Bitimes.{bitime_below, bitime_cmp, bitime_join}
-
--- the session of a script; its times are pairs of a valid time and a system time
-abbrev pub BitemporalSession : Type 0
-BitemporalSession = Session (Pair ℕ ℕ)
+use Rattle.engines.specs.Bitemporal.{BitemporalSession, opening_session}
+use Rattle.engines.specs.Orders.{in_order}
+use Rattle.output.specs.Lines.{refused_text, rows_text, changes_text, frontier_text}
+use Rattle.engines.specs.Sessions.{with_change, with_frontier, with_since, change_refusal, frontier_refusal, since_refusal, read_refusal, changes_refusal, rows_at, changes_at, frontier_at}
+use Rattle.lattice.specs.Bitimes.{bitime_times, bitime_cmp}
 
 -- the frontier that these times make: the least of them, in order
 abbrev pub frontier_made : List (Pair ℕ ℕ) → List (Pair ℕ ℕ)
-frontier_made times = in_order bitime_cmp (least bitime_below times)
+frontier_made ts = in_order bitime_cmp (least bitime_times ts)
 
 module _ (p : List Node) (s : BitemporalSession) where
   -- the refusal of a command that changes an input
   abbrev pub input_command_refusal : InputCommand → Option Refusal
   input_command_refusal (Change input time diff row) =
-      change_refusal bitime_below p s (record { input = input; update = record { time = time; row = row; diff = diff } })
-  input_command_refusal (Advance input times) =
-      frontier_refusal bitime_below p s input (frontier_made times)
+      change_refusal bitime_times p s (record { input = input; update = record { time = time; row = row; diff = diff } })
+  input_command_refusal (Advance input ts) =
+      frontier_refusal bitime_times p s input (frontier_made ts)
   input_command_refusal (Close input) = None
 
   -- the refusal of a command that asks about a view
   abbrev pub view_command_refusal : ViewCommand → Option Refusal
-  view_command_refusal (Read view time) = read_refusal bitime_below p s view time
-  view_command_refusal (Changes view) = changes_refusal bitime_below p s (make_pair 0 0) view
+  view_command_refusal (Read view time) = read_refusal bitime_times p s view time
+  view_command_refusal (Changes view) = changes_refusal bitime_times p s view
   view_command_refusal (Frontier view) = None
 
   -- the refusal of a command
   abbrev pub command_refusal : Command → Option Refusal
   command_refusal (command.Input change) = input_command_refusal change
-  command_refusal (command.Allow view times) =
-      since_refusal bitime_below p s view (frontier_made times)
+  command_refusal (command.Allow view ts) =
+      since_refusal bitime_times p s view (frontier_made ts)
   command_refusal (command.View question) = view_command_refusal question
 
   -- the session after an accepted command that changes an input
   abbrev pub carry_out : InputCommand → BitemporalSession
   carry_out (Change input time diff row) =
       with_change (record { input = input; update = record { time = time; row = row; diff = diff } }) s
-  carry_out (Advance input times) = with_frontier input (frontier_made times) s
+  carry_out (Advance input ts) = with_frontier input (frontier_made ts) s
   carry_out (Close input) = with_frontier input [] s
 
   -- a refused command leaves the session as it is
@@ -68,24 +64,24 @@ module _ (p : List Node) (s : BitemporalSession) where
   -- the session after a command; a question leaves it as it is
   abbrev pub after_command : Command → BitemporalSession
   after_command (command.Input change) = carry_out_unless (input_command_refusal change) change
-  after_command (command.Allow view times) =
-      give_up_unless (since_refusal bitime_below p s view (frontier_made times)) view (frontier_made times)
+  after_command (command.Allow view ts) =
+      give_up_unless (since_refusal bitime_times p s view (frontier_made ts)) view (frontier_made ts)
   after_command (command.View question) = s
 
 module _ (t : ScriptModel) (s : BitemporalSession) where
   -- the answer to an accepted question
   abbrev pub answer : ViewCommand → List ℕ
   answer (Read view time) =
-      rows_text (name_at t.names view) time (rows_at bitime_below t.plan s view time)
+      rows_text (name_at t.names view) time (rows_at bitime_times t.plan s view time)
   answer (Changes view) =
-      changes_text (name_at t.names view) (changes_at bitime_below t.plan s bitime_cmp bitime_join view)
+      changes_text (name_at t.names view) (changes_at bitime_times t.plan s bitime_cmp view)
   answer (Frontier view) =
-      frontier_text (name_at t.names view) (frontier_at bitime_below t.plan s bitime_cmp view)
+      frontier_text (name_at t.names view) (frontier_at bitime_times t.plan s bitime_cmp view)
 
   -- what an accepted command prints
   abbrev pub command_text : Command → List ℕ
   command_text (command.Input change) = []
-  command_text (command.Allow view times) = []
+  command_text (command.Allow view ts) = []
   command_text (command.View question) = answer question
 
   -- what line n prints: the refusal, if there is one, and otherwise the command's text
@@ -113,10 +109,6 @@ abbrev pub lines_text : ScriptModel → BitemporalSession → List CommandLine �
 lines_text t s [] = []
 lines_text t s (line ∷ lines) = piece t s line.line line.command
     ++ lines_text t (after_command t.plan s line.command) lines
-
--- the session before the first line; it begins at the least pair
-abbrev pub opening_session : List Node → BitemporalSession
-opening_session p = first_session (make_pair 0 0) p
 
 -- what a script writes
 abbrev pub text : ScriptModel → List ℕ

@@ -1,20 +1,23 @@
 //! One line of a script: its command goes to the engine, and the answer is printed.
 ghost use Rattle.std.specs.Prelude.{◌≡◌, [], false, IfErr, IfOk, IsTrue, OnOk};
+ghost use Rattle.update.specs.Refusals.{OnlyMemory};
 ghost use Rattle.update.specs.declared.refusal.Refusal.TheVariants.{OutOfMemory};
 ghost use Rattle.grammar.specs.Commands.{IsAbout, IsQuestion};
 ghost use Rattle.grammar.specs.declared.command.Command.TheVariants.{Allow, Input, View};
 ghost use Rattle.grammar.specs.ScriptModels.{ScriptModel};
-ghost use Rattle.script.specs.Engines.{EndsRun, IsTold, IsEnd, failures};
+ghost use Rattle.engines.specs.Engines.{EndsRun, IsTold};
+ghost use Rattle.script.specs.RunEnds.{IsEnd, failures};
 ghost use Rattle.output.specs.Outs.{Wrote, Broke};
-ghost use Rattle.output.specs.Printing.{refused_text};
-ghost use Rattle.script.specs.Answers.{TakesSince};
-ghost use Rattle.script.specs.Text.{BitemporalSession, input_command_refusal, carry_out, after_command, frontier_made, piece};
+ghost use Rattle.output.specs.Lines.{refused_text};
+ghost use Rattle.engines.specs.Answers.{TakesSince};
+ghost use Rattle.engines.specs.Bitemporal.{BitemporalSession};
+ghost use Rattle.script.specs.Text.{input_command_refusal, carry_out, after_command, frontier_made, piece};
 ghost use Rattle.script.specs.declared.fault.RunFault.TheVariants.{Refused};
 
-use crate::engine::{CatchUp, Engine};
 use crate::fault::RunFault;
 use crate::printer::{print_changes, print_frontier, print_rows};
 use antichain::Antichain;
+use engines::{CatchUp, Engine};
 use grammar::{Command, CommandLine, InputCommand, Script, ViewCommand};
 use lattice::Bitime;
 use output::{Out, OutputBuffer};
@@ -75,7 +78,7 @@ pub(crate) fn hand_over<E: Engine>(
 // The frontier that the times of a line make: the least of them.
 fn frontier_of(alloc: Global, times: &Times<Bitime>) -> Result<Antichain<Bitime>, Refusal>
     ensures made { IfOk result (λ frontier. frontier ≡ frontier_made times.now) }
-    ensures refused { IfErr result (λ refusal. refusal ≡ OutOfMemory) }
+    ensures refused { OnlyMemory result }
 {
     let frontier = Antichain::least_of(alloc, times.as_slice())?;
     frontier.known();
@@ -165,7 +168,8 @@ fn run_update<E: Engine, W: Out>(
     }
 }
 
-// Runs a line that gives up a part of a view's past. It prints nothing unless the engine refuses it.
+// Runs a line that gives up a part of a view's past. It prints nothing unless the engine refuses
+// it.
 fn run_allow<E: Engine, W: Out>(
     alloc: Global,
     engine: &mut E,

@@ -1,9 +1,9 @@
 //! Prints answers line by line into the output buffer, which writes them in large pieces.
-ghost use Rattle.std.specs.Prelude.{◌<◌, IfErr, OnOk};
+ghost use Rattle.std.specs.Prelude.{IfErr, OnOk};
 ghost use Rattle.update.specs.Text.{entry_text};
-ghost use Rattle.script.specs.Engines.{IsEnd, failures};
+ghost use Rattle.script.specs.RunEnds.{IsEnd, failures};
 ghost use Rattle.output.specs.Outs.{Wrote, Broke};
-ghost use Rattle.output.specs.Printing.{rows_text, changes_text, frontier_text, update_text, element_text};
+ghost use Rattle.output.specs.Lines.{rows_text, changes_text, frontier_text, update_text, element_text};
 
 use crate::fault::RunFault;
 use lattice::Bitime;

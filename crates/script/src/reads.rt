@@ -4,18 +4,17 @@
 //! questions are not asked. Workers step once all lines are done, so a run for two reads does each
 //! node's work once, however many questions the script has.
 ghost use Rattle.std.specs.Prelude.{◌≡◌, IfErr, IfOk, IsTrue, OnOk};
-ghost use Rattle.lattice.specs.Bitimes.{bitime_below};
-ghost use Rattle.lattice.specs.Pairs.{make_pair};
+ghost use Rattle.update.specs.Refusals.{OnlyMemory};
 ghost use Rattle.update.specs.declared.refusal.Refusal.TheVariants.{OutOfMemory};
 ghost use Rattle.grammar.specs.Commands.{IsAbout, is_view_of};
-ghost use Rattle.script.specs.Answers.{FindsRows};
-ghost use Rattle.script.specs.Engines.{EndsRun};
+ghost use Rattle.engines.specs.Answers.{FindsRows};
+ghost use Rattle.engines.specs.Engines.{EndsRun};
 ghost use Rattle.script.specs.Reads.{EndsReads, FindsLastRows};
-ghost use Rattle.script.specs.Text.{BitemporalSession, after_command, after_lines};
+ghost use Rattle.engines.specs.Bitemporal.{BitemporalSession};
+ghost use Rattle.script.specs.Text.{after_command, after_lines};
 
-use crate::crew::Crew;
-use crate::engine::{CatchUp, Engine};
 use crate::line::{ends_run, hand_over, hand_since};
+use engines::{CatchUp, Crew, Engine};
 use grammar::{Command, Script};
 use lattice::Bitime;
 use plan::NodeId;
@@ -36,8 +35,8 @@ pub struct TwoReads {
     pub second: Bitime,
 }
 
-/// The rows of a read, or its refusal: 8 if the view's frontier has not passed the time, 9 if readers
-/// gave up the time.
+/// The rows of a read, or its refusal: 8 if the view's frontier has not passed the time, 9 if
+/// readers gave up the time.
 pub type Rows = Result<Bag, Refusal>;
 
 // Carries out a command, but asks nothing. A refused command changes nothing.
@@ -46,7 +45,7 @@ fn follow<E: Engine>(alloc: Global, engine: &mut E, command: &Command) -> Result
     ensures plan { E.plan engine.new ≡ E.plan engine.old }
     ensures stands { (s : BitemporalSession) → E.stands engine.old s
         → OnOk result (E.stands engine.new (after_command (E.plan engine.old) s command.now)) }
-    ensures refused { IfErr result (λ refusal. refusal ≡ OutOfMemory) }
+    ensures refused { OnlyMemory result }
 {
     let told = match command {
         Command::Input(command) => hand_over(alloc, engine, command),
@@ -65,7 +64,7 @@ fn follow_all<E: Engine>(alloc: Global, engine: &mut E, script: &Script) -> Resu
     ensures plan { E.plan engine.new ≡ E.plan engine.old }
     ensures stands { (s : BitemporalSession) → E.stands engine.old s
         → OnOk result (E.stands engine.new (after_lines script.now.plan s script.now.commands)) }
-    ensures refused { IfErr result (λ refusal. refusal ≡ OutOfMemory) }
+    ensures refused { OnlyMemory result }
 {
     for line in script.command_lines() {
         follow(alloc, engine, &line.command)?;
@@ -75,7 +74,8 @@ fn follow_all<E: Engine>(alloc: Global, engine: &mut E, script: &Script) -> Resu
 
 // The answer to a read, or the refusal that ends all.
 fn told(rows: Rows) -> Result<Rows, Refusal>
-    ensures goes_on { IfOk result (λ told. told ≡ rows × IfErr told (λ refusal. EndsRun refusal → ⊥)) }
+    ensures goes_on { IfOk result
+        (λ told. told ≡ rows × IfErr told (λ refusal. EndsRun refusal → ⊥)) }
     ensures ends { IfErr result (λ refusal. rows ≡ Err refusal × EndsRun refusal) }
 {
     match rows {
@@ -112,7 +112,8 @@ fn ask_twice<E: CatchUp>(
 ) -> Result<(Rows, Rows), Refusal>
     requires view { IsTrue (is_view_of (E.plan engine.old) reads.view) }
     ensures answered { (s : BitemporalSession) → E.stands engine.old s
-        → IfOk result (λ rows. FindsRows (λ refusal. ⊥) (E.plan engine.old) s reads.view reads.first rows.0
+        → IfOk result (λ rows.
+        FindsRows (λ refusal. ⊥) (E.plan engine.old) s reads.view reads.first rows.0
         × FindsRows (λ refusal. ⊥) (E.plan engine.old) s reads.view reads.second rows.1) }
     ensures ends { (s : BitemporalSession) → E.stands engine.old s
         → IfErr result (E.ends (E.plan engine.old) s) }
@@ -122,9 +123,9 @@ fn ask_twice<E: CatchUp>(
     Ok((first, second))
 }
 
-/// Carries out all lines of a script but its questions, by 1 to 16 workers, and then reads a view at
-/// two times. The rows of each read are the query, computed from scratch on the accepted changes at
-/// or before its time.
+/// Carries out all lines of a script but its questions, by 1 to 16 workers, and then reads a view
+/// at two times. The rows of each read are the query, computed from scratch on the accepted changes
+/// at or before its time.
 ///
 /// | Refused with | When |
 /// |---|---|

@@ -3,25 +3,25 @@
 //! A crew's loop is the same with one thing more: before a question its workers run ahead. It is a
 //! function of its own, since threads need a runtime whose bounds stand at the function.
 ghost use Rattle.std.specs.Prelude.{◌≡◌, ◌⊎◌, ◌↔◌, ◌++◌, ℕ, List, [], IfErr, OnOk, IsErrOf};
-ghost use Rattle.lattice.specs.Bitimes.{bitime_below};
-ghost use Rattle.lattice.specs.Pairs.{make_pair};
+ghost use Rattle.lattice.specs.Bitimes.{bitime_times};
 ghost use Rattle.update.specs.declared.refusal.Refusal.TheVariants.{Overflow};
 ghost use Rattle.grammar.specs.Commands.{IsAbout, IsQuestion};
 ghost use Rattle.shared_board.specs.Found.{dataflow_of};
 ghost use Rattle.session.specs.Openings.{AreCounts};
 ghost use Rattle.script.specs.Ends.{IsTextBefore, IsTextBeforeOverflow};
-ghost use Rattle.script.specs.Engines.{IsCrewEnd, IsEnd, IsRunEnd, failures};
+ghost use Rattle.script.specs.RunEnds.{IsCrewEnd, IsEnd, IsRunEnd, failures};
 ghost use Rattle.output.specs.Outs.{IsBeginning, Wrote, Broke};
-ghost use Rattle.script.specs.Standing.{StandsAs};
-ghost use Rattle.script.specs.Text.{BitemporalSession, HoldsAlong, after_command, lines_text, piece, text};
-ghost use Rattle.script.specs.Bounds.{EndsByBound, IsLargeScript};
+ghost use Rattle.engines.specs.BoardStates.{StandsAs};
+ghost use Rattle.engines.specs.Bitemporal.{BitemporalSession};
+ghost use Rattle.script.specs.Text.{HoldsAlong, after_command, lines_text, piece, text};
+ghost use Rattle.engines.specs.Bounds.{EndsByBound};
+ghost use Rattle.script.specs.Bounds.{IsLargeScript};
 ghost use Rattle.script.specs.declared.fault.RunFault.TheVariants.{Refused};
 
-use crate::crew::Crew;
-use crate::engine::CatchUp;
 use crate::fault::RunFault;
 use crate::line::{end_run, run_line};
 use crate::watch::{Unwatched, Watch};
+use engines::{CatchUp, Crew};
 use grammar::{Command, CommandLine, Script};
 use output::{Out, OutputBuffer};
 use session::Gate;
@@ -109,17 +109,17 @@ fn run_crew_line<R: Threads + Wait + Sync, G: Gate + Sync, W: Out>(
     requires plan { script.now.plan ≡ (dataflow_of crew.old).nodes }
     requires about { IsAbout (dataflow_of crew.old).nodes line.now.command }
     ensures plan { (dataflow_of crew.new).nodes ≡ (dataflow_of crew.old).nodes }
-    ensures ran { (s : BitemporalSession) → StandsAs bitime_below (make_pair 0 0) crew.old s
-        → OnOk result (StandsAs bitime_below (make_pair 0 0) crew.new
+    ensures ran { (s : BitemporalSession) → StandsAs bitime_times crew.old s
+        → OnOk result (StandsAs bitime_times crew.new
         (after_command script.now.plan s line.now.command) × Wrote W.took out.old buffer.old
         (piece script.now s line.now.line line.now.command) out.new buffer.new) }
-    ensures broke { (s : BitemporalSession) → StandsAs bitime_below (make_pair 0 0) crew.old s
+    ensures broke { (s : BitemporalSession) → StandsAs bitime_times crew.old s
         → IfErr result (λ fault. Broke W.took out.old buffer.old
         (piece script.now s line.now.line line.now.command) (failures fault) out.new) }
-    ensures overflow { (s : BitemporalSession) → StandsAs bitime_below (make_pair 0 0) crew.old s
+    ensures overflow { (s : BitemporalSession) → StandsAs bitime_times crew.old s
         → IfErr result (λ fault. fault ≡ Refused 10
         → IsQuestion line.now.command × W.took out.old buffer.old 0 out.new) }
-    ensures known { (s : BitemporalSession) → StandsAs bitime_below (make_pair 0 0) crew.old s
+    ensures known { (s : BitemporalSession) → StandsAs bitime_times crew.old s
         → IfErr result (IsCrewEnd (EndsByBound script.now.plan s)) }
 {
     if let Command::View(_) = line.command {
@@ -141,17 +141,17 @@ fn run_crew_lines<R: Threads + Wait + Sync, G: Gate + Sync, W: Out, V: Watch>(
     watch: &mut V,
 ) -> Result<(), RunFault>
     requires plan { script.now.plan ≡ (dataflow_of crew.old).nodes }
-    ensures wrote { (s : BitemporalSession) → StandsAs bitime_below (make_pair 0 0) crew.old s
+    ensures wrote { (s : BitemporalSession) → StandsAs bitime_times crew.old s
         → OnOk result (Wrote W.took out.old buffer.old
         (lines_text script.now s script.now.commands) out.new buffer.new) }
-    ensures broke { (s : BitemporalSession) → StandsAs bitime_below (make_pair 0 0) crew.old s
+    ensures broke { (s : BitemporalSession) → StandsAs bitime_times crew.old s
         → IfErr result (λ fault. Broke W.took out.old buffer.old
         (lines_text script.now s script.now.commands) (failures fault) out.new) }
-    ensures overflow { (s : BitemporalSession) → StandsAs bitime_below (make_pair 0 0) crew.old s
+    ensures overflow { (s : BitemporalSession) → StandsAs bitime_times crew.old s
         → IfErr result (λ fault. fault ≡ Refused 10 → (part : List ℕ)
         × IsTextBefore (λ now. EndsByBound script.now.plan now Overflow) script.now s
         script.now.commands part × W.took out.old (buffer.old ++ part) 0 out.new) }
-    ensures known { (s : BitemporalSession) → StandsAs bitime_below (make_pair 0 0) crew.old s
+    ensures known { (s : BitemporalSession) → StandsAs bitime_times crew.old s
         → IfErr result (IsCrewEnd (λ refusal. HoldsAlong
         (λ now. EndsByBound script.now.plan now refusal) script.now.plan s script.now.commands)) }
 {
@@ -172,16 +172,16 @@ fn run_crew<R: Threads + Wait + Sync, G: Gate + Sync, W: Out, V: Watch>(
     watch: &mut V,
 ) -> Result<(), RunFault>
     requires plan { script.now.plan ≡ (dataflow_of crew.old).nodes }
-    ensures wrote { (s : BitemporalSession) → StandsAs bitime_below (make_pair 0 0) crew.old s
+    ensures wrote { (s : BitemporalSession) → StandsAs bitime_times crew.old s
         → OnOk result (W.took out.old (lines_text script.now s script.now.commands) 0 out.new) }
-    ensures broke { (s : BitemporalSession) → StandsAs bitime_below (make_pair 0 0) crew.old s
+    ensures broke { (s : BitemporalSession) → StandsAs bitime_times crew.old s
         → IfErr result (λ fault. Broke W.took out.old []
         (lines_text script.now s script.now.commands) (failures fault) out.new) }
-    ensures overflow { (s : BitemporalSession) → StandsAs bitime_below (make_pair 0 0) crew.old s
+    ensures overflow { (s : BitemporalSession) → StandsAs bitime_times crew.old s
         → IfErr result (λ fault. fault ≡ Refused 10 → (part : List ℕ)
         × IsTextBefore (λ now. EndsByBound script.now.plan now Overflow) script.now s
         script.now.commands part × W.took out.old part 0 out.new) }
-    ensures known { (s : BitemporalSession) → StandsAs bitime_below (make_pair 0 0) crew.old s
+    ensures known { (s : BitemporalSession) → StandsAs bitime_times crew.old s
         → IfErr result (IsCrewEnd (λ refusal. HoldsAlong
         (λ now. EndsByBound script.now.plan now refusal) script.now.plan s script.now.commands)) }
 {

@@ -1,7 +1,7 @@
 //! Who is told how far a run is.
 //!
-//! A run tells its watcher of each line and asks it nothing, so no contract of a run names the watcher:
-//! whatever it does, the output takes the same text.
+//! A run tells its watcher of each line and asks it nothing, so no contract of a run names the
+//! watcher: whatever it does, the output takes the same text.
 use grammar::CommandLine;
 
 /// Is told of each line that a run has carried out.

@@ -2,4 +2,4 @@ pub mod ClientLemmas
 pub mod OpeningLemmas
 pub mod MoveLemmas
 pub mod ThreadLemmas
-pub mod CrossingLemmas
+pub mod CrossLemmas

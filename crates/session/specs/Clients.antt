@@ -11,10 +11,11 @@ use Rattle.histories.specs.declared.event.Event.{Event}
 use Rattle.histories.specs.declared.event.Event.TheVariants.{Advance, Allow, Feed}
 use Rattle.histories.specs.declared.event.Fed.{Fed}
 use Rattle.histories.specs.Histories.States.{change_to}
-use Rattle.shared_board.specs.declared.event.Doing.{Doing}
+use Rattle.shared_board.specs.declared.event.BoardEvent.{BoardEvent}
 use Rattle.shared_board.specs.Calls.{IsRead}
 use Rattle.shared_board.specs.Found.{IsReadRefusalFound, WasQuiet, WasTooLarge, feed_refusal_found, frontier_found}
 use Rattle.shared_board.specs.Tenures.{advance_refusal_in, allow_refusal_in, state_found}
+use Rattle.lattice.specs.Times.{Times}
 
 -- a row of these columns at a time, so many times more
 abbrev pub row_fed : {T : Type 0} → ℕ → List ℤ → T → ℤ → Fed T
@@ -29,16 +30,16 @@ Change T = Event T → Option Refusal → (Refusal → Type 0) → Result (Unit 
 abbrev pub Question : Type 0 → Type 1
 Question A = (A → Type 0) → (Refusal → Type 0) → Result A Refusal → Type 0
 
-module _ {T : Type 0} (below : T → T → Bool) (minimum : T) (old new : Known (Doing T)) where
+module _ {T : Type 0} (times : Times T) (old new : Known (BoardEvent T)) where
   -- a change
   abbrev pub IsFed : Change T → Fed T → Result (Unit {0}) Refusal → Type 0
-  IsFed Ends f r = Ends (Feed old.number f) (feed_refusal_found below minimum old new f)
-      (IsRefusalBy (feed_refusal_found below minimum old new f)) r
+  IsFed Ends f r = Ends (Feed old.number f) (feed_refusal_found times old new f)
+      (IsRefusalBy (feed_refusal_found times old new f)) r
 
   -- a new frontier of an input
   abbrev pub IsAdvanced : Change T → ℕ → List T → Result (Unit {0}) Refusal → Type 0
   IsAdvanced Ends input ts r =
-      let fault = advance_refusal_in below (state_found below minimum new) input ts in
+      let fault = advance_refusal_in times (state_found times new) input ts in
       Ends (Advance old.number input ts) fault (IsRefusalBy fault) r
 
   -- a closed input
@@ -48,19 +49,19 @@ module _ {T : Type 0} (below : T → T → Bool) (minimum : T) (old new : Known 
   -- a new since of a view
   abbrev pub IsGivenUp : Change T → ℕ → List T → Result (Unit {0}) Refusal → Type 0
   IsGivenUp Ends view ts r =
-      let fault = allow_refusal_in below (state_found below minimum new) view ts in
+      let fault = allow_refusal_in times (state_found times new) view ts in
       Ends (Allow old.number view ts) fault (IsRefusalBy fault) r
 
   -- a view's frontier, its rows at a time, and its changes
   abbrev pub IsProbed : Question (List T) → ℕ → Result (List T) Refusal → Type 0
-  IsProbed Ends view r = Ends (λ found. SameElements found (frontier_found below minimum old new view)) (λ refusal. refusal ≡ OutOfMemory) r
+  IsProbed Ends view r = Ends (λ found. SameElements found (frontier_found times old new view)) (λ refusal. refusal ≡ OutOfMemory) r
 
   abbrev pub HasRead : Question (List Entry) → ℕ → T → Result (List Entry) Refusal → Type 0
-  HasRead Ends view t r = Ends (IsRead below minimum old new view t) (IsReadRefusalFound below minimum old new view t) r
+  HasRead Ends view t r = Ends (IsRead times old new view t) (IsReadRefusalFound times old new view t) r
 
   -- whether all is quiet, and whether a number is too large
   abbrev pub HasAskedQuiet : Question Bool → Result Bool Refusal → Type 0
-  HasAskedQuiet Ends r = Ends (λ quiet. IsTrue quiet ↔ WasQuiet below minimum old new) (λ refusal. ⊥) r
+  HasAskedQuiet Ends r = Ends (λ quiet. IsTrue quiet ↔ WasQuiet times old new) (λ refusal. ⊥) r
 
   abbrev pub HasAskedLarge : Question Bool → (T → T → Ordering) → Result Bool Refusal → Type 0
-  HasAskedLarge Ends cmp r = Ends (λ large. IsTrue large → WasTooLarge below minimum old new cmp) (λ refusal. ⊥) r
+  HasAskedLarge Ends cmp r = Ends (λ large. IsTrue large → WasTooLarge times old new cmp) (λ refusal. ⊥) r

@@ -3,7 +3,8 @@ use Rattle.std.specs.Prelude.{◌≡◌, ◌⊎◌, Bool, true, false, IsTrue}
 use Rattle.update.specs.declared.refusal.Refusal.{Refusal}
 use Rattle.update.specs.declared.refusal.Refusal.TheVariants.{OutOfMemory, Overflow, Failed, NoThread}
 
--- what ends a worker's part: memory was refused, or it met a number that is too large, now or earlier
+-- what ends a worker's part: memory was refused, or it met a number that is too large, now or
+-- earlier
 abbrev pub ends_work : Refusal → Bool
 ends_work OutOfMemory = true
 ends_work Overflow = true

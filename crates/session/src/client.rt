@@ -1,8 +1,8 @@
 //! A client: it changes inputs and asks views.
 //!
-//! Each call here tries once to enter the board. It is refused with `Busy` if another one has the board
-//! just then; nothing has happened then, and the call can be made again. Else it is one event of
-//! this client, and its answer is right for all that its tenure found. `specs/Clients` says what
+//! Each call here tries once to enter the board. It is refused with `Busy` if another one has the
+//! board just then; nothing has happened then, and the call can be made again. Else it is one event
+//! of this client, and its answer is right for all that its tenure found. `specs/Clients` says what
 //! each answer and each refusal means. The invariant is that the actor is no worker, so a client
 //! never does a worker's part. Each call has a twin that waits (`waiting`).
 ghost use Rattle.std.specs.Prelude.{◌≡◌, ◌≤◌, ◌<◌, IsTrue, length};
@@ -11,10 +11,10 @@ ghost use Rattle.histories.specs.Histories.{IsInput};
 ghost use Rattle.histories.specs.Histories.Dataflows.{node_of};
 ghost use Rattle.shared_board.specs.Calls.{AreListed, IsAnswered, IsDone};
 ghost use Rattle.shared_board.specs.Found.{IsChangesRefusalFound, dataflow_of};
-ghost use Rattle.shared_board.specs.Tenures.{IsActor, terms_in};
+ghost use Rattle.shared_board.specs.Tenures.{IsActor, opening_in};
 ghost use Rattle.session.specs.Clients.{HasAskedLarge, HasAskedQuiet, HasRead, IsAdvanced, IsClosed, IsFed, IsGivenUp, IsProbed, row_fed};
 
-mod waiting;
+mod in_turn;
 
 use antichain::Antichain;
 use lattice::Minimum;
@@ -34,21 +34,21 @@ pub struct Client<T: Minimum, P: BoardProtocol<T>> {
 impl<T: Minimum, P: BoardProtocol<T>> Model for Client<T, P> {
     ghost use Rattle.std.specs.Prelude.{◌≤◌};
     ghost use Rattle.hub.specs.Known.{Known};
-    ghost use Rattle.shared_board.specs.Tenures.{terms_in};
-    ghost use Rattle.shared_board.specs.declared.event.Doing.{Doing};
+    ghost use Rattle.shared_board.specs.Tenures.{opening_in};
+    ghost use Rattle.shared_board.specs.declared.event.BoardEvent.{BoardEvent};
 
-    ghost Value = { Known (Doing T) };
+    ghost Value = { Known (BoardEvent T) };
 
     ghost view = { λ c. c.actor };
 
-    ghost invariant = { λ c. (terms_in c.actor.seen).dataflow.workers ≤ c.actor.number };
+    ghost invariant = { λ c. (opening_in c.actor.seen).dataflow.workers ≤ c.actor.number };
 }
 
 impl<T: Minimum, P: BoardProtocol<T>> Client<T, P> {
     /// The client of an actor that is no worker of its board: workers have the numbers below. Takes
     /// no memory.
     pub fn new(actor: Actor<T, P>) -> Client<T, P>
-        requires client { (terms_in actor.seen).dataflow.workers ≤ actor.number }
+        requires client { (opening_in actor.seen).dataflow.workers ≤ actor.number }
         ensures { result ≡ actor }
     {
         Client { actor }
@@ -56,7 +56,7 @@ impl<T: Minimum, P: BoardProtocol<T>> Client<T, P> {
 
     /// Costs nothing. It tells the prover what holds of each client.
     pub fn known(&self)
-        ensures { IsActor T.below T.least self.now }
+        ensures { IsActor T.times self.now }
     {
         self.actor.known();
     }
@@ -75,7 +75,7 @@ impl<T: Minimum, P: BoardProtocol<T>> Client<T, P> {
         diff: i64,
     ) -> Result<(), Refusal>
         requires input { IsInput (dataflow_of self.old) input }
-        ensures { IsFed T.below T.least self.old self.new (IsDone self.old self.new)
+        ensures { IsFed T.times self.old self.new (IsDone self.old self.new)
             (row_fed input columns.now time diff) result }
     {
         self.actor.known();
@@ -90,7 +90,7 @@ impl<T: Minimum, P: BoardProtocol<T>> Client<T, P> {
     /// this frontier. Refused with `NotForward`, then with `OutOfMemory`.
     pub fn advance(&mut self, input: NodeId, frontier: &Antichain<T>) -> Result<(), Refusal>
         requires input { IsInput (dataflow_of self.old) input }
-        ensures { IsAdvanced T.below T.least self.old self.new (IsDone self.old self.new)
+        ensures { IsAdvanced T.times self.old self.new (IsDone self.old self.new)
             input frontier.now result }
     {
         self.actor.try_advance(input, frontier.elements())
@@ -99,7 +99,7 @@ impl<T: Minimum, P: BoardProtocol<T>> Client<T, P> {
     /// Closes an input: it takes no more changes. Refused with `Busy` alone. Takes no memory.
     pub fn close_input(&mut self, input: NodeId) -> Result<(), Refusal>
         requires input { IsInput (dataflow_of self.old) input }
-        ensures { IsClosed T.below T.least self.old self.new (IsDone self.old self.new)
+        ensures { IsClosed T.times self.old self.new (IsDone self.old self.new)
             input result }
     {
         self.actor.try_close(input)
@@ -110,7 +110,7 @@ impl<T: Minimum, P: BoardProtocol<T>> Client<T, P> {
     pub fn allow(&mut self, view: NodeId, frontier: &Antichain<T>) -> Result<(), Refusal>
         requires within { view < length (dataflow_of self.old).nodes }
         requires view { IsTrue (is_output (node_of (dataflow_of self.old) view)) }
-        ensures { IsGivenUp T.below T.least self.old self.new (IsDone self.old self.new)
+        ensures { IsGivenUp T.times self.old self.new (IsDone self.old self.new)
             view frontier.now result }
     {
         self.actor.try_allow(view, frontier.elements())
@@ -120,7 +120,7 @@ impl<T: Minimum, P: BoardProtocol<T>> Client<T, P> {
     /// `OutOfMemory`.
     pub fn probe(&mut self, view: NodeId) -> Result<Antichain<T>, Refusal>
         requires within { view < length (dataflow_of self.old).nodes }
-        ensures { IsProbed T.below T.least self.old self.new (IsAnswered self.old self.new)
+        ensures { IsProbed T.times self.old self.new (IsAnswered self.old self.new)
             view result }
     {
         self.actor.try_frontier(view)
@@ -133,7 +133,7 @@ impl<T: Minimum, P: BoardProtocol<T>> Client<T, P> {
     pub fn read(&mut self, view: NodeId, time: T) -> Result<Bag, Refusal>
         requires within { view < length (dataflow_of self.old).nodes }
         requires view { IsTrue (is_output (node_of (dataflow_of self.old) view)) }
-        ensures { HasRead T.below T.least self.old self.new (IsAnswered self.old self.new)
+        ensures { HasRead T.times self.old self.new (IsAnswered self.old self.new)
             view time result }
     {
         self.actor.try_read(view, time)
@@ -145,8 +145,8 @@ impl<T: Minimum, P: BoardProtocol<T>> Client<T, P> {
         requires within { view < length (dataflow_of self.old).nodes }
         requires view { IsTrue (is_output (node_of (dataflow_of self.old) view)) }
         ensures { IsAnswered self.old self.new
-            (λ us. AreListed T.below T.least self.old self.new T.cmp view us.items)
-            (IsChangesRefusalFound T.below T.least self.old self.new view) result }
+            (λ us. AreListed T.times self.old self.new T.cmp view us.items)
+            (IsChangesRefusalFound T.times self.old self.new view) result }
     {
         self.actor.try_changes(view)
     }
@@ -154,7 +154,7 @@ impl<T: Minimum, P: BoardProtocol<T>> Client<T, P> {
     /// Whether no accepted change is still in flight: then each view's frontier is that of its
     /// inputs. Refused with `Busy` alone. Takes no memory.
     pub fn quiet(&mut self) -> Result<bool, Refusal>
-        ensures { HasAskedQuiet T.below T.least self.old self.new
+        ensures { HasAskedQuiet T.times self.old self.new
             (IsAnswered self.old self.new) result }
     {
         self.actor.try_is_quiet()
@@ -163,7 +163,7 @@ impl<T: Minimum, P: BoardProtocol<T>> Client<T, P> {
     /// Whether a worker told that a number is too large with the changes accepted so far. Refused
     /// with `Busy` alone. Takes no memory.
     pub fn is_too_large(&mut self) -> Result<bool, Refusal>
-        ensures { HasAskedLarge T.below T.least self.old self.new
+        ensures { HasAskedLarge T.times self.old self.new
             (IsAnswered self.old self.new) T.cmp result }
     {
         self.actor.try_is_too_large()

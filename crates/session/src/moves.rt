@@ -1,7 +1,7 @@
 //! Moves: which worker does what next, as data.
 //!
-//! A list of moves is a schedule. Since a step says which of its pieces the worker takes, and each number
-//! is one, every order in which workers can take pieces is such a list.
+//! A list of moves is a schedule. Since a step says which of its pieces the worker takes, and each
+//! number is one, every order in which workers can take pieces is such a list.
 ghost use Rattle.std.specs.Prelude.{◌≡◌};
 ghost use Rattle.session.specs.Moves.{AreMoved, HasMoved, IsMoved};
 
@@ -49,7 +49,7 @@ fn make_of<T: Minimum, P: BoardProtocol<T>>(
     worker: &mut Worker<T, P>,
     move_: &Move,
 ) -> Result<(), Refusal>
-    ensures { HasMoved T.below T.least T.cmp move_.now worker.old worker.new result }
+    ensures { HasMoved T.times T.cmp move_.now worker.old worker.new result }
 {
     match move_ {
         Move::Step { pick, .. } => {
@@ -68,7 +68,7 @@ fn make<T: Minimum, P: BoardProtocol<T>>(
     workers: &mut [Worker<T, P>],
     move_: &Move,
 ) -> Result<(), Refusal>
-    ensures { IsMoved T.below T.least T.cmp move_.now workers.old workers.new result }
+    ensures { IsMoved T.times T.cmp move_.now workers.old workers.new result }
 {
     let place = move_.place();
     if place >= workers.len() {
@@ -77,15 +77,15 @@ fn make<T: Minimum, P: BoardProtocol<T>>(
     make_of(alloc, &mut workers[place], move_)
 }
 
-/// Makes these moves, one after another, on the caller's thread. A move of a worker that is not there
-/// does nothing, and so does one that finds the board away. It ends at the first refusal, and keeps what
-/// was done until then: 1, 10 and 12, as [`Worker::step_at`] and [`Worker::tidy`] say.
+/// Makes these moves, one after another, on the caller's thread. A move of a worker that is not
+/// there does nothing, and so does one that finds the board away. It ends at the first refusal, and
+/// keeps what was done until then: 1, 10 and 12, as [`Worker::step_at`] and [`Worker::tidy`] say.
 pub fn drive<T: Minimum, P: BoardProtocol<T>>(
     alloc: Global,
     workers: &mut [Worker<T, P>],
     moves: &[Move],
 ) -> Result<(), Refusal>
-    ensures { AreMoved T.below T.least T.cmp moves.now workers.old workers.new result }
+    ensures { AreMoved T.times T.cmp moves.now workers.old workers.new result }
 {
     for move_ in moves {
         make(alloc, workers, move_)?;

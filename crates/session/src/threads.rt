@@ -9,10 +9,10 @@
 //! A worker for which there is nothing sleeps until the bell rings (`signals`). One that finds the
 //! board away rests before it tries again (`rest`). Who gives rings the bell, unless more bundles
 //! wait for it at the node: then it gives nothing yet. No clause says that a run ends: tests do.
-ghost use Rattle.std.specs.Prelude.{◌≡◌, IfErr};
+ghost use Rattle.std.specs.Prelude.{IfErr};
 ghost use Rattle.std.specs.Result.{ForErr};
 ghost use Rattle.std.specs.Thread.{IsSync};
-ghost use Rattle.update.specs.declared.refusal.Refusal.TheVariants.{OutOfMemory};
+ghost use Rattle.update.specs.Refusals.{OnlyMemory};
 ghost use Rattle.session.specs.Threads.{EndsThreads, EndsWork};
 
 use crate::rest::Rest;
@@ -153,7 +153,7 @@ fn run_seat<W: Works, G: Gate, R: Wait>(
 
 // Puts each worker under a lock of its own.
 fn seated<'w, W>(alloc: Global, workers: &'w mut [W]) -> Result<Vec<Mutex<Seat<'w, W>>>, Refusal>
-    ensures { IfErr result (λ refusal. refusal ≡ OutOfMemory) }
+    ensures { OnlyMemory result }
 {
     let mut seats = Vec::new(alloc);
     let each = workers.iter_mut();
@@ -211,7 +211,8 @@ fn first_told<W>(seats: Vec<Mutex<Seat<'_, W>>>) -> Result<(), Refusal>
 /// the next run goes on from there.
 ///
 /// Refused with [`Refusal::NoThread`], else as the refused worker of the lowest place: with
-/// [`Refusal::OutOfMemory`], [`Refusal::Overflow`] or [`Refusal::Failed`], as [`Worker::step_at`] says.
+/// [`Refusal::OutOfMemory`], [`Refusal::Overflow`] or [`Refusal::Failed`], as [`Worker::step_at`]
+/// says.
 ///
 /// Cost: a thread for each worker, and what their steps cost.
 pub fn run_threads<W: Works + Send, G: Gate + Sync, R: Threads + Wait + Sync>(

@@ -22,9 +22,10 @@ use Rattle.histories.specs.Histories.{IsAllowed, IsGive, IsLegal, actor_of, next
 use Rattle.histories.specs.declared.event.Bundle.{Bundle}
 use Rattle.histories.specs.declared.event.Emission.{Emission}
 use Rattle.shared_board.proofs.ApartLemmas.{give_apart}
-use Rattle.shared_board.specs.declared.event.Doing.{Doing}
+use Rattle.shared_board.specs.declared.event.BoardEvent.{BoardEvent}
 use Rattle.shared_board.specs.Widths.{HasWidths}
-use Rattle.shared_board.specs.Tenures.{WaitsOrNot, WaitsOrNotIn, Terms, SharedState, events, terms_of_board, doing, is_change, AreOn, left_by, StandsFor, terms_in, AreKnown, found_last, state_found, state_left, Adds, IsActor, IsFirst}
+use Rattle.shared_board.specs.Tenures.{WaitsOrNot, WaitsOrNotIn, Opening, SharedState, events, opening_of_board, doing, is_change, AreOn, left_by, StandsFor, opening_in, AreKnown, found_last, state_found, state_left, IsNextTenure, IsActor, IsFirst}
+use Rattle.lattice.specs.Times.{Times}
 
 pub is_some_at : {A : Type 0} (o : Option A) (P : A → Type 0) → IsSomeAnd o P → (x : A) → o ≡ Some x → P x
 is_some_at o P h x e = subst (λ (z : Option _). IsSomeAnd z P) e h
@@ -51,17 +52,17 @@ both_some (Some x) P Q R f h k = f x h k
 
 module _ {T : Type 0} where
   -- an actor that has seen an entry knows the terms of the board
-  knows_terms : (t : Terms) (others seen : List (Entry (Doing T))) → AreOn t (others ++ seen) → AreKnown seen → t ≡ terms_in seen
+  knows_terms : (t : Opening) (others seen : List (Entry (BoardEvent T))) → AreOn t (others ++ seen) → AreKnown seen → t ≡ opening_in seen
   knows_terms t [] [] on known = absurd known
   knows_terms t [] (e ∷ es) on known = sym on.0.terms
   knows_terms t (x ∷ others) seen on known = knows_terms t others seen on.1 known
 
   -- what others did changes nothing of a worker
-  pub others_apart : (below : T → T → Bool) (minimum : T) (p : Dataflow) (t : Terms) (k : ℕ) (others seen : List (Entry (Doing T))) → NoneBy k others → AreOn t (others ++ seen) → IsSameOfWorker k (left_by below minimum p seen) (left_by below minimum p (others ++ seen))
-  others_apart below minimum p t k [] seen none on = record { received = λ n port. refl; emitted = λ n. refl; held = λ n. refl; hand = refl; observed = refl }
-  others_apart below minimum p t k (e ∷ others) seen none on =
-      let before = others_apart below minimum p t k others seen none.1 on.1 in
-      let last = worker_apart below p (left_by below minimum p (others ++ seen)) k e.event.event (λ same. none.0 (sym on.0.own ∙ same)) in
+  pub others_apart : (times : Times T) (p : Dataflow) (t : Opening) (k : ℕ) (others seen : List (Entry (BoardEvent T))) → NoneBy k others → AreOn t (others ++ seen) → IsSameOfWorker k (left_by times p seen) (left_by times p (others ++ seen))
+  others_apart times p t k [] seen none on = record { received = λ n port. refl; emitted = λ n. refl; held = λ n. refl; hand = refl; observed = refl }
+  others_apart times p t k (e ∷ others) seen none on =
+      let before = others_apart times p t k others seen none.1 on.1 in
+      let last = worker_apart times p (left_by times p (others ++ seen)) k e.event.event (λ same. none.0 (sym on.0.own ∙ same)) in
       record {
         received = λ n port. last.received n port ∙ before.received n port;
         emitted = λ n. last.emitted n ∙ before.emitted n;
@@ -71,11 +72,11 @@ module _ {T : Type 0} where
       }
 
   -- an event of anyone but the only client changes nothing of what clients change
-  module _ (below : T → T → Bool) (p : Dataflow) (w : State T) where
+  module _ (times : Times T) (p : Dataflow) (w : State T) where
     pub not_by_others : (c by k actors : ℕ) → p.workers ≡ k → actors ≡ suc k → p.workers ≤ c → c ≡ by → by < actors → (by ≡ k → ⊥) → ⊥
     not_by_others c by k actors workers one client own there other = other (omega (arith, workers, one, client, own, there))
 
-    client_apart : (k by actors : ℕ) (e : Event T) → p.workers ≡ k → actors ≡ suc k → actor_of e ≡ by → (IsTrue (is_change e) → by < actors) → (by ≡ k → ⊥) → IsAllowed below p w e → IsSameOfClients w (next_state below p w e)
+    client_apart : (k by actors : ℕ) (e : Event T) → p.workers ≡ k → actors ≡ suc k → actor_of e ≡ by → (IsTrue (is_change e) → by < actors) → (by ≡ k → ⊥) → IsAllowed times p w e → IsSameOfClients w (next_state times p w e)
     client_apart k by actors (Feed c f) workers one own there other allowed = absurd (not_by_others c by k actors workers one allowed.client own (there refl) other)
     client_apart k by actors (Advance c i ts) workers one own there other allowed = absurd (not_by_others c by k actors workers one allowed.client own (there refl) other)
     client_apart k by actors (Allow c v ts) workers one own there other allowed = absurd (not_by_others c by k actors workers one allowed.client own (there refl) other)
@@ -85,161 +86,161 @@ module _ {T : Type 0} where
     client_apart k by actors (Give g ts sent) workers one own there other allowed = record { fed = refl; open_times = refl; since = λ v. refl }
 
   -- what anyone but the only client did changes nothing of what clients change
-  pub only_client : (below : T → T → Bool) (minimum : T) (p : Dataflow) (t : Terms) (k : ℕ) (others seen : List (Entry (Doing T))) → p.workers ≡ k → t.actors ≡ suc k → NoneBy k others → AreOn t (others ++ seen) → IsLegal below minimum p (events (others ++ seen))
-      → IsSameOfClients (left_by below minimum p seen) (left_by below minimum p (others ++ seen))
-  only_client below minimum p t k [] seen workers one none on legal = record { fed = refl; open_times = refl; since = λ v. refl }
-  only_client below minimum p t k (e ∷ others) seen workers one none on legal =
-      let before = only_client below minimum p t k others seen workers one none.1 on.1 legal.1 in
-      let last = client_apart below p (left_by below minimum p (others ++ seen)) k e.by t.actors e.event.event workers one on.0.own on.0.actor none.0 legal.0 in
+  pub only_client : (times : Times T) (p : Dataflow) (t : Opening) (k : ℕ) (others seen : List (Entry (BoardEvent T))) → p.workers ≡ k → t.actors ≡ suc k → NoneBy k others → AreOn t (others ++ seen) → IsLegal times p (events (others ++ seen))
+      → IsSameOfClients (left_by times p seen) (left_by times p (others ++ seen))
+  only_client times p t k [] seen workers one none on legal = record { fed = refl; open_times = refl; since = λ v. refl }
+  only_client times p t k (e ∷ others) seen workers one none on legal =
+      let before = only_client times p t k others seen workers one none.1 on.1 legal.1 in
+      let last = client_apart times p (left_by times p (others ++ seen)) k e.by t.actors e.event.event workers one on.0.own on.0.actor none.0 legal.0 in
       record { fed = last.fed ∙ before.fed; open_times = last.open_times ∙ before.open_times; since = λ v. last.since v ∙ before.since v }
 
   -- the actor is in a tenure, and found this board, which stands for these entries
-  pub record IsIn (below : T → T → Bool) (minimum : T) (cmp : T → T → Ordering) (k : Known (Doing T)) (b : SharedState T) (hub : TableId) (number : ℕ) (found : List (Entry (Doing T))) : Type 0 where
-    pub actor : IsActor below minimum k
+  pub record IsIn (times : Times T) (cmp : T → T → Ordering) (k : Known (BoardEvent T)) (b : SharedState T) (hub : TableId) (number : ℕ) (found : List (Entry (BoardEvent T))) : Type 0 where
+    pub actor : IsActor times k
     pub its_hub : hub ≡ k.hub
     pub its_number : number ≡ k.number
     pub agrees : AgreesWith k found
-    pub stands : StandsFor below minimum cmp b found
+    pub stands : StandsFor times cmp b found
 
   -- what holds of a pass after the tenure
-  pub record IsAfter (below : T → T → Bool) (minimum : T) (k : Known (Doing T)) (found : List (Entry (Doing T))) (event : Event T) (accepted : Option ℕ) (n : Known (Doing T)) : Type 0 where
+  pub record IsAfter (times : Times T) (k : Known (BoardEvent T)) (found : List (Entry (BoardEvent T))) (event : Event T) (accepted : Option ℕ) (n : Known (BoardEvent T)) : Type 0 where
     pub same_hub : n.hub ≡ k.hub
     pub same_number : n.number ≡ k.number
-    pub adds : Adds k event n
-    pub actor : IsActor below minimum n
-    pub counted : (m : ℕ) → accepted ≡ Some m → length (state_left below minimum n).fed ≡ m
-    pub terms : terms_in n.seen ≡ terms_in k.seen
+    pub adds : IsNextTenure k event n
+    pub actor : IsActor times n
+    pub counted : (m : ℕ) → accepted ≡ Some m → length (state_left times n).fed ≡ m
+    pub terms : opening_in n.seen ≡ opening_in k.seen
     pub found_is : found_last n ≡ found
 
-  module _ (below : T → T → Bool) (minimum : T) (cmp : T → T → Ordering) (k : Known (Doing T)) (b : SharedState T) (hub : TableId) (number : ℕ) (found : List (Entry (Doing T))) (t : IsIn below minimum cmp k b hub number found) where
+  module _ (times : Times T) (cmp : T → T → Ordering) (k : Known (BoardEvent T)) (b : SharedState T) (hub : TableId) (number : ℕ) (found : List (Entry (BoardEvent T))) (t : IsIn times cmp k b hub number found) where
     -- the board that an actor finds is on the terms that it knows
-    pub terms_found : terms_of_board b ≡ terms_in k.seen
-    terms_found = knows_terms (terms_of_board b) t.agrees.0 k.seen (subst (λ (es : List (Entry (Doing T))). AreOn (terms_of_board b) es) t.agrees.1 t.stands.on) t.actor.known
+    pub opening_found : opening_of_board b ≡ opening_in k.seen
+    opening_found = knows_terms (opening_of_board b) t.agrees.0 k.seen (subst (λ (es : List (Entry (BoardEvent T))). AreOn (opening_of_board b) es) t.agrees.1 t.stands.on) t.actor.known
 
     -- what is known of the terms holds of the board that a call is made on
-    pub at_board : (F : Terms → Type 0) → F (terms_in k.seen) → (m : SharedState T) → m ≡ b → F (terms_of_board m)
-    at_board F f m same = subst F (sym (ap terms_of_board same ∙ terms_found)) f
+    pub at_board : (F : Opening → Type 0) → F (opening_in k.seen) → (m : SharedState T) → m ≡ b → F (opening_of_board m)
+    at_board F f m same = subst F (sym (ap opening_of_board same ∙ opening_found)) f
 
     -- what a call says of all entries that the board may stand for holds of those that were found
-    pub of_found : (F : Dataflow → State T → Type 0) → (m : SharedState T) → m ≡ b → ((es : List (Entry (Doing T))) → StandsFor below minimum cmp m es → F m.board.dataflow (left_by below minimum m.board.dataflow es))
-        → {event : Event T} → {accepted : Option ℕ} → (n : Known (Doing T)) → IsAfter below minimum k found event accepted n → F (terms_in k.seen).dataflow (state_found below minimum n)
+    pub of_found : (F : Dataflow → State T → Type 0) → (m : SharedState T) → m ≡ b → ((es : List (Entry (BoardEvent T))) → StandsFor times cmp m es → F m.board.dataflow (left_by times m.board.dataflow es))
+        → {event : Event T} → {accepted : Option ℕ} → (n : Known (BoardEvent T)) → IsAfter times k found event accepted n → F (opening_in k.seen).dataflow (state_found times n)
     of_found F m same says n after =
-        let here = says found (subst (λ (x : SharedState T). StandsFor below minimum cmp x found) (sym same) t.stands) in
-        let known = subst (λ (x : Terms). F x.dataflow (left_by below minimum x.dataflow found)) (ap terms_of_board same ∙ terms_found) here in
-        subst (λ (x : Terms × List (Entry (Doing T))). F (terms_in k.seen).dataflow (left_by below minimum x.0.dataflow x.1)) (λ i. (sym after.terms i, sym after.found_is i)) known
+        let here = says found (subst (λ (x : SharedState T). StandsFor times cmp x found) (sym same) t.stands) in
+        let known = subst (λ (x : Opening). F x.dataflow (left_by times x.dataflow found)) (ap opening_of_board same ∙ opening_found) here in
+        subst (λ (x : Opening × List (Entry (BoardEvent T))). F (opening_in k.seen).dataflow (left_by times x.0.dataflow x.1)) (λ i. (sym after.terms i, sym after.found_is i)) known
 
     -- the board on which the call was made stands for what was found
-    pub stood_at : (m : SharedState T) → m ≡ b → StandsFor below minimum cmp m found
-    stood_at m same = subst (λ (x : SharedState T). StandsFor below minimum cmp x found) (sym same) t.stands
+    pub stood_at : (m : SharedState T) → m ≡ b → StandsFor times cmp m found
+    stood_at m same = subst (λ (x : SharedState T). StandsFor times cmp x found) (sym same) t.stands
 
     -- the board may be given back
-    pub leaves_with : (m c : SharedState T) (own : ℕ) → k.number ≡ own → terms_of_board c ≡ terms_of_board m → StandsFor below minimum cmp c (entry own (doing (terms_of_board m) c.board.last) ∷ found) → StandsFor below minimum cmp c (entry number (doing (terms_of_board c) c.board.last) ∷ found)
-    leaves_with m c own e terms next = subst (λ (x : Terms × ℕ). StandsFor below minimum cmp c (entry x.1 (doing x.0 c.board.last) ∷ found)) (λ i. (sym terms i, (sym e ∙ sym t.its_number) i)) next
+    pub leaves_with : (m c : SharedState T) (own : ℕ) → k.number ≡ own → opening_of_board c ≡ opening_of_board m → StandsFor times cmp c (entry own (doing (opening_of_board m) c.board.last) ∷ found) → StandsFor times cmp c (entry number (doing (opening_of_board c) c.board.last) ∷ found)
+    leaves_with m c own e terms next = subst (λ (x : Opening × ℕ). StandsFor times cmp c (entry x.1 (doing x.0 c.board.last) ∷ found)) (λ i. (sym terms i, (sym e ∙ sym t.its_number) i)) next
 
-    pub leaves : (m c : SharedState T) (own : ℕ) → m ≡ b → k.number ≡ own → terms_of_board c ≡ terms_of_board m → ((es : List (Entry (Doing T))) → StandsFor below minimum cmp m es → StandsFor below minimum cmp c (entry own (doing (terms_of_board m) c.board.last) ∷ es))
-        → StandsFor below minimum cmp c (entry number (doing (terms_of_board c) c.board.last) ∷ found)
+    pub leaves : (m c : SharedState T) (own : ℕ) → m ≡ b → k.number ≡ own → opening_of_board c ≡ opening_of_board m → ((es : List (Entry (BoardEvent T))) → StandsFor times cmp m es → StandsFor times cmp c (entry own (doing (opening_of_board m) c.board.last) ∷ es))
+        → StandsFor times cmp c (entry number (doing (opening_of_board c) c.board.last) ∷ found)
     leaves m c own same e terms next = leaves_with m c own e terms (next found (stood_at m same))
 
     -- the call of the tenure was made on m by this actor, and left c
-    pub after_with : (m c : SharedState T) (own : ℕ) → m ≡ b → k.number ≡ own → terms_of_board c ≡ terms_of_board m → StandsFor below minimum cmp c (entry own (doing (terms_of_board m) c.board.last) ∷ found)
-        → (n : Known (Doing T)) → n ≡ record { hub = hub; number = number; seen = entry number (doing (terms_of_board c) c.board.last) ∷ found } → IsAfter below minimum k found c.board.last c.accepted n
+    pub after_with : (m c : SharedState T) (own : ℕ) → m ≡ b → k.number ≡ own → opening_of_board c ≡ opening_of_board m → StandsFor times cmp c (entry own (doing (opening_of_board m) c.board.last) ∷ found)
+        → (n : Known (BoardEvent T)) → n ≡ record { hub = hub; number = number; seen = entry number (doing (opening_of_board c) c.board.last) ∷ found } → IsAfter times k found c.board.last c.accepted n
     after_with m c own same e terms next n is_n =
         let event = c.board.last in
-        let all : terms_of_board c ≡ terms_in k.seen = terms ∙ (ap terms_of_board same ∙ terms_found) in
-        let known : n ≡ record { hub = k.hub; number = k.number; seen = entry k.number (doing (terms_in k.seen) event) ∷ found } = is_n ∙ (λ i. record { hub = t.its_hub i; number = t.its_number i; seen = entry (t.its_number i) (doing (all i) event) ∷ found }) in
-        let here = subst (λ (x : Terms × ℕ). StandsFor below minimum cmp c (entry x.1 (doing x.0 event) ∷ found)) (λ i. ((ap terms_of_board same ∙ terms_found) i, sym e i)) next in
-        subst (IsAfter below minimum k found event c.accepted) (sym known) (record {
+        let all : opening_of_board c ≡ opening_in k.seen = terms ∙ (ap opening_of_board same ∙ opening_found) in
+        let known : n ≡ record { hub = k.hub; number = k.number; seen = entry k.number (doing (opening_in k.seen) event) ∷ found } = is_n ∙ (λ i. record { hub = t.its_hub i; number = t.its_number i; seen = entry (t.its_number i) (doing (all i) event) ∷ found }) in
+        let here = subst (λ (x : Opening × ℕ). StandsFor times cmp c (entry x.1 (doing x.0 event) ∷ found)) (λ i. ((ap opening_of_board same ∙ opening_found) i, sym e i)) next in
+        subst (IsAfter times k found event c.accepted) (sym known) (record {
           same_hub = refl;
           same_number = refl;
           adds = record {
             others = t.agrees.0;
             apart = t.agrees.2;
-            new_is = λ i. record { hub = k.hub; number = k.number; seen = entry k.number (doing (terms_in k.seen) event) ∷ t.agrees.1 i };
+            new_is = λ i. record { hub = k.hub; number = k.number; seen = entry k.number (doing (opening_in k.seen) event) ∷ t.agrees.1 i };
           };
           actor = record {
-            known = subst (λ (x : Terms). AreOn x (entry k.number (doing (terms_in k.seen) event) ∷ found)) all here.on;
-            dataflow = subst (λ (x : Terms). IsDataflow x.dataflow) all here.dataflow;
-            legal = subst (λ (x : Terms). IsLegal below minimum x.dataflow (event ∷ events found)) all here.stands.legal;
-            wide = subst (λ (x : Terms). HasWidths x.dataflow (left_by below minimum x.dataflow (entry k.number (doing (terms_in k.seen) event) ∷ found))) all here.wide;
+            known = subst (λ (x : Opening). AreOn x (entry k.number (doing (opening_in k.seen) event) ∷ found)) all here.on;
+            dataflow = subst (λ (x : Opening). IsDataflow x.dataflow) all here.dataflow;
+            legal = subst (λ (x : Opening). IsLegal times x.dataflow (event ∷ events found)) all here.stands.legal;
+            wide = subst (λ (x : Opening). HasWidths x.dataflow (left_by times x.dataflow (entry k.number (doing (opening_in k.seen) event) ∷ found))) all here.wide;
             actor = t.actor.actor;
           };
-          counted = λ j f. ap (λ (x : Terms). length (left_by below minimum x.dataflow (entry k.number (doing (terms_in k.seen) event) ∷ found)).fed) (sym all) ∙ here.counted j f;
+          counted = λ j f. ap (λ (x : Opening). length (left_by times x.dataflow (entry k.number (doing (opening_in k.seen) event) ∷ found)).fed) (sym all) ∙ here.counted j f;
           terms = refl;
           found_is = refl;
         })
 
-    pub after_tenure : (m c : SharedState T) (own : ℕ) → m ≡ b → k.number ≡ own → terms_of_board c ≡ terms_of_board m → ((es : List (Entry (Doing T))) → StandsFor below minimum cmp m es → StandsFor below minimum cmp c (entry own (doing (terms_of_board m) c.board.last) ∷ es))
-        → (n : Known (Doing T)) → n ≡ record { hub = hub; number = number; seen = entry number (doing (terms_of_board c) c.board.last) ∷ found } → IsAfter below minimum k found c.board.last c.accepted n
+    pub after_tenure : (m c : SharedState T) (own : ℕ) → m ≡ b → k.number ≡ own → opening_of_board c ≡ opening_of_board m → ((es : List (Entry (BoardEvent T))) → StandsFor times cmp m es → StandsFor times cmp c (entry own (doing (opening_of_board m) c.board.last) ∷ es))
+        → (n : Known (BoardEvent T)) → n ≡ record { hub = hub; number = number; seen = entry number (doing (opening_of_board c) c.board.last) ∷ found } → IsAfter times k found c.board.last c.accepted n
     after_tenure m c own same e terms next n is_n = after_with m c own same e terms (next found (stood_at m same)) n is_n
 
     -- what waits on the board that the call left waits in the state that the actor leaves
-    pub waits_left : (m c : SharedState T) (own : ℕ) → m ≡ b → k.number ≡ own → terms_of_board c ≡ terms_of_board m → ((es : List (Entry (Doing T))) → StandsFor below minimum cmp m es → StandsFor below minimum cmp c (entry own (doing (terms_of_board m) c.board.last) ∷ es))
-        → (n : Known (Doing T)) → n ≡ record { hub = hub; number = number; seen = entry number (doing (terms_of_board c) c.board.last) ∷ found } → (more : Bool) (node worker : ℕ) → WaitsOrNot more node worker c.board.stations → WaitsOrNotIn more node worker (state_left below minimum n)
+    pub waits_left : (m c : SharedState T) (own : ℕ) → m ≡ b → k.number ≡ own → opening_of_board c ≡ opening_of_board m → ((es : List (Entry (BoardEvent T))) → StandsFor times cmp m es → StandsFor times cmp c (entry own (doing (opening_of_board m) c.board.last) ∷ es))
+        → (n : Known (BoardEvent T)) → n ≡ record { hub = hub; number = number; seen = entry number (doing (opening_of_board c) c.board.last) ∷ found } → (more : Bool) (node worker : ℕ) → WaitsOrNot more node worker c.board.stations → WaitsOrNotIn more node worker (state_left times n)
     waits_left m c own same e terms next n is_n more node worker waits =
         let here = next found (stood_at m same) in
-        let queues : (site : Site) → queue_of c.board.stations site ≡ queue site (state_left below minimum n).in_flight
-        = λ site. here.stands.queues site ∙ ap (λ (x : Known (Doing T)). queue site (state_left below minimum x).in_flight) (sym is_n) in (
+        let queues : (site : Site) → queue_of c.board.stations site ≡ queue site (state_left times n).in_flight
+        = λ site. here.stands.queues site ∙ ap (λ (x : Known (BoardEvent T)). queue site (state_left times x).in_flight) (sym is_n) in (
           λ some. let x = waits.0 some in (x.0, subst (λ bs. 0 < length bs) (queues (place node x.0 worker)) x.1),
           λ none port. sym (queues (place node port worker)) ∙ waits.1 none port,
         )
 
     -- the hand of a worker is as it left it
-    pub hand_found : (m : SharedState T) → m ≡ b → (own : ℕ) → k.number ≡ own → own < m.board.dataflow.workers → (state_left below minimum k).hand k.number ≡ None → get_or m.board.hand own None ≡ None
+    pub hand_found : (m : SharedState T) → m ≡ b → (own : ℕ) → k.number ≡ own → own < m.board.dataflow.workers → (state_left times k).hand k.number ≡ None → get_or m.board.hand own None ≡ None
     hand_found m same own e worker free =
         let p = m.board.dataflow in
-        let stands = subst (λ (x : SharedState T). StandsFor below minimum cmp x found) (sym same) t.stands in
-        let terms : terms_of_board m ≡ terms_in k.seen = ap terms_of_board same ∙ terms_found in
-        let apart = others_apart below minimum p (terms_of_board m) k.number t.agrees.0 k.seen t.agrees.2 (subst (λ (es : List (Entry (Doing T))). AreOn (terms_of_board m) es) t.agrees.1 stands.on) in
+        let stands = subst (λ (x : SharedState T). StandsFor times cmp x found) (sym same) t.stands in
+        let terms : opening_of_board m ≡ opening_in k.seen = ap opening_of_board same ∙ opening_found in
+        let apart = others_apart times p (opening_of_board m) k.number t.agrees.0 k.seen t.agrees.2 (subst (λ (es : List (Entry (BoardEvent T))). AreOn (opening_of_board m) es) t.agrees.1 stands.on) in
         stands.stands.hand own worker
-        ∙ (ap (λ (es : List (Entry (Doing T))). (left_by below minimum p es).hand own) t.agrees.1
-        ∙ (ap (λ (n : ℕ). (left_by below minimum p (t.agrees.0 ++ k.seen)).hand n) (sym e) ∙ (apart.hand ∙ (ap (λ (x : Terms). (left_by below minimum x.dataflow k.seen).hand k.number) terms ∙ free))))
+        ∙ (ap (λ (es : List (Entry (BoardEvent T))). (left_by times p es).hand own) t.agrees.1
+        ∙ (ap (λ (n : ℕ). (left_by times p (t.agrees.0 ++ k.seen)).hand n) (sym e) ∙ (apart.hand ∙ (ap (λ (x : Opening). (left_by times x.dataflow k.seen).hand k.number) terms ∙ free))))
 
     -- a give that was allowed when the worker left is allowed on the board that was found
     pub give_found : (m : SharedState T) → m ≡ b → (g : Emission T) (ts : List T) (sent : List (Bundle T)) → g.worker ≡ k.number
-        → IsGive below (terms_in k.seen).dataflow (state_left below minimum k) g ts sent → IsGive below m.board.dataflow (left_by below minimum m.board.dataflow found) g ts sent
+        → IsGive times (opening_in k.seen).dataflow (state_left times k) g ts sent → IsGive times m.board.dataflow (left_by times m.board.dataflow found) g ts sent
     give_found m same g ts sent own may =
-        let p = (terms_in k.seen).dataflow in
-        let stands = subst (λ (x : SharedState T). StandsFor below minimum cmp x found) (sym same) t.stands in
-        let terms : terms_of_board m ≡ terms_in k.seen = ap terms_of_board same ∙ terms_found in
-        let apart = others_apart below minimum p (terms_of_board m) g.worker t.agrees.0 k.seen (subst (λ n. NoneBy n t.agrees.0) (sym own) t.agrees.2) (subst (λ (es : List (Entry (Doing T))). AreOn (terms_of_board m) es) t.agrees.1 stands.on) in
-        subst (λ (x : Terms × List (Entry (Doing T))). IsGive below x.0.dataflow (left_by below minimum x.0.dataflow x.1) g ts sent) (λ i. (sym terms i, sym t.agrees.1 i))
-        (give_apart below p (state_left below minimum k) (left_by below minimum p (t.agrees.0 ++ k.seen)) g ts sent apart may)
+        let p = (opening_in k.seen).dataflow in
+        let stands = subst (λ (x : SharedState T). StandsFor times cmp x found) (sym same) t.stands in
+        let terms : opening_of_board m ≡ opening_in k.seen = ap opening_of_board same ∙ opening_found in
+        let apart = others_apart times p (opening_of_board m) g.worker t.agrees.0 k.seen (subst (λ n. NoneBy n t.agrees.0) (sym own) t.agrees.2) (subst (λ (es : List (Entry (BoardEvent T))). AreOn (opening_of_board m) es) t.agrees.1 stands.on) in
+        subst (λ (x : Opening × List (Entry (BoardEvent T))). IsGive times x.0.dataflow (left_by times x.0.dataflow x.1) g ts sent) (λ i. (sym terms i, sym t.agrees.1 i))
+        (give_apart times p (state_left times k) (left_by times p (t.agrees.0 ++ k.seen)) g ts sent apart may)
 
-module _ {T : Type 0} (below : T → T → Bool) (minimum : T) (cmp : T → T → Ordering) where
+module _ {T : Type 0} (times : Times T) (cmp : T → T → Ordering) where
   -- what holds of a pass after its first tenure
-  pub record IsAfterFirst (t : Terms) (own : ℕ) (hub : TableId) (accepted : Option ℕ) (n : Known (Doing T)) : Type 0 where
+  pub record IsAfterFirst (t : Opening) (own : ℕ) (hub : TableId) (accepted : Option ℕ) (n : Known (BoardEvent T)) : Type 0 where
     pub its_hub : n.hub ≡ hub
     pub its_number : n.number ≡ own
     pub first : IsFirst t own n
-    pub actor : IsActor below minimum n
-    pub counted : (m : ℕ) → accepted ≡ Some m → length (state_left below minimum n).fed ≡ m
+    pub actor : IsActor times n
+    pub counted : (m : ℕ) → accepted ≡ Some m → length (state_left times n).fed ≡ m
 
-  pub after_first : (t : Terms) (own : ℕ) (k : Known (Doing T)) → k.number ≡ own → k.seen ≡ [] → (b m c : SharedState T) (hub : TableId) (number : ℕ) (found : List (Entry (Doing T)))
-      → hub ≡ k.hub → number ≡ k.number → AgreesWith k found → StandsFor below minimum cmp b found → m ≡ b → terms_of_board m ≡ t → own < t.actors → terms_of_board c ≡ terms_of_board m
-      → ((es : List (Entry (Doing T))) → StandsFor below minimum cmp m es → StandsFor below minimum cmp c (entry own (doing (terms_of_board m) c.board.last) ∷ es)) → c.board.last ≡ Look own
-      → (n : Known (Doing T)) → n ≡ record { hub = hub; number = number; seen = entry number (doing (terms_of_board c) c.board.last) ∷ found } → IsAfterFirst t own k.hub c.accepted n
+  pub after_first : (t : Opening) (own : ℕ) (k : Known (BoardEvent T)) → k.number ≡ own → k.seen ≡ [] → (b m c : SharedState T) (hub : TableId) (number : ℕ) (found : List (Entry (BoardEvent T)))
+      → hub ≡ k.hub → number ≡ k.number → AgreesWith k found → StandsFor times cmp b found → m ≡ b → opening_of_board m ≡ t → own < t.actors → opening_of_board c ≡ opening_of_board m
+      → ((es : List (Entry (BoardEvent T))) → StandsFor times cmp m es → StandsFor times cmp c (entry own (doing (opening_of_board m) c.board.last) ∷ es)) → c.board.last ≡ Look own
+      → (n : Known (BoardEvent T)) → n ≡ record { hub = hub; number = number; seen = entry number (doing (opening_of_board c) c.board.last) ∷ found } → IsAfterFirst t own k.hub c.accepted n
   after_first t own k e none b m c hub number found its_hub its_number agrees stands same on there terms next looks n is_n =
-      let here = next found (subst (λ (x : SharedState T). StandsFor below minimum cmp x found) (sym same) stands) in
-      let stood = subst (λ (x : Terms × Event T). StandsFor below minimum cmp c (entry own (doing x.0 x.1) ∷ found)) (λ i. (on i, looks i)) here in
-      let all : terms_of_board c ≡ t = terms ∙ on in
+      let here = next found (subst (λ (x : SharedState T). StandsFor times cmp x found) (sym same) stands) in
+      let stood = subst (λ (x : Opening × Event T). StandsFor times cmp c (entry own (doing x.0 x.1) ∷ found)) (λ i. (on i, looks i)) here in
+      let all : opening_of_board c ≡ t = terms ∙ on in
       let known : n ≡ record { hub = k.hub; number = own; seen = entry own (doing t (Look own)) ∷ found } = is_n ∙ (λ i. record { hub = its_hub i; number = (its_number ∙ e) i; seen = entry ((its_number ∙ e) i) (doing (all i) (looks i)) ∷ found }) in
       subst (IsAfterFirst t own k.hub c.accepted) (sym known) (record {
         its_hub = refl;
         its_number = refl;
         first = record {
           others = found;
-          apart = subst (λ (x : ℕ × List (Entry (Doing T))). NoneBy x.0 x.1) (λ i. (e i, (sym (append-nil agrees.0) ∙ (ap (λ (es : List (Entry (Doing T))). agrees.0 ++ es) (sym none) ∙ sym agrees.1)) i)) agrees.2;
+          apart = subst (λ (x : ℕ × List (Entry (BoardEvent T))). NoneBy x.0 x.1) (λ i. (e i, (sym (append-nil agrees.0) ∙ (ap (λ (es : List (Entry (BoardEvent T))). agrees.0 ++ es) (sym none) ∙ sym agrees.1)) i)) agrees.2;
           numbered = refl;
           seen = refl;
         };
         actor = record {
-          known = subst (λ (x : Terms). AreOn x (entry own (doing t (Look own)) ∷ found)) all stood.on;
-          dataflow = subst (λ (x : Terms). IsDataflow x.dataflow) all stood.dataflow;
-          legal = subst (λ (x : Terms). IsLegal below minimum x.dataflow (Look own ∷ events found)) all stood.stands.legal;
-          wide = subst (λ (x : Terms). HasWidths x.dataflow (left_by below minimum x.dataflow (entry own (doing t (Look own)) ∷ found))) all stood.wide;
+          known = subst (λ (x : Opening). AreOn x (entry own (doing t (Look own)) ∷ found)) all stood.on;
+          dataflow = subst (λ (x : Opening). IsDataflow x.dataflow) all stood.dataflow;
+          legal = subst (λ (x : Opening). IsLegal times x.dataflow (Look own ∷ events found)) all stood.stands.legal;
+          wide = subst (λ (x : Opening). HasWidths x.dataflow (left_by times x.dataflow (entry own (doing t (Look own)) ∷ found))) all stood.wide;
           actor = there;
         };
-        counted = λ j f. ap (λ (x : Terms). length (left_by below minimum x.dataflow (entry own (doing t (Look own)) ∷ found)).fed) (sym all) ∙ stood.counted j f;
+        counted = λ j f. ap (λ (x : Opening). length (left_by times x.dataflow (entry own (doing t (Look own)) ∷ found)).fed) (sym all) ∙ stood.counted j f;
       })
 
 module _ {A : Type 0} where

@@ -1,10 +1,10 @@
 pub mod WidthLemmas
 pub mod SharedLemmas
-pub mod SharedReadingLemmas
+pub mod SharedReadLemmas
 pub mod ActorLemmas
 pub mod CallLemmas
 pub mod ApartLemmas
 pub mod QuietLemmas
 pub mod TakenLemmas
 pub mod PortLemmas
-pub mod CrossingLemmas
+pub mod CrossLemmas

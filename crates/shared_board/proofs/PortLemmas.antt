@@ -5,6 +5,7 @@ use Rattle.std.specs.Prelude.{slice_get}
 use Rattle.std.specs.Option.{unwrap_or}
 use Rattle.std.specs.declared.cmp.Ordering.{Ordering}
 use Rattle.std.proofs.lemmas.Bool.Decides.{nat_tests}
+use Rattle.lattice.specs.Times.{Times}
 use Rattle.lattice.specs.Order.{PartialOrderLaws}
 use Rattle.hub.specs.declared.view.Entry.{Entry}
 use Rattle.histories.specs.declared.event.Site.{Site}
@@ -12,7 +13,7 @@ use Rattle.machine.specs.Boards.{IsBoard}
 use Rattle.machine.specs.Boards.Reads.{on_board}
 use Rattle.machine.proofs.BoardLemmas.FrontLemmas.{port_front_stands}
 use Rattle.machine.proofs.BoardLemmas.PieceLemmas.{get_first, get_second}
-use Rattle.shared_board.specs.declared.event.Doing.{Doing}
+use Rattle.shared_board.specs.declared.event.BoardEvent.{BoardEvent}
 use Rattle.shared_board.specs.Ports.{AreFrontsOf}
 use Rattle.shared_board.specs.Tenures.{SharedState, StandsFor, events, left_by}
 
@@ -37,8 +38,8 @@ module _ {A B : Type 0} (P : A → B → Type 0) where
           (y, get_second ys (y ∷ []) i 0 at, subst (λ (v : A). P v y) found new)
 
 -- what is found on the board is what its entries leave
-module _ {T : Type 0} (below : T → T → Bool) (minimum : T) (cmp : T → T → Ordering) (o : PartialOrderLaws below) (b : SharedState T) (board : IsBoard b.board) (es : List (Entry (Doing T))) (a : StandsFor below minimum cmp b es) where
-  pub fronts_stand : (ports : List Site) (fronts : List (List T)) → AreFrontsOf below b.board.dataflow (on_board b.board) ports fronts → AreFrontsOf below b.board.dataflow (left_by below minimum b.board.dataflow es) ports fronts
+module _ {T : Type 0} (times : Times T) (cmp : T → T → Ordering) (o : PartialOrderLaws times) (b : SharedState T) (board : IsBoard b.board) (es : List (Entry (BoardEvent T))) (a : StandsFor times cmp b es) where
+  pub fronts_stand : (ports : List Site) (fronts : List (List T)) → AreFrontsOf times b.board.dataflow (on_board b.board) ports fronts → AreFrontsOf times b.board.dataflow (left_by times b.board.dataflow es) ports fronts
   fronts_stand ports fronts found i site e =
       let r = found i site e in
-      (r.0, r.1, λ t. r.2 t ∙ port_front_stands below o minimum b.board board (events es) a.stands site.node site.port t)
+      (r.0, r.1, λ t. r.2 t ∙ port_front_stands times o b.board board (events es) a.stands site.node site.port t)

@@ -1,5 +1,5 @@
 -- Each event of a board keeps the widths of its rows, if what it sends has them.
-use Rattle.std.proofs.Common.{◌≡◌, ℕ, Bool, true, eqb, List, [], ◌∷◌, ◌++◌, length, IsTrue, refl, ap, ◌∙◌}
+use Rattle.std.proofs.Common.{◌≡◌, ℕ, true, eqb, List, [], ◌∷◌, ◌++◌, length, IsTrue, refl, ap, ◌∙◌}
 use Rattle.std.specs.Prelude.{unwrap_or}
 use Rattle.std.specs.List.{list_all, slice_get}
 use Rattle.std.proofs.lemmas.Bool.{and_from, eq-eqb}
@@ -17,10 +17,11 @@ use Rattle.histories.specs.Histories.States.{State}
 use Rattle.histories.specs.Histories.{alone, without, next_state, IsFeed, IsAllowed}
 use Rattle.histories.proofs.HistoryLemmas.FlowLemmas.{queued, among_left}
 use Rattle.shared_board.specs.Widths.{is_wide_for, are_wide_for, HasWidths, IsSentWide}
+use Rattle.lattice.specs.Times.{Times}
 
-module _ {T : Type 0} (below : T → T → Bool) (p : Dataflow) (w : State T) where
+module _ {T : Type 0} (times : Times T) (p : Dataflow) (w : State T) where
   -- a change that is fed has its input's width
-  pub fed_wide : (client : ℕ) (f : Fed T) → IsFeed below p w client f → is_wide_for p (alone p f) ≡ true
+  pub fed_wide : (client : ℕ) (f : Fed T) → IsFeed times p w client f → is_wide_for p (alone p f) ≡ true
   fed_wide client f x =
       and_from (eqb (length f.update.row) (width_of p.nodes (unwrap_or (slice_get (sources (node_of p f.input)) 0) f.input))) true
       (ap (λ z. eqb (length f.update.row) (width_of p.nodes (unwrap_or z f.input))) (input_reads_none (node_of p f.input) x.input.1 0) ∙ eq-eqb (length f.update.row) (width_of p.nodes f.input) x.width) refl
@@ -28,7 +29,7 @@ module _ {T : Type 0} (below : T → T → Bool) (p : Dataflow) (w : State T) wh
   more_wide : (xs ys : List (Bundle T)) → are_wide_for p xs ≡ true → are_wide_for p ys ≡ true → IsTrue (list_all (is_wide_for p) (xs ++ ys))
   more_wide xs ys x y = list_all-append (is_wide_for p) xs ys ∙ and_from (are_wide_for p xs) (are_wide_for p ys) x y
 
-  pub widths_after : (e : Event T) → HasWidths p w → IsAllowed below p w e → IsSentWide p e → HasWidths p (next_state below p w e)
+  pub widths_after : (e : Event T) → HasWidths p w → IsAllowed times p w e → IsSentWide p e → HasWidths p (next_state times p w e)
   widths_after (Feed client f) h x sent = record {
     in_flight = more_wide w.in_flight (alone p f ∷ []) h.in_flight (and_from (is_wide_for p (alone p f)) true (fed_wide client f x) refl);
     received = h.received;

@@ -4,6 +4,7 @@ use Rattle.std.specs.Prelude.{◌≡◌, ℕ, ◌+◌, ◌<◌, Bool, true, fals
 use Rattle.std.specs.List.{filter}
 use Rattle.std.specs.declared.cmp.Ordering.{Ordering}
 use Rattle.update.specs.declared.change.Update.{Update}
+use Rattle.lattice.specs.Times.{Times}
 use Rattle.lattice.specs.Frontiers.{is_beyond}
 use Rattle.update.specs.Bags.{Alike, HasLargeCount}
 use Rattle.update.specs.Updates.{as_of, HasLargeTotal}
@@ -28,19 +29,19 @@ use Rattle.histories.specs.Histories.Outstanding.{frontier}
 use Rattle.histories.specs.Histories.Readings.{is_from_start}
 use Rattle.machine.specs.Boards.{BoardState, Stands}
 use Rattle.outstanding.specs.Loads.{Lot, queue_of}
-use Rattle.shared_board.specs.declared.event.Doing.{Doing}
+use Rattle.shared_board.specs.declared.event.BoardEvent.{BoardEvent}
 use Rattle.shared_board.specs.Large.{HasNoSmallBound}
 use Rattle.shared_board.specs.Widths.{HasWidths}
 
 -- how a board was opened: its dataflow, and how many actors share it. Workers are numbered from 0,
 -- and clients follow
-pub record Terms : Type 0 where
+pub record Opening : Type 0 where
   pub dataflow : Dataflow
   pub actors : ℕ
 
 -- the terms of a board of this plan, for so many workers and clients
-abbrev pub terms_for : List Node → ℕ → ℕ → Terms
-terms_for p workers clients = record { dataflow = record { nodes = p; workers = workers }; actors = workers + clients }
+abbrev pub opening_for : List Node → ℕ → ℕ → Opening
+opening_for p workers clients = record { dataflow = record { nodes = p; workers = workers }; actors = workers + clients }
 
 -- the board, and what its actors tell one another beside it
 pub record SharedState (T : Type 0) : Type 0 where
@@ -54,17 +55,17 @@ pub record SharedState (T : Type 0) : Type 0 where
 
 module _ {T : Type 0} where
   -- the events of entries
-  abbrev pub events : List (Entry (Doing T)) → List (Event T)
+  abbrev pub events : List (Entry (BoardEvent T)) → List (Event T)
   events es = map (λ e. e.event.event) es
 
-  abbrev pub terms_of : Doing T → Terms
-  terms_of d = record { dataflow = record { nodes = d.plan; workers = d.workers }; actors = d.actors }
+  abbrev pub opening_of : BoardEvent T → Opening
+  opening_of d = record { dataflow = record { nodes = d.plan; workers = d.workers }; actors = d.actors }
 
-  abbrev pub terms_of_board : SharedState T → Terms
-  terms_of_board b = record { dataflow = b.board.dataflow; actors = b.actors }
+  abbrev pub opening_of_board : SharedState T → Opening
+  opening_of_board b = record { dataflow = b.board.dataflow; actors = b.actors }
 
   -- the event of a board that was opened on these terms
-  abbrev pub doing : Terms → Event T → Doing T
+  abbrev pub doing : Opening → Event T → BoardEvent T
   doing t e = record { plan = t.dataflow.nodes; workers = t.dataflow.workers; actors = t.actors; event = e }
 
   -- what the actors told one another beside the board is as it was
@@ -72,8 +73,8 @@ module _ {T : Type 0} where
   IsKeptBeside old new = (new.accepted ≡ old.accepted) × (new.too_large ≡ old.too_large)
 
   -- what was done last on a board
-  abbrev pub doing_on : SharedState T → Doing T
-  doing_on b = doing (terms_of_board b) b.board.last
+  abbrev pub doing_on : SharedState T → BoardEvent T
+  doing_on b = doing (opening_of_board b) b.board.last
 
   -- the event changes what clients may change: the inputs, or from which times on a view may be
   -- read
@@ -88,114 +89,115 @@ module _ {T : Type 0} where
 
   -- the entry is of a board on these terms, and by the actor of its event; only an actor of the
   -- board makes changes
-  pub record IsOn (t : Terms) (e : Entry (Doing T)) : Type 0 where
-    pub terms : terms_of e.event ≡ t
+  pub record IsOn (t : Opening) (e : Entry (BoardEvent T)) : Type 0 where
+    pub terms : opening_of e.event ≡ t
     pub own : actor_of e.event.event ≡ e.by
     pub actor : IsTrue (is_change e.event.event) → e.by < t.actors
 
-  abbrev pub AreOn : Terms → List (Entry (Doing T)) → Type 0
+  abbrev pub AreOn : Opening → List (Entry (BoardEvent T)) → Type 0
   AreOn t [] = ⊤
   AreOn t (e ∷ es) = IsOn t e × AreOn t es
 
-  module _ (below : T → T → Bool) (minimum : T) where
+  module _ (times : Times T) where
     -- the state that the events leave on a board of this dataflow
-    abbrev pub left_by : Dataflow → List (Entry (Doing T)) → State T
-    left_by p es = state_after below minimum p (events es)
+    abbrev pub left_by : Dataflow → List (Entry (BoardEvent T)) → State T
+    left_by p es = state_after times p (events es)
 
     -- which entries a board may stand for: it stands for their events, each was on the board's
     -- terms, the rows on the board have their widths, and what the actors tell one another is right
-    pub record StandsFor (cmp : T → T → Ordering) (b : SharedState T) (es : List (Entry (Doing T))) : Type 0 where
+    pub record StandsFor (cmp : T → T → Ordering) (b : SharedState T) (es : List (Entry (BoardEvent T))) : Type 0 where
       pub dataflow : IsDataflow b.board.dataflow
-      pub stands : Stands below minimum b.board (events es)
-      pub on : AreOn (terms_of_board b) es
+      pub stands : Stands times b.board (events es)
+      pub on : AreOn (opening_of_board b) es
       pub wide : HasWidths b.board.dataflow (left_by b.board.dataflow es)
       pub counted : (n : ℕ) → b.accepted ≡ Some n → length (left_by b.board.dataflow es).fed ≡ n
-      pub large : IsTrue b.too_large → HasNoSmallBound below cmp b.board.dataflow.nodes (changes_in (left_by b.board.dataflow es))
+      pub large : IsTrue b.too_large → HasNoSmallBound times cmp b.board.dataflow.nodes (changes_in (left_by b.board.dataflow es))
 
-  module _ (below : T → T → Bool) where
-    -- the refusal of a change in a state, of a new frontier of an input, and of a new since of a view
+  module _ (times : Times T) where
+    -- the refusal of a change in a state, of a new frontier of an input, and of a new since of a
+    -- view
     abbrev pub feed_refusal_in : Dataflow → State T → Fed T → Option Refusal
-    feed_refusal_in p w f = first_refusal (feed_faults below p.nodes (open_at f.input w.open_times) (length (fed_to f.input w.fed)) f)
+    feed_refusal_in p w f = first_refusal (feed_faults times p.nodes (open_at f.input w.open_times) (length (fed_to f.input w.fed)) f)
 
     abbrev pub advance_refusal_in : State T → ℕ → List T → Option Refusal
-    advance_refusal_in w i ts = first_refusal (advance_faults below (open_at i w.open_times) ts)
+    advance_refusal_in w i ts = first_refusal (advance_faults times (open_at i w.open_times) ts)
 
     abbrev pub allow_refusal_in : State T → ℕ → List T → Option Refusal
-    allow_refusal_in w v ts = first_refusal (advance_faults below (w.since v) ts)
+    allow_refusal_in w v ts = first_refusal (advance_faults times (w.since v) ts)
 
     -- the refusal of a read of a view in a state, and of a view's changes
     abbrev pub read_refusal_in : Dataflow → State T → ℕ → T → Option Refusal
-    read_refusal_in p w v t = first_refusal ((is_beyond below (frontier below p w v) t, NotPassed) ∷ (not (is_beyond below (w.since v) t), GivenUp) ∷ [])
+    read_refusal_in p w v t = first_refusal ((is_beyond times (frontier times p w v) t, NotPassed) ∷ (not (is_beyond times (w.since v) t), GivenUp) ∷ [])
 
-    abbrev pub changes_refusal_in : T → State T → ℕ → Option Refusal
-    changes_refusal_in minimum w v = first_refusal ((not (is_from_start below minimum (w.since v)), GivenUp) ∷ [])
+    abbrev pub changes_refusal_in : State T → ℕ → Option Refusal
+    changes_refusal_in w v = first_refusal ((not (is_from_start times (w.since v)), GivenUp) ∷ [])
 
     -- how a read in a state may be refused: with a fault, for want of memory, or because a row of
     -- the query occurs more often than 64-bit numbers can say
     abbrev pub IsReadRefusalIn : Dataflow → State T → ℕ → T → Refusal → Type 0
     IsReadRefusalIn p w v t refusal =
-        IsRefusalOr (HasLargeCount (query_at below p.nodes (changes_in w) v t)) (read_refusal_in p w v t) refusal
+        IsRefusalOr (HasLargeCount (query_at times p.nodes (changes_in w) v t)) (read_refusal_in p w v t) refusal
 
     -- some list of updates sums to the query at each time that the view's frontier has passed, and
     -- at some of these times its total of a row does not fit in 64 bits
     pub record HasLargeListed (p : Dataflow) (w : State T) (v : ℕ) : Type 0 where
       pub listed : List (Update T)
-      pub sums : (t : T) → IsTrue (has_passed below (frontier below p w v) t) → Alike (as_of below t listed) (query_at below p.nodes (changes_in w) v t)
-      pub large : HasLargeTotal below (filter (λ u. has_passed below (frontier below p w v) u.time) listed)
+      pub sums : (t : T) → IsTrue (has_passed times (frontier times p w v) t) → Alike (as_of times t listed) (query_at times p.nodes (changes_in w) v t)
+      pub large : HasLargeTotal times (filter (λ u. has_passed times (frontier times p w v) u.time) listed)
 
-    abbrev pub IsChangesRefusalIn : T → Dataflow → State T → ℕ → Refusal → Type 0
-    IsChangesRefusalIn minimum p w v refusal = IsRefusalOr (HasLargeListed p w v) (changes_refusal_in minimum w v) refusal
+    abbrev pub IsChangesRefusalIn : Dataflow → State T → ℕ → Refusal → Type 0
+    IsChangesRefusalIn p w v refusal = IsRefusalOr (HasLargeListed p w v) (changes_refusal_in w v) refusal
 
 -- what an actor knows: the hub, its own number, and the entries that it has seen
 module _ {T : Type 0} where
   -- the terms of the board, as the newest entry names them
-  abbrev pub terms_in : List (Entry (Doing T)) → Terms
-  terms_in [] = record { dataflow = record { nodes = []; workers = 0 }; actors = 0 }
-  terms_in (e ∷ es) = terms_of e.event
+  abbrev pub opening_in : List (Entry (BoardEvent T)) → Opening
+  opening_in [] = record { dataflow = record { nodes = []; workers = 0 }; actors = 0 }
+  opening_in (e ∷ es) = opening_of e.event
 
   -- the actor has seen some entry, and all that it has seen are on the same terms
-  abbrev pub AreKnown : List (Entry (Doing T)) → Type 0
+  abbrev pub AreKnown : List (Entry (BoardEvent T)) → Type 0
   AreKnown [] = ⊥
-  AreKnown (e ∷ es) = AreOn (terms_of e.event) (e ∷ es)
+  AreKnown (e ∷ es) = AreOn (opening_of e.event) (e ∷ es)
 
   -- all entries but the newest, and what the actor found in its last tenure
-  abbrev pub but_last : List (Entry (Doing T)) → List (Entry (Doing T))
+  abbrev pub but_last : List (Entry (BoardEvent T)) → List (Entry (BoardEvent T))
   but_last [] = []
   but_last (e ∷ es) = es
 
-  abbrev pub found_last : Known (Doing T) → List (Entry (Doing T))
+  abbrev pub found_last : Known (BoardEvent T) → List (Entry (BoardEvent T))
   found_last k = but_last k.seen
 
   -- after one more tenure: events of others alone on top of what the actor had seen, and then its
   -- own
-  pub record Adds (old : Known (Doing T)) (event : Event T) (new : Known (Doing T)) : Type 0 where
-    pub others : List (Entry (Doing T))
+  pub record IsNextTenure (old : Known (BoardEvent T)) (event : Event T) (new : Known (BoardEvent T)) : Type 0 where
+    pub others : List (Entry (BoardEvent T))
     pub apart : NoneBy old.number others
-    pub new_is : new ≡ record { hub = old.hub; number = old.number; seen = entry old.number (doing (terms_in old.seen) event) ∷ (others ++ old.seen) }
+    pub new_is : new ≡ record { hub = old.hub; number = old.number; seen = entry old.number (doing (opening_in old.seen) event) ∷ (others ++ old.seen) }
 
   -- an actor of this number that has looked once, on a board that was opened on these terms
-  pub record IsFirst (t : Terms) (number : ℕ) (k : Known (Doing T)) : Type 0 where
-    pub others : List (Entry (Doing T))
+  pub record IsFirst (t : Opening) (number : ℕ) (k : Known (BoardEvent T)) : Type 0 where
+    pub others : List (Entry (BoardEvent T))
     pub apart : NoneBy number others
     pub numbered : k.number ≡ number
     pub seen : k.seen ≡ entry number (doing t (Look number)) ∷ others
 
-  module _ (below : T → T → Bool) (minimum : T) where
+  module _ (times : Times T) where
     -- the state that an actor found in its last tenure, and the one that it left
-    abbrev pub state_found : Known (Doing T) → State T
-    state_found k = left_by below minimum (terms_in k.seen).dataflow (found_last k)
+    abbrev pub state_found : Known (BoardEvent T) → State T
+    state_found k = left_by times (opening_in k.seen).dataflow (found_last k)
 
-    abbrev pub state_left : Known (Doing T) → State T
-    state_left k = left_by below minimum (terms_in k.seen).dataflow k.seen
+    abbrev pub state_left : Known (BoardEvent T) → State T
+    state_left k = left_by times (opening_in k.seen).dataflow k.seen
 
     -- what an actor knows is right: the entries that it has seen are on the board's terms, and they
     -- are a legal history of a dataflow, whose rows have their widths, and it is one of the actors
-    pub record IsActor (k : Known (Doing T)) : Type 0 where
+    pub record IsActor (k : Known (BoardEvent T)) : Type 0 where
       pub known : AreKnown k.seen
-      pub dataflow : IsDataflow (terms_in k.seen).dataflow
-      pub legal : IsLegal below minimum (terms_in k.seen).dataflow (events k.seen)
-      pub wide : HasWidths (terms_in k.seen).dataflow (state_left k)
-      pub actor : k.number < (terms_in k.seen).actors
+      pub dataflow : IsDataflow (opening_in k.seen).dataflow
+      pub legal : IsLegal times (opening_in k.seen).dataflow (events k.seen)
+      pub wide : HasWidths (opening_in k.seen).dataflow (state_left k)
+      pub actor : k.number < (opening_in k.seen).actors
 
 -- whether a bundle waits for a worker at a node: if so then at some port, and if not then at none.
 -- First on a board, and then in a state

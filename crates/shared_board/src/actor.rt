@@ -3,21 +3,22 @@
 //! Each call is one tenure, and so one event of this actor. What others did since its last tenure
 //! lies below that event, and the answers are right for all that was done by then. Each call waits
 //! until the board is at home, but those that say `try`.
-ghost use Rattle.std.specs.Prelude.{◌≡◌, ◌<◌, ◌+◌, [], ℕ, Some, IfOk, IfErr, length};
+ghost use Rattle.std.specs.Prelude.{◌≡◌, ◌<◌, ◌+◌, [], ℕ, Some, IfOk, length};
 ghost use Rattle.std.specs.Arc.{arc_value};
+ghost use Rattle.update.specs.Refusals.{OnlyMemory};
 ghost use Rattle.hub.specs.Passes.{hub_id};
 ghost use Rattle.update.specs.declared.refusal.Refusal.TheVariants.{OutOfMemory};
 ghost use Rattle.histories.specs.declared.event.Event.TheVariants.{Look};
 ghost use Rattle.histories.specs.Histories.Promises.{changes_in};
 ghost use Rattle.shared_board.specs.Large.{HasNoSmallBound};
-ghost use Rattle.shared_board.specs.Tenures.{Adds, IsActor, IsFirst, terms_for, terms_in, state_left};
+ghost use Rattle.shared_board.specs.Tenures.{IsNextTenure, IsActor, IsFirst, opening_for, opening_in, state_left};
 
 mod attempt;
 mod client;
-mod entering;
-mod waiting;
+mod entry;
+mod in_turn;
 
-use crate::event::Doing;
+use crate::event::BoardEvent;
 use crate::protocol::BoardProtocol;
 use hub::{Hub, Pass, Protocol};
 use lattice::Minimum;
@@ -29,7 +30,7 @@ use update::Refusal;
 
 /// An actor: a worker or a client, with its pass. A contract sees what its pass has seen.
 #[derive(Drop)]
-pub struct Actor<T: Minimum, P: Protocol<Event = Doing<T>>> {
+pub struct Actor<T: Minimum, P: Protocol<Event = BoardEvent<T>>> {
     number: usize,
     hub: Arc<Hub<P>, Global>,
     // Always there between two calls.
@@ -39,24 +40,24 @@ pub struct Actor<T: Minimum, P: Protocol<Event = Doing<T>>> {
     of: PhantomData<T>,
 }
 
-impl<T: Minimum, P: Protocol<Event = Doing<T>>> Model for Actor<T, P> {
+impl<T: Minimum, P: Protocol<Event = BoardEvent<T>>> Model for Actor<T, P> {
     ghost use Rattle.std.specs.Prelude.{◌≡◌, ℕ, [], IsSomeAnd, length, Some};
     ghost use Rattle.std.specs.Arc.{arc_value};
     ghost use Rattle.std.specs.Option.{unwrap_or};
     ghost use Rattle.hub.specs.Known.{Known};
     ghost use Rattle.hub.specs.Passes.{hub_id};
-    ghost use Rattle.shared_board.specs.declared.event.Doing.{Doing};
+    ghost use Rattle.shared_board.specs.declared.event.BoardEvent.{BoardEvent};
     ghost use Rattle.shared_board.specs.Tenures.{IsActor, state_left};
 
-    ghost Value = { Known (Doing T) };
+    ghost Value = { Known (BoardEvent T) };
 
     ghost view = { λ a. unwrap_or a.pass
         (record { hub = hub_id (arc_value a.hub); number = a.number; seen = [] }) };
 
     ghost invariant = { λ a. IsSomeAnd a.pass (λ p.
         (p.hub ≡ hub_id (arc_value a.hub)) × (p.number ≡ a.number)
-        × IsActor T.below T.least p
-        × ((n : ℕ) → a.accepted ≡ Some n → length (state_left T.below T.least p).fed ≡ n)) };
+        × IsActor T.times p
+        × ((n : ℕ) → a.accepted ≡ Some n → length (state_left T.times p).fed ≡ n)) };
 }
 
 impl<T: Minimum, P: BoardProtocol<T>> Actor<T, P> {
@@ -74,9 +75,9 @@ impl<T: Minimum, P: BoardProtocol<T>> Actor<T, P> {
         requires actor { number < workers + clients }
         requires pass { pass ≡ record { hub = hub_id (arc_value hub); number = number; seen = [] } }
         ensures first { IfOk result (λ actor.
-            IsFirst (terms_for plan.now workers clients) number actor) }
+            IsFirst (opening_for plan.now workers clients) number actor) }
         ensures hub { IfOk result (λ actor. actor.hub ≡ pass.hub) }
-        ensures refused { IfErr result (λ refusal. refusal ≡ OutOfMemory) }
+        ensures refused { OnlyMemory result }
     {
         let mut tenure = hub.enter(rt, pass);
         let board = tenure.state();
@@ -98,7 +99,7 @@ impl<T: Minimum, P: BoardProtocol<T>> Actor<T, P> {
 
     /// Costs nothing. It tells the prover what holds of each actor.
     pub fn known(&self)
-        ensures { IsActor T.below T.least self.now }
+        ensures { IsActor T.times self.now }
     {
         let _ = &self.number;
     }
@@ -106,9 +107,9 @@ impl<T: Minimum, P: BoardProtocol<T>> Actor<T, P> {
     /// A worker tells that a number is too large with the changes that it has seen. The others can
     /// see it, unless more changes were accepted meanwhile. Takes no memory.
     pub fn tell_too_large<R: Wait>(&mut self, rt: &R)
-        requires cause { HasNoSmallBound T.below T.cmp (terms_in self.old.seen).dataflow.nodes
-            (changes_in (state_left T.below T.least self.old)) }
-        ensures looked { Adds self.old (Look self.old.number) self.new }
+        requires cause { HasNoSmallBound T.times T.cmp (opening_in self.old.seen).dataflow.nodes
+            (changes_in (state_left T.times self.old)) }
+        ensures looked { IsNextTenure self.old (Look self.old.number) self.new }
     {
         let Some(pass) = self.pass.take() else {
             unreachable!()

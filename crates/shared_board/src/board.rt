@@ -13,8 +13,7 @@ ghost use Rattle.hub.specs.declared.view.Entry.{Entry};
 ghost use Rattle.hub.specs.Histories.{entry};
 ghost use Rattle.antichain.specs.Antichains.{SameElements};
 ghost use Rattle.update.specs.Bags.{Alike, IsBag};
-ghost use Rattle.update.specs.Refusals.{IsRefusalBy};
-ghost use Rattle.update.specs.declared.refusal.Refusal.TheVariants.{OutOfMemory};
+ghost use Rattle.update.specs.Refusals.{OnlyMemory, IsRefusalBy};
 ghost use Rattle.plan.specs.Changes.{AreDifferences, query_at};
 ghost use Rattle.plan.specs.Nodes.{is_output};
 ghost use Rattle.histories.specs.declared.event.Event.TheVariants.{Advance, Allow, Feed, Give, Look};
@@ -24,21 +23,21 @@ ghost use Rattle.histories.specs.Histories.Outstanding.{frontier};
 ghost use Rattle.histories.specs.Histories.Promises.{changes_in};
 ghost use Rattle.histories.specs.Histories.Readings.{IsQuiet};
 ghost use Rattle.histories.specs.Histories.States.{change_to};
-ghost use Rattle.shared_board.specs.declared.event.Doing.{Doing};
+ghost use Rattle.shared_board.specs.declared.event.BoardEvent.{BoardEvent};
 ghost use Rattle.shared_board.specs.Large.{HasNoSmallBound};
-ghost use Rattle.shared_board.specs.Tenures.{IsKeptBeside, StandsFor, WaitsOrNot, doing, left_by, terms_for, terms_of_board, feed_refusal_in, advance_refusal_in, allow_refusal_in, read_refusal_in, changes_refusal_in, IsReadRefusalIn, IsChangesRefusalIn};
+ghost use Rattle.shared_board.specs.Tenures.{IsKeptBeside, StandsFor, WaitsOrNot, doing, left_by, opening_for, opening_of_board, feed_refusal_in, advance_refusal_in, allow_refusal_in, read_refusal_in, changes_refusal_in, IsReadRefusalIn, IsChangesRefusalIn};
 ghost use Rattle.shared_board.specs.Widths.{are_wide_for};
 
+mod pieces;
 mod ports;
-mod taking;
 
 use antichain::Antichain;
 use lattice::Minimum;
 use machine::{Board, CutEmission, Ungiven};
+pub use pieces::Taken;
 use plan::{NodeId, Plan};
 use std::alloc::Global;
 use std::marker::Model;
-pub use taking::Taken;
 use update::{Bag, Refusal, Times, Update};
 
 /// A board, and what its actors tell one another beside it. A contract sees all of it as a
@@ -97,10 +96,10 @@ impl<T: Minimum> SharedBoard<T> {
     ) -> Result<SharedBoard<T>, Refusal>
         requires workers { (1 ≤ workers) × (workers ≤ 16) }
         requires clients { clients ≤ 16 }
-        ensures terms { IfOk result (λ b. terms_of_board b ≡ terms_for plan workers clients) }
-        ensures stands { IfOk result (λ b. StandsFor T.below T.least T.cmp b []) }
+        ensures terms { IfOk result (λ b. opening_of_board b ≡ opening_for plan workers clients) }
+        ensures stands { IfOk result (λ b. StandsFor T.times T.cmp b []) }
         ensures counted { IfOk result (λ b. b.accepted ≡ Some 0) }
-        ensures refused { IfErr result (λ refusal. refusal ≡ OutOfMemory) }
+        ensures refused { OnlyMemory result }
     {
         let board = Board::open(alloc, plan, workers)?;
         board.known();
@@ -115,7 +114,8 @@ impl<T: Minimum> SharedBoard<T> {
     /// Whether the board is of this plan, for this many workers and clients. Takes no memory. Cost:
     /// one comparison of plans.
     pub fn is_on(&self, plan: &Plan, workers: usize, clients: usize) -> bool
-        ensures { IsTrue result ↔ (terms_of_board self.now ≡ terms_for plan.now workers clients) }
+        ensures { IsTrue result
+            ↔ (opening_of_board self.now ≡ opening_for plan.now workers clients) }
     {
         let same_plan = *self.board.plan() == *plan;
         let same_workers = self.board.workers() == workers;
@@ -125,11 +125,11 @@ impl<T: Minimum> SharedBoard<T> {
 
     /// An actor looks. Takes no memory.
     pub fn look(&mut self, actor: usize)
-        ensures terms { terms_of_board self.new ≡ terms_of_board self.old }
+        ensures terms { opening_of_board self.new ≡ opening_of_board self.old }
         ensures beside { IsKeptBeside self.old self.new }
-        ensures stands { (es : List (Entry (Doing T))) → StandsFor T.below T.least T.cmp self.old es
-            → StandsFor T.below T.least T.cmp self.new
-            (entry actor (doing (terms_of_board self.old) self.new.board.last) ∷ es) }
+        ensures stands { (es : List (Entry (BoardEvent T))) → StandsFor T.times T.cmp self.old es
+            → StandsFor T.times T.cmp self.new
+            (entry actor (doing (opening_of_board self.old) self.new.board.last) ∷ es) }
         ensures looked { self.new.board.last ≡ Look actor }
     {
         self.board.look(actor);
@@ -141,21 +141,21 @@ impl<T: Minimum> SharedBoard<T> {
         requires client { self.old.board.dataflow.workers ≤ client }
         requires actor { client < self.old.actors }
         requires input { IsInput self.old.board.dataflow input }
-        ensures terms { terms_of_board self.new ≡ terms_of_board self.old }
+        ensures terms { opening_of_board self.new ≡ opening_of_board self.old }
         ensures beside { OnErr result (IsKeptBeside self.old self.new) }
         ensures fed { OnOk result (self.new.board.last ≡ Feed client (change_to input update)) }
         ensures unchanged { OnErr result (self.new.board.last ≡ Look client) }
-        ensures stands { (es : List (Entry (Doing T))) → StandsFor T.below T.least T.cmp self.old es
-            → StandsFor T.below T.least T.cmp self.new
-            (entry client (doing (terms_of_board self.old) self.new.board.last) ∷ es) }
-        ensures accepted { (es : List (Entry (Doing T)))
-            → StandsFor T.below T.least T.cmp self.old es
-            → OnOk result (feed_refusal_in T.below self.old.board.dataflow
-            (left_by T.below T.least self.old.board.dataflow es) (change_to input update) ≡ None) }
-        ensures refused { (es : List (Entry (Doing T)))
-            → StandsFor T.below T.least T.cmp self.old es
-            → IfErr result (IsRefusalBy (feed_refusal_in T.below self.old.board.dataflow
-            (left_by T.below T.least self.old.board.dataflow es) (change_to input update))) }
+        ensures stands { (es : List (Entry (BoardEvent T))) → StandsFor T.times T.cmp self.old es
+            → StandsFor T.times T.cmp self.new
+            (entry client (doing (opening_of_board self.old) self.new.board.last) ∷ es) }
+        ensures accepted { (es : List (Entry (BoardEvent T)))
+            → StandsFor T.times T.cmp self.old es
+            → OnOk result (feed_refusal_in T.times self.old.board.dataflow
+            (left_by T.times self.old.board.dataflow es) (change_to input update) ≡ None) }
+        ensures refused { (es : List (Entry (BoardEvent T)))
+            → StandsFor T.times T.cmp self.old es
+            → IfErr result (IsRefusalBy (feed_refusal_in T.times self.old.board.dataflow
+            (left_by T.times self.old.board.dataflow es) (change_to input update))) }
         ensures counted { OnOk result ((n : ℕ) → self.old.accepted ≡ Some n → n + 1 < 2 ^ 64
             → self.new.accepted ≡ Some (n + 1)) }
     {
@@ -171,21 +171,21 @@ impl<T: Minimum> SharedBoard<T> {
         requires client { self.old.board.dataflow.workers ≤ client }
         requires actor { client < self.old.actors }
         requires input { IsInput self.old.board.dataflow input }
-        ensures terms { terms_of_board self.new ≡ terms_of_board self.old }
+        ensures terms { opening_of_board self.new ≡ opening_of_board self.old }
         ensures beside { IsKeptBeside self.old self.new }
         ensures advanced { OnOk result (self.new.board.last ≡ Advance client input times.now) }
         ensures unchanged { OnErr result (self.new.board.last ≡ Look client) }
-        ensures stands { (es : List (Entry (Doing T))) → StandsFor T.below T.least T.cmp self.old es
-            → StandsFor T.below T.least T.cmp self.new
-            (entry client (doing (terms_of_board self.old) self.new.board.last) ∷ es) }
-        ensures accepted { (es : List (Entry (Doing T)))
-            → StandsFor T.below T.least T.cmp self.old es
-            → OnOk result (advance_refusal_in T.below
-            (left_by T.below T.least self.old.board.dataflow es) input times.now ≡ None) }
-        ensures refused { (es : List (Entry (Doing T)))
-            → StandsFor T.below T.least T.cmp self.old es
-            → IfErr result (IsRefusalBy (advance_refusal_in T.below
-            (left_by T.below T.least self.old.board.dataflow es) input times.now)) }
+        ensures stands { (es : List (Entry (BoardEvent T))) → StandsFor T.times T.cmp self.old es
+            → StandsFor T.times T.cmp self.new
+            (entry client (doing (opening_of_board self.old) self.new.board.last) ∷ es) }
+        ensures accepted { (es : List (Entry (BoardEvent T)))
+            → StandsFor T.times T.cmp self.old es
+            → OnOk result (advance_refusal_in T.times
+            (left_by T.times self.old.board.dataflow es) input times.now ≡ None) }
+        ensures refused { (es : List (Entry (BoardEvent T)))
+            → StandsFor T.times T.cmp self.old es
+            → IfErr result (IsRefusalBy (advance_refusal_in T.times
+            (left_by T.times self.old.board.dataflow es) input times.now)) }
     {
         self.board.advance(client, input, times)
     }
@@ -195,12 +195,12 @@ impl<T: Minimum> SharedBoard<T> {
         requires client { self.old.board.dataflow.workers ≤ client }
         requires actor { client < self.old.actors }
         requires input { IsInput self.old.board.dataflow input }
-        ensures terms { terms_of_board self.new ≡ terms_of_board self.old }
+        ensures terms { opening_of_board self.new ≡ opening_of_board self.old }
         ensures beside { IsKeptBeside self.old self.new }
         ensures closed { self.new.board.last ≡ Advance client input [] }
-        ensures stands { (es : List (Entry (Doing T))) → StandsFor T.below T.least T.cmp self.old es
-            → StandsFor T.below T.least T.cmp self.new
-            (entry client (doing (terms_of_board self.old) self.new.board.last) ∷ es) }
+        ensures stands { (es : List (Entry (BoardEvent T))) → StandsFor T.times T.cmp self.old es
+            → StandsFor T.times T.cmp self.new
+            (entry client (doing (opening_of_board self.old) self.new.board.last) ∷ es) }
     {
         self.board.close(client, input);
     }
@@ -212,21 +212,21 @@ impl<T: Minimum> SharedBoard<T> {
         requires actor { client < self.old.actors }
         requires within { view < length self.old.board.dataflow.nodes }
         requires view { IsTrue (is_output (node_of self.old.board.dataflow view)) }
-        ensures terms { terms_of_board self.new ≡ terms_of_board self.old }
+        ensures terms { opening_of_board self.new ≡ opening_of_board self.old }
         ensures beside { IsKeptBeside self.old self.new }
         ensures allowed { OnOk result (self.new.board.last ≡ Allow client view times.now) }
         ensures unchanged { OnErr result (self.new.board.last ≡ Look client) }
-        ensures stands { (es : List (Entry (Doing T))) → StandsFor T.below T.least T.cmp self.old es
-            → StandsFor T.below T.least T.cmp self.new
-            (entry client (doing (terms_of_board self.old) self.new.board.last) ∷ es) }
-        ensures accepted { (es : List (Entry (Doing T)))
-            → StandsFor T.below T.least T.cmp self.old es
-            → OnOk result (allow_refusal_in T.below
-            (left_by T.below T.least self.old.board.dataflow es) view times.now ≡ None) }
-        ensures refused { (es : List (Entry (Doing T)))
-            → StandsFor T.below T.least T.cmp self.old es
-            → IfErr result (IsRefusalBy (allow_refusal_in T.below
-            (left_by T.below T.least self.old.board.dataflow es) view times.now)) }
+        ensures stands { (es : List (Entry (BoardEvent T))) → StandsFor T.times T.cmp self.old es
+            → StandsFor T.times T.cmp self.new
+            (entry client (doing (opening_of_board self.old) self.new.board.last) ∷ es) }
+        ensures accepted { (es : List (Entry (BoardEvent T)))
+            → StandsFor T.times T.cmp self.old es
+            → OnOk result (allow_refusal_in T.times
+            (left_by T.times self.old.board.dataflow es) view times.now ≡ None) }
+        ensures refused { (es : List (Entry (BoardEvent T)))
+            → StandsFor T.times T.cmp self.old es
+            → IfErr result (IsRefusalBy (allow_refusal_in T.times
+            (left_by T.times self.old.board.dataflow es) view times.now)) }
     {
         self.board.allow(client, view, times)
     }
@@ -234,17 +234,17 @@ impl<T: Minimum> SharedBoard<T> {
     /// The frontier of a view. The event is a look. Refused only with `OutOfMemory`.
     pub fn frontier(&mut self, client: usize, view: NodeId) -> Result<Antichain<T>, Refusal>
         requires within { view < length self.old.board.dataflow.nodes }
-        ensures terms { terms_of_board self.new ≡ terms_of_board self.old }
+        ensures terms { opening_of_board self.new ≡ opening_of_board self.old }
         ensures beside { IsKeptBeside self.old self.new }
         ensures looked { self.new.board.last ≡ Look client }
-        ensures stands { (es : List (Entry (Doing T))) → StandsFor T.below T.least T.cmp self.old es
-            → StandsFor T.below T.least T.cmp self.new
-            (entry client (doing (terms_of_board self.old) self.new.board.last) ∷ es) }
-        ensures frontier { (es : List (Entry (Doing T)))
-            → StandsFor T.below T.least T.cmp self.old es
-            → IfOk result (λ found. SameElements found (frontier T.below self.old.board.dataflow
-            (left_by T.below T.least self.old.board.dataflow es) view)) }
-        ensures refused { IfErr result (λ refusal. refusal ≡ OutOfMemory) }
+        ensures stands { (es : List (Entry (BoardEvent T))) → StandsFor T.times T.cmp self.old es
+            → StandsFor T.times T.cmp self.new
+            (entry client (doing (opening_of_board self.old) self.new.board.last) ∷ es) }
+        ensures frontier { (es : List (Entry (BoardEvent T)))
+            → StandsFor T.times T.cmp self.old es
+            → IfOk result (λ found. SameElements found (frontier T.times self.old.board.dataflow
+            (left_by T.times self.old.board.dataflow es) view)) }
+        ensures refused { OnlyMemory result }
     {
         let found = self.board.frontier(view);
         self.board.look(client);
@@ -255,24 +255,24 @@ impl<T: Minimum> SharedBoard<T> {
     pub fn read(&mut self, client: usize, view: NodeId, t: T) -> Result<Bag, Refusal>
         requires within { view < length self.old.board.dataflow.nodes }
         requires view { IsTrue (is_output (node_of self.old.board.dataflow view)) }
-        ensures terms { terms_of_board self.new ≡ terms_of_board self.old }
+        ensures terms { opening_of_board self.new ≡ opening_of_board self.old }
         ensures beside { IsKeptBeside self.old self.new }
         ensures looked { self.new.board.last ≡ Look client }
-        ensures stands { (es : List (Entry (Doing T))) → StandsFor T.below T.least T.cmp self.old es
-            → StandsFor T.below T.least T.cmp self.new
-            (entry client (doing (terms_of_board self.old) self.new.board.last) ∷ es) }
-        ensures accepted { (es : List (Entry (Doing T)))
-            → StandsFor T.below T.least T.cmp self.old es
-            → OnOk result (read_refusal_in T.below self.old.board.dataflow
-            (left_by T.below T.least self.old.board.dataflow es) view t ≡ None) }
-        ensures refused { (es : List (Entry (Doing T)))
-            → StandsFor T.below T.least T.cmp self.old es
-            → IfErr result (IsReadRefusalIn T.below self.old.board.dataflow
-            (left_by T.below T.least self.old.board.dataflow es) view t) }
+        ensures stands { (es : List (Entry (BoardEvent T))) → StandsFor T.times T.cmp self.old es
+            → StandsFor T.times T.cmp self.new
+            (entry client (doing (opening_of_board self.old) self.new.board.last) ∷ es) }
+        ensures accepted { (es : List (Entry (BoardEvent T)))
+            → StandsFor T.times T.cmp self.old es
+            → OnOk result (read_refusal_in T.times self.old.board.dataflow
+            (left_by T.times self.old.board.dataflow es) view t ≡ None) }
+        ensures refused { (es : List (Entry (BoardEvent T)))
+            → StandsFor T.times T.cmp self.old es
+            → IfErr result (IsReadRefusalIn T.times self.old.board.dataflow
+            (left_by T.times self.old.board.dataflow es) view t) }
         ensures bag { IfOk result IsBag }
-        ensures query { (es : List (Entry (Doing T))) → StandsFor T.below T.least T.cmp self.old es
-            → IfOk result (λ bag. Alike bag (query_at T.below self.old.board.dataflow.nodes
-            (changes_in (left_by T.below T.least self.old.board.dataflow es)) view t)) }
+        ensures query { (es : List (Entry (BoardEvent T))) → StandsFor T.times T.cmp self.old es
+            → IfOk result (λ bag. Alike bag (query_at T.times self.old.board.dataflow.nodes
+            (changes_in (left_by T.times self.old.board.dataflow es)) view t)) }
     {
         self.board.known();
         let found = self.board.read(view, t);
@@ -285,26 +285,26 @@ impl<T: Minimum> SharedBoard<T> {
     pub fn changes(&mut self, client: usize, view: NodeId) -> Result<Vec<Update<T>>, Refusal>
         requires within { view < length self.old.board.dataflow.nodes }
         requires view { IsTrue (is_output (node_of self.old.board.dataflow view)) }
-        ensures terms { terms_of_board self.new ≡ terms_of_board self.old }
+        ensures terms { opening_of_board self.new ≡ opening_of_board self.old }
         ensures beside { IsKeptBeside self.old self.new }
         ensures looked { self.new.board.last ≡ Look client }
-        ensures stands { (es : List (Entry (Doing T))) → StandsFor T.below T.least T.cmp self.old es
-            → StandsFor T.below T.least T.cmp self.new
-            (entry client (doing (terms_of_board self.old) self.new.board.last) ∷ es) }
-        ensures accepted { (es : List (Entry (Doing T)))
-            → StandsFor T.below T.least T.cmp self.old es
-            → OnOk result (changes_refusal_in T.below T.least
-            (left_by T.below T.least self.old.board.dataflow es) view ≡ None) }
-        ensures refused { (es : List (Entry (Doing T)))
-            → StandsFor T.below T.least T.cmp self.old es
-            → IfErr result (IsChangesRefusalIn T.below T.least self.old.board.dataflow
-            (left_by T.below T.least self.old.board.dataflow es) view) }
-        ensures differences { (es : List (Entry (Doing T)))
-            → StandsFor T.below T.least T.cmp self.old es
-            → IfOk result (λ us. AreDifferences T.below T.cmp self.old.board.dataflow.nodes
-            (changes_in (left_by T.below T.least self.old.board.dataflow es))
-            (frontier T.below self.old.board.dataflow
-            (left_by T.below T.least self.old.board.dataflow es) view) view us.items) }
+        ensures stands { (es : List (Entry (BoardEvent T))) → StandsFor T.times T.cmp self.old es
+            → StandsFor T.times T.cmp self.new
+            (entry client (doing (opening_of_board self.old) self.new.board.last) ∷ es) }
+        ensures accepted { (es : List (Entry (BoardEvent T)))
+            → StandsFor T.times T.cmp self.old es
+            → OnOk result (changes_refusal_in T.times
+            (left_by T.times self.old.board.dataflow es) view ≡ None) }
+        ensures refused { (es : List (Entry (BoardEvent T)))
+            → StandsFor T.times T.cmp self.old es
+            → IfErr result (IsChangesRefusalIn T.times self.old.board.dataflow
+            (left_by T.times self.old.board.dataflow es) view) }
+        ensures differences { (es : List (Entry (BoardEvent T)))
+            → StandsFor T.times T.cmp self.old es
+            → IfOk result (λ us. AreDifferences T.times T.cmp self.old.board.dataflow.nodes
+            (changes_in (left_by T.times self.old.board.dataflow es))
+            (frontier T.times self.old.board.dataflow
+            (left_by T.times self.old.board.dataflow es) view) view us.items) }
     {
         self.board.known();
         let found = self.board.changes(view);
@@ -315,15 +315,15 @@ impl<T: Minimum> SharedBoard<T> {
     /// Whether the board is quiet. The event is a look. Never refused. Cost: that of
     /// [`Board::is_quiet`].
     pub fn is_quiet(&mut self, actor: usize) -> bool
-        ensures terms { terms_of_board self.new ≡ terms_of_board self.old }
+        ensures terms { opening_of_board self.new ≡ opening_of_board self.old }
         ensures beside { IsKeptBeside self.old self.new }
         ensures looked { self.new.board.last ≡ Look actor }
-        ensures stands { (es : List (Entry (Doing T))) → StandsFor T.below T.least T.cmp self.old es
-            → StandsFor T.below T.least T.cmp self.new
-            (entry actor (doing (terms_of_board self.old) self.new.board.last) ∷ es) }
-        ensures quiet { (es : List (Entry (Doing T))) → StandsFor T.below T.least T.cmp self.old es
-            → (IsTrue result ↔ IsQuiet T.below self.old.board.dataflow
-            (left_by T.below T.least self.old.board.dataflow es)) }
+        ensures stands { (es : List (Entry (BoardEvent T))) → StandsFor T.times T.cmp self.old es
+            → StandsFor T.times T.cmp self.new
+            (entry actor (doing (opening_of_board self.old) self.new.board.last) ∷ es) }
+        ensures quiet { (es : List (Entry (BoardEvent T))) → StandsFor T.times T.cmp self.old es
+            → (IsTrue result ↔ IsQuiet T.times self.old.board.dataflow
+            (left_by T.times self.old.board.dataflow es)) }
     {
         let quiet = self.board.is_quiet();
         self.board.look(actor);
@@ -337,23 +337,23 @@ impl<T: Minimum> SharedBoard<T> {
         self.board.waiting_at(node, worker).is_some()
     }
 
-    /// A worker gives what it computed at the node that it has in hand. The rows of each bundle must
-    /// have the width of the node that its place reads. Refused as [`Board::give`] says; then the
-    /// event is a look.
+    /// A worker gives what it computed at the node that it has in hand. The rows of each bundle
+    /// must have the width of the node that its place reads. Refused as [`Board::give`] says; then
+    /// the event is a look.
     pub fn give(&mut self, cut: CutEmission<T>, held: Times<T>) -> Result<(), Ungiven<T>>
         requires worker { cut.given.worker < self.old.board.dataflow.workers }
         requires within { cut.given.node < length self.old.board.dataflow.nodes }
         requires wide { IsTrue (are_wide_for self.old.board.dataflow cut.sent) }
-        ensures terms { terms_of_board self.new ≡ terms_of_board self.old }
+        ensures terms { opening_of_board self.new ≡ opening_of_board self.old }
         ensures beside { IsKeptBeside self.old self.new }
         ensures given { OnOk result (self.new.board.last ≡ Give cut.given held cut.sent) }
         ensures returned { IfErr result (λ r. (self.new.board.last ≡ Look cut.given.worker)
             × (r ≡ record { cut = cut; held = held })) }
-        ensures stands { (es : List (Entry (Doing T))) → StandsFor T.below T.least T.cmp self.old es
-            → IsGive T.below self.old.board.dataflow
-            (left_by T.below T.least self.old.board.dataflow es) cut.given held cut.sent
-            → StandsFor T.below T.least T.cmp self.new
-            (entry cut.given.worker (doing (terms_of_board self.old) self.new.board.last) ∷ es) }
+        ensures stands { (es : List (Entry (BoardEvent T))) → StandsFor T.times T.cmp self.old es
+            → IsGive T.times self.old.board.dataflow
+            (left_by T.times self.old.board.dataflow es) cut.given held cut.sent
+            → StandsFor T.times T.cmp self.new
+            (entry cut.given.worker (doing (opening_of_board self.old) self.new.board.last) ∷ es) }
     {
         self.board.give(cut, held)
     }
@@ -369,16 +369,16 @@ impl<T: Minimum> SharedBoard<T> {
     /// it last came, if no more were accepted since. `accepted` is how many there were then. The
     /// event is a look. Takes no memory.
     pub fn tell_too_large(&mut self, worker: usize, accepted: Option<u64>)
-        ensures terms { terms_of_board self.new ≡ terms_of_board self.old }
+        ensures terms { opening_of_board self.new ≡ opening_of_board self.old }
         ensures looked { self.new.board.last ≡ Look worker }
-        ensures stands { (es : List (Entry (Doing T))) → StandsFor T.below T.least T.cmp self.old es
-            → (later earlier : List (Entry (Doing T))) → es ≡ later ++ earlier
+        ensures stands { (es : List (Entry (BoardEvent T))) → StandsFor T.times T.cmp self.old es
+            → (later earlier : List (Entry (BoardEvent T))) → es ≡ later ++ earlier
             → ((n : ℕ) → accepted ≡ Some n
-            → length (left_by T.below T.least self.old.board.dataflow earlier).fed ≡ n)
-            → HasNoSmallBound T.below T.cmp self.old.board.dataflow.nodes
-            (changes_in (left_by T.below T.least self.old.board.dataflow earlier))
-            → StandsFor T.below T.least T.cmp self.new
-            (entry worker (doing (terms_of_board self.old) self.new.board.last) ∷ es) }
+            → length (left_by T.times self.old.board.dataflow earlier).fed ≡ n)
+            → HasNoSmallBound T.times T.cmp self.old.board.dataflow.nodes
+            (changes_in (left_by T.times self.old.board.dataflow earlier))
+            → StandsFor T.times T.cmp self.new
+            (entry worker (doing (opening_of_board self.old) self.new.board.last) ∷ es) }
         ensures told { (n : ℕ) → self.old.accepted ≡ Some n → accepted ≡ Some n
             → IsTrue self.new.too_large }
         ensures stays { IsTrue self.old.too_large → IsTrue self.new.too_large }
@@ -392,9 +392,9 @@ impl<T: Minimum> SharedBoard<T> {
     /// Whether a worker told that with the changes accepted so far a number is too large.
     pub fn is_too_large(&self) -> bool
         ensures value { result ≡ self.now.too_large }
-        ensures cause { (es : List (Entry (Doing T))) → StandsFor T.below T.least T.cmp self.now es
-            → IsTrue result → HasNoSmallBound T.below T.cmp self.now.board.dataflow.nodes
-            (changes_in (left_by T.below T.least self.now.board.dataflow es)) }
+        ensures cause { (es : List (Entry (BoardEvent T))) → StandsFor T.times T.cmp self.now es
+            → IsTrue result → HasNoSmallBound T.times T.cmp self.now.board.dataflow.nodes
+            (changes_in (left_by T.times self.now.board.dataflow es)) }
     {
         self.too_large
     }

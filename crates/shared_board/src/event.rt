@@ -4,7 +4,7 @@ use plan::Plan;
 
 /// An event on a board, and how the board was opened. No value of it is made. Since each entry of a
 /// history names the dataflow, an actor that has seen one entry knows it for good.
-pub struct Doing<T> {
+pub struct BoardEvent<T> {
     /// The plan of the board.
     pub plan: Plan,
     /// The number of workers.

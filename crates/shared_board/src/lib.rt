@@ -10,10 +10,10 @@
 //! All of this holds for any number of workers and clients. A worker computes between two tenures,
 //! without the board (crates `operator` and `desk`).
 //!
-//! A worker calls `try_take_piece`, `try_give` and `try_port_frontiers`. They do not wait: if another
-//! actor has the board, then they answer that it is busy, and nothing has happened. A client calls
-//! `feed`, `advance`, `close` and `allow`, and reads by `frontier`, `read` and `changes`. These wait
-//! for their turn.
+//! A worker calls `try_take_piece`, `try_give` and `try_port_frontiers`. They do not wait: if
+//! another actor has the board, then they answer that it is busy, and nothing has happened. A
+//! client calls `feed`, `advance`, `close` and `allow`, and reads by `frontier`, `read` and
+//! `changes`. These wait for their turn.
 #![tactic(auto)]
 
 mod actor;
@@ -25,7 +25,7 @@ mod protocol;
 
 pub use actor::Actor;
 pub use board::{SharedBoard, Taken};
-pub use event::Doing;
+pub use event::BoardEvent;
 pub use laws::{
     bundles_taken_have_their_width, gives_depend_on_their_worker, one_client_makes_all_changes,
     others_change_nothing_of_a_worker, quiet_until_the_client_acts,

@@ -1,9 +1,9 @@
 //! Opening a hub with a board, and an actor for each worker and client.
-ghost use Rattle.std.specs.Prelude.{◌≡◌, ◌≤◌, ◌+◌, ℕ, Some, IfOk, IfErr, length, slice_get};
+ghost use Rattle.std.specs.Prelude.{◌≡◌, ◌≤◌, ◌+◌, ℕ, Some, IfOk, length, slice_get};
+ghost use Rattle.update.specs.Refusals.{OnlyMemory};
 ghost use Rattle.hub.specs.Known.{Known};
-ghost use Rattle.update.specs.declared.refusal.Refusal.TheVariants.{OutOfMemory};
-ghost use Rattle.shared_board.specs.declared.event.Doing.{Doing};
-ghost use Rattle.shared_board.specs.Tenures.{IsFirst, terms_for};
+ghost use Rattle.shared_board.specs.declared.event.BoardEvent.{BoardEvent};
+ghost use Rattle.shared_board.specs.Tenures.{IsFirst, opening_for};
 
 use crate::actor::Actor;
 use crate::board::SharedBoard;
@@ -31,13 +31,13 @@ pub fn open<T: Minimum, P: BoardProtocol<T>, R: Wait>(
     requires workers { (1 ≤ workers) × (workers ≤ 16) }
     requires clients { clients ≤ 16 }
     ensures count { IfOk result (λ actors. length actors.items ≡ workers + clients) }
-    ensures each { IfOk result (λ actors. (k : ℕ) (a : Known (Doing T))
+    ensures each { IfOk result (λ actors. (k : ℕ) (a : Known (BoardEvent T))
         → slice_get actors.items k ≡ Some a
-        → IsFirst (terms_for plan.now workers clients) k a) }
-    ensures one_hub { IfOk result (λ actors. (k j : ℕ) (a b : Known (Doing T))
+        → IsFirst (opening_for plan.now workers clients) k a) }
+    ensures one_hub { IfOk result (λ actors. (k j : ℕ) (a b : Known (BoardEvent T))
         → slice_get actors.items k ≡ Some a
         → slice_get actors.items j ≡ Some b → a.hub ≡ b.hub) }
-    ensures refused { IfErr result (λ refusal. refusal ≡ OutOfMemory) }
+    ensures refused { OnlyMemory result }
 {
     let board = SharedBoard::open(alloc, plan.clone()?, workers, clients)?;
     let state = Box::new(alloc, board)?;

@@ -11,7 +11,7 @@
 //! bitemporal times and has no parameter: code that holds actors of one type of times is covered by
 //! the borrow checker only if their protocol has none.
 use crate::board::SharedBoard;
-use crate::event::Doing;
+use crate::event::BoardEvent;
 use hub::Protocol;
 use lattice::{Bitime, Minimum};
 use std::alloc::Global;
@@ -22,18 +22,18 @@ use std::marker::PhantomData;
 /// that `StandsFor` names, and that its last event is what was done last on the board.
 pub trait BoardProtocol<T: Minimum>: Protocol<
     State = Box<SharedBoard<T>, Global>,
-    Event = Doing<T>,
+    Event = BoardEvent<T>,
 > {
     ghost use Rattle.std.specs.Prelude.{◌≡◌, List};
     ghost use Rattle.hub.specs.declared.view.Entry.{Entry};
-    ghost use Rattle.shared_board.specs.declared.event.Doing.{Doing};
+    ghost use Rattle.shared_board.specs.declared.event.BoardEvent.{BoardEvent};
     ghost use Rattle.shared_board.specs.Tenures.{StandsFor, doing_on};
 
-    ghost stands_for: { (b : _) (es : List (Entry (Doing T)))
-        → Self.stands b es → StandsFor T.below T.least T.cmp b.value es };
+    ghost stands_for: { (b : _) (es : List (Entry (BoardEvent T)))
+        → Self.stands b es → StandsFor T.times T.cmp b.value es };
 
-    ghost may_stand: { (b : _) (es : List (Entry (Doing T)))
-        → StandsFor T.below T.least T.cmp b.value es → Self.stands b es };
+    ghost may_stand: { (b : _) (es : List (Entry (BoardEvent T)))
+        → StandsFor T.times T.cmp b.value es → Self.stands b es };
 
     ghost last_is: { (b : _) → Self.last b ≡ doing_on b.value };
 }
@@ -49,9 +49,9 @@ impl<T: Minimum> Protocol for Boards<T> {
 
     type State = Box<SharedBoard<T>, Global>;
 
-    type Event = Doing<T>;
+    type Event = BoardEvent<T>;
 
-    ghost stands = { λ b es. StandsFor T.below T.least T.cmp b.value es };
+    ghost stands = { λ b es. StandsFor T.times T.cmp b.value es };
 
     ghost last = { λ b. doing_on b.value };
 }
@@ -70,15 +70,14 @@ impl<T: Minimum> BoardProtocol<T> for Boards<T> {
 pub struct BitemporalBoards;
 
 impl Protocol for BitemporalBoards {
-    ghost use Rattle.lattice.specs.Bitimes.{bitime_below, bitime_cmp};
-    ghost use Rattle.lattice.specs.Pairs.{make_pair};
+    ghost use Rattle.lattice.specs.Bitimes.{bitime_times, bitime_cmp};
     ghost use Rattle.shared_board.specs.Tenures.{StandsFor, doing_on};
 
     type State = Box<SharedBoard<Bitime>, Global>;
 
-    type Event = Doing<Bitime>;
+    type Event = BoardEvent<Bitime>;
 
-    ghost stands = { λ b es. StandsFor bitime_below (make_pair 0 0) bitime_cmp b.value es };
+    ghost stands = { λ b es. StandsFor bitime_times bitime_cmp b.value es };
 
     ghost last = { λ b. doing_on b.value };
 }

@@ -1,6 +1,7 @@
 -- A spine: a batch list that merges under its readers' holds, and for which insertions it stands.
 use Rattle.std.specs.Prelude.{◌≡◌, ◌≢◌, ℕ, suc, ◌+◌, ◌-◌, ◌*◌, ◌^◌, min, ◌≤◌, ◌<◌, Bool, true, false, if◌then◌else◌, ℤ, List, [], ◌∷◌, ◌++◌, ◌⊎◌, ⊤, length, take, drop, sum_by, slice_get, Option, Some, None, IsTrue}
 use Rattle.std.specs.List.{list_all, list_any, AllByRecursion, Contains}
+use Rattle.lattice.specs.Times.{Times}
 use Rattle.lattice.specs.Frontiers.{all_beyond}
 use Rattle.lattice.specs.Representatives.{Indistinguishable}
 use Rattle.update.specs.Updates.{HasLargeTotal, size}
@@ -11,7 +12,7 @@ use Rattle.trace.specs.Readings.{Insertion, IsReadable, AreUpTo, all_content, al
 use Rattle.trace.specs.BatchLists.{BatchListState, IsMergeAt, IsRewriteAt, end_of, ends_of, updates_of}
 use Rattle.trace.specs.Holds.{HoldState}
 use Rattle.levels.specs.Levels.{UnderwayState, Change, Merged, Rewritten, changed, end_of_places, read_of, width_of}
-use Rattle.spine.specs.Holding.{forbids}
+use Rattle.spine.specs.HoldRules.{forbids}
 
 -- how far merges have come: how many updates were copied, and the merges that are under way, oldest
 -- first
@@ -19,8 +20,8 @@ pub record ProgressState (T : Type 0) : Type 0 where
   pub copied : ℕ
   pub underway : List (UnderwayState T)
 
--- the batches, the frontier beyond which they may be read, the readers' holds, and how far merges have
--- come
+-- the batches, the frontier beyond which they may be read, the readers' holds, and how far merges
+-- have come
 pub record SpineState (T : Type 0) : Type 0 where
   pub list : BatchListState T
   pub since : List T
@@ -72,7 +73,7 @@ IsLeft spent fuel None = spent ≡ 0
 abbrev pub IsCountAfter : ℕ → ℕ → ℕ → Type 0
 IsCountAfter old more new = old < 2 ^ 64 → new ≡ min (old + more) (2 ^ 64 - 1)
 
-module _ {T : Type 0} (below : T → T → Bool) where
+module _ {T : Type 0} (times : Times T) where
   -- the spine stands for these insertions: it has reached as far as they did; at each boundary one
   -- of them ended, or the spine begins there; and the batches up to a boundary may be read in the
   -- place of what was inserted up to there, at all times beyond the since
@@ -83,15 +84,16 @@ module _ {T : Type 0} (below : T → T → Bool) where
     pub reads : (n : ℕ) (u : List T) (seen : List (Insertion T))
         → end_of s.list.start (take n s.list.batches) ≡ u
         → AreUpTo s.list.start u h seen
-        → IsReadable below s.since
+        → IsReadable times s.since
         (all_content updates_of (take n s.list.batches)) (all_updates seen)
 
   -- some reader may ask for a boundary inside a place, which has to stay then
   abbrev pub is_barred : List (HoldState T) → List (BatchState T) → Bool → ℕ → Bool
   is_barred holds bs alone i =
-      list_any (λ b. forbids below holds b.description.upper) (take (width_of alone - 1) (drop i bs))
+      list_any (λ b. forbids times holds b.description.upper) (take (width_of alone - 1) (drop i bs))
 
-  -- the batches at a place may become one: they are there, and no reader may ask for a boundary inside
+  -- the batches at a place may become one: they are there, and no reader may ask for a boundary
+  -- inside
   pub record MayMerge (holds : List (HoldState T)) (bs : List (BatchState T)) (alone : Bool) (i : ℕ) : Type 0 where
     pub within : i + width_of alone ≤ length bs
     pub allowed : is_barred holds bs alone i ≡ false
@@ -101,12 +103,12 @@ module _ {T : Type 0} (below : T → T → Bool) where
   abbrev pub IsAllowed : List T → List (HoldState T) → Change T → List (BatchState T) → Type 0
   IsAllowed since holds (Merged i m) bs =
       MayMerge holds bs false i
-      × IsTrue (all_beyond below m.description.since since)
-      × IsMergeAt below m.description.since m i bs
+      × IsTrue (all_beyond times m.description.since since)
+      × IsMergeAt times m.description.since m i bs
   IsAllowed since holds (Rewritten i m) bs =
       MayMerge holds bs true i
-      × IsTrue (all_beyond below m.description.since since)
-      × IsRewriteAt below m.description.since m i bs
+      × IsTrue (all_beyond times m.description.since since)
+      × IsRewriteAt times m.description.since m i bs
 
   -- each of the changes was allowed
   abbrev pub AreAllowed : List T → List (HoldState T) → List (Change T) → List (BatchState T) → Type 0
@@ -117,7 +119,7 @@ module _ {T : Type 0} (below : T → T → Bool) where
   -- each merge that is under way is as of the since or an earlier frontier
   abbrev pub AreEarlier : List T → List (UnderwayState T) → Type 0
   AreEarlier since us =
-      AllByRecursion (λ u. IsTrue (all_beyond below u.merging.description.since since)) us
+      AllByRecursion (λ u. IsTrue (all_beyond times u.merging.description.since since)) us
 
   -- how many updates were read in vain: by merges across a boundary that some reader may ask for
   abbrev pub read_in_vain : SpineState T → ℕ
@@ -125,9 +127,9 @@ module _ {T : Type 0} (below : T → T → Bool) where
       sum_by (λ u. if is_barred s.holds s.list.batches u.alone u.number then read_of u else 0)
       s.progress.underway
 
-  -- so much fuel was spent: a unit for each update that was copied, and one for each new batch. What
-  -- was read is in the new batches, under way, or lost with merges that were given up. Nothing else
-  -- has changed
+  -- so much fuel was spent: a unit for each update that was copied, and one for each new batch.
+  -- What was read is in the new batches, under way, or lost with merges that were given up. Nothing
+  -- else has changed
   pub record IsWorked (spent lost : ℕ) (old new : SpineState T) : Type 0 where
     pub changes : List (Change T)
     pub allowed : AreAllowed old.since old.holds changes old.list.batches
@@ -143,10 +145,10 @@ module _ {T : Type 0} (below : T → T → Bool) where
     }
     pub stands : (h : List (Insertion T)) → Stands old h → Stands new h
     pub fewer : (u : List T) → Contains (boundaries new) u → Contains (boundaries old) u
-    pub kept_open : (u : List T) → Contains (boundaries old) u → IsTrue (forbids below old.holds u)
+    pub kept_open : (u : List T) → Contains (boundaries old) u → IsTrue (forbids times old.holds u)
         → Contains (boundaries new) u
     pub among : (p : List ℤ → T → Bool)
-        → IsUpward below p
+        → IsUpward times p
         → IsTrue (list_all (λ u. p u.row u.time) (stored old))
         → IsTrue (list_all (λ u. p u.row u.time) (stored new))
     pub smaller : size (stored new) ≤ size (stored old)
@@ -164,7 +166,7 @@ module _ {T : Type 0} (below : T → T → Bool) where
       → Contains b.updates u
       → Contains b.updates v
       → u.row ≡ v.row
-      → Indistinguishable below since u.time v.time
+      → Indistinguishable times since u.time v.time
       → u ≡ v
 
   -- the newest merge may go on: no reader may ask for the boundary inside its place
@@ -179,8 +181,8 @@ module _ {T : Type 0} (below : T → T → Bool) where
     pub behind : end_of_places 0 s.progress.underway ≤ i
     pub may : MayMerge s.holds s.list.batches alone i
 
-  -- nothing is left to do: some reader may ask for each boundary between two batches, and each batch
-  -- is as of the since, if there are readers
+  -- nothing is left to do: some reader may ask for each boundary between two batches, and each
+  -- batch is as of the since, if there are readers
   pub record AreDone (holds : List (HoldState T)) (since : List T) (bs : List (BatchState T)) : Type 0 where
     pub merged : (i : ℕ) → suc i < length bs → IsTrue (is_barred holds bs false i)
     pub compacted : since ≢ [] → AllByRecursion (λ b. b.description.since ≡ since) bs
@@ -188,9 +190,9 @@ module _ {T : Type 0} (below : T → T → Bool) where
   abbrev pub IsDone : SpineState T → Type 0
   IsDone s = AreDone s.holds s.since s.list.batches
 
-  -- so much fuel goes no further: no merge is under way, and of two neighbours the older one has more
-  -- than twice as many updates, or some reader may ask for the boundary between them. What else there
-  -- may be to do asks for more fuel than there are updates
+  -- so much fuel goes no further: no merge is under way, and of two neighbours the older one has
+  -- more than twice as many updates, or some reader may ask for the boundary between them. What
+  -- else there may be to do asks for more fuel than there are updates
   pub record IsStuck (left : ℕ) (s : SpineState T) : Type 0 where
     pub nothing : s.progress.underway ≡ []
     pub steep : (i : ℕ) (a b : BatchState T)
@@ -201,9 +203,9 @@ module _ {T : Type 0} (below : T → T → Bool) where
 
   -- the total of some row over the updates at some place, moved as of the since or an earlier
   -- frontier, is no 64-bit number
-  pub record HasLargePlace (joined met : T → T → T) (since : List T) (bs : List (BatchState T)) : Type 0 where
+  pub record HasLargePlace (since : List T) (bs : List (BatchState T)) : Type 0 where
     pub frontier : List T
-    pub earlier : IsTrue (all_beyond below frontier since)
+    pub earlier : IsTrue (all_beyond times frontier since)
     pub alone : Bool
     pub number : ℕ
-    pub large : HasLargeTotal below (compacted joined met frontier (sources_at alone number bs))
+    pub large : HasLargeTotal times (compacted times frontier (sources_at alone number bs))

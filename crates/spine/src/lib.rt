@@ -11,9 +11,9 @@
 //! - Each reader has a [`Hold`](trace::Hold) with two frontiers. It may ask for boundaries from its
 //!   physical frontier on, so no merge goes across those. It sums at times beyond its logical
 //!   frontier; the since is the least of all of these.
-//! - [`Spine::work`] merges as far as the fuel goes that the caller gives. A merge that is not whole
-//!   goes on with the next call, so a large one is never paid for at once. Which neighbours are next
-//!   is a policy in a file of its own, which the contract leaves open.
+//! - [`Spine::work`] merges as far as the fuel goes that the caller gives. A merge that is not
+//!   whole goes on with the next call, so a large one is never paid for at once. Which neighbours
+//!   are next is a policy in a file of its own, which the contract leaves open.
 //! - [`a_spine_stands`] is a law: there are spines that stand for insertions. By
 //!   [`holds_are_kept_apart`] somebody with many readers knows each reader's hold after a call with
 //!   one of them, and by [`held_boundaries_stay`] a reader knows that its boundary can be read.
@@ -25,10 +25,10 @@
 
 mod holds;
 mod laws;
+mod merges;
 mod policy;
 mod since;
 mod spine;
-mod working;
 
 pub use laws::{a_spine_stands, held_boundaries_stay, holds_are_kept_apart};
 pub use spine::Spine;

@@ -6,8 +6,8 @@
 //! only such neighbours behind it are merged first. They are few and small, so it is not kept
 //! waiting for long.
 //!
-//! All else is done only with fuel for all that is stored: steep neighbours, and a single batch that
-//! lags behind the since, which is rewritten. To push a small batch into a large one again and
+//! All else is done only with fuel for all that is stored: steep neighbours, and a single batch
+//! that lags behind the since, which is rewritten. To push a small batch into a large one again and
 //! again would spend what the large ones need.
 ghost use Rattle.std.specs.Prelude.{◌≡◌, ◌≢◌, ◌↔◌, ◌⊎◌, ◌<◌, ◌≤◌, ◌+◌, ℕ, suc, Some, None, true, false, [], IfSome, IsSomeAnd, IsTrue, length, slice_get};
 ghost use Rattle.std.specs.List.{AllByRecursion};
@@ -52,7 +52,7 @@ fn pair_at(number: usize) -> Place
 // Whether some reader may ask for the boundary behind the batch with this number.
 fn is_shut<T: Lattice>(batches: &[Batch<T>], holds: &[KeptHold<T>], i: usize) -> bool
     requires { i < length batches.now }
-    ensures { result ≡ is_barred T.below holds.now batches.now false i }
+    ensures { result ≡ is_barred T.times holds.now batches.now false i }
 {
     is_forbidden(holds, batches[i].description().upper())
 }
@@ -64,7 +64,7 @@ pub(crate) fn is_barred<T: Lattice>(
     place: Place,
 ) -> bool
     requires { place.number + width_of place.is_alone ≤ length batches.now }
-    ensures { result ≡ is_barred T.below holds.now batches.now place.is_alone place.number }
+    ensures { result ≡ is_barred T.times holds.now batches.now place.is_alone place.number }
 {
     !place.is_alone && is_shut(batches, holds, place.number)
 }
@@ -72,10 +72,10 @@ pub(crate) fn is_barred<T: Lattice>(
 // Whether the batch with this number and the next one may become one, and are not steep.
 fn can_merge_evenly<T: Lattice>(batches: &[Batch<T>], holds: &[KeptHold<T>], i: usize) -> bool
     requires { suc i < length batches.now }
-    ensures yes { result ≡ true → MayMerge T.below holds.now batches.now false i }
+    ensures yes { result ≡ true → MayMerge T.times holds.now batches.now false i }
     ensures no { result ≡ false → (a b : BatchState T) → slice_get batches.now i ≡ Some a
         → slice_get batches.now (suc i) ≡ Some b
-        → AreSteep a b ⊎ IsTrue (is_barred T.below holds.now batches.now false i) }
+        → AreSteep a b ⊎ IsTrue (is_barred T.times holds.now batches.now false i) }
 {
     is_even(&batches[i], &batches[i + 1]) && !is_shut(batches, holds, i)
 }
@@ -84,10 +84,10 @@ fn can_merge_evenly<T: Lattice>(batches: &[Batch<T>], holds: &[KeptHold<T>], i: 
 fn even_pair<T: Lattice>(batches: &[Batch<T>], holds: &[KeptHold<T>], from: usize) -> Option<usize>
     requires { from ≤ length batches.now }
     ensures some { IfSome result
-        (λ i. (from ≤ i) × MayMerge T.below holds.now batches.now false i) }
+        (λ i. (from ≤ i) × MayMerge T.times holds.now batches.now false i) }
     ensures none { result ≡ None → (i : ℕ) (a b : BatchState T) → from ≤ i
         → slice_get batches.now i ≡ Some a → slice_get batches.now (suc i) ≡ Some b
-        → AreSteep a b ⊎ IsTrue (is_barred T.below holds.now batches.now false i) }
+        → AreSteep a b ⊎ IsTrue (is_barred T.times holds.now batches.now false i) }
 {
     for newer in 1..batches.len() - from {
         let i = batches.len() - 1 - newer;
@@ -119,9 +119,9 @@ fn updates_at<T: Lattice>(batches: &[Batch<T>], i: usize) -> usize
 
 // The neighbours with the fewest updates of those that may become one.
 fn cheapest_pair<T: Lattice>(batches: &[Batch<T>], holds: &[KeptHold<T>]) -> Option<usize>
-    ensures some { IfSome result (λ i. MayMerge T.below holds.now batches.now false i) }
+    ensures some { IfSome result (λ i. MayMerge T.times holds.now batches.now false i) }
     ensures none { result ≡ None → (i : ℕ) → suc i < length batches.now
-        → IsTrue (is_barred T.below holds.now batches.now false i) }
+        → IsTrue (is_barred T.times holds.now batches.now false i) }
 {
     let mut best = None;
     for next in 1..batches.len() {
@@ -154,8 +154,8 @@ fn lagging_batch<T: Lattice>(batches: &[Batch<T>], since: &[T]) -> Option<usize>
 // become one, or else a batch that lags.
 fn last_place<T: Lattice>(batches: &[Batch<T>], holds: &[KeptHold<T>], since: &[T]) -> Option<Place>
     ensures some { IfSome result
-        (λ place. MayMerge T.below holds.now batches.now place.is_alone place.number) }
-    ensures none { (result ≡ None) ↔ AreDone T.below holds.now since.now batches.now }
+        (λ place. MayMerge T.times holds.now batches.now place.is_alone place.number) }
+    ensures none { (result ≡ None) ↔ AreDone T.times holds.now since.now batches.now }
 {
     match cheapest_pair(batches, holds) {
         Some(i) => Some(pair_at(i)),
@@ -172,7 +172,7 @@ fn last_place<T: Lattice>(batches: &[Batch<T>], holds: &[KeptHold<T>], since: &[
 // Whether no neighbours may become one. The first that may end the search.
 fn are_all_shut<T: Lattice>(batches: &[Batch<T>], holds: &[KeptHold<T>]) -> bool
     ensures { (result ≡ true) ↔ ((i : ℕ) → suc i < length batches.now
-        → IsTrue (is_barred T.below holds.now batches.now false i)) }
+        → IsTrue (is_barred T.times holds.now batches.now false i)) }
 {
     for next in 1..batches.len() {
         if !is_shut(batches, holds, next - 1) {
@@ -184,7 +184,7 @@ fn are_all_shut<T: Lattice>(batches: &[Batch<T>], holds: &[KeptHold<T>]) -> bool
 
 // Whether nothing is left to do.
 pub(crate) fn is_done<T: Lattice>(batches: &[Batch<T>], holds: &[KeptHold<T>], since: &[T]) -> bool
-    ensures { (result ≡ true) ↔ AreDone T.below holds.now since.now batches.now }
+    ensures { (result ≡ true) ↔ AreDone T.times holds.now since.now batches.now }
 {
     are_all_shut(batches, holds) && lagging_batch(batches, since).is_none()
 }
@@ -197,11 +197,11 @@ pub(crate) fn first_place<T: Lattice>(
     fuel: u64,
 ) -> Option<Place>
     ensures some { IfSome result
-        (λ place. MayMerge T.below holds.now batches.now place.is_alone place.number) }
+        (λ place. MayMerge T.times holds.now batches.now place.is_alone place.number) }
     ensures steep { result ≡ None → (i : ℕ) (a b : BatchState T)
         → slice_get batches.now i ≡ Some a → slice_get batches.now (suc i) ≡ Some b
-        → AreSteep a b ⊎ IsTrue (is_barred T.below holds.now batches.now false i) }
-    ensures rest { result ≡ None → AreDone T.below holds.now since.now batches.now
+        → AreSteep a b ⊎ IsTrue (is_barred T.times holds.now batches.now false i) }
+    ensures rest { result ≡ None → AreDone T.times holds.now since.now batches.now
         ⊎ (fuel ≤ length (all_content updates_of batches.now)) }
 {
     match even_pair(batches, holds, 0) {
@@ -220,7 +220,7 @@ pub(crate) fn place_behind<T: Lattice>(
 ) -> Option<Place>
     requires { from ≤ length batches.now }
     ensures { IfSome result (λ place. (from ≤ place.number)
-        × MayMerge T.below holds.now batches.now place.is_alone place.number) }
+        × MayMerge T.times holds.now batches.now place.is_alone place.number) }
 {
     match even_pair(batches, holds, from) {
         Some(i) => Some(pair_at(i)),

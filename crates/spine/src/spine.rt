@@ -8,11 +8,12 @@
 //! forward, so a merge may be finished however long it takes.
 ghost use Rattle.std.specs.Prelude.{◌≡◌, ◌↔◌, ◌⊎◌, ◌++◌, ◌∷◌, ◌≤◌, min, ◌-◌, ◌^◌, List, [], Err, IfErr, IfOk, IsErrAnd, OnErr, OnOk, IsTrue, true, length, vec_capacity};
 ghost use Rattle.std.specs.List.{Contains};
+ghost use Rattle.update.specs.Refusals.{OnlyMemory};
 ghost use Rattle.lattice.specs.Frontiers.{all_beyond};
 ghost use Rattle.update.specs.declared.refusal.Refusal.{Refusal};
 ghost use Rattle.trace.specs.Readings.{Insertion, all_content};
 ghost use Rattle.trace.specs.BatchLists.{Continues, IsBatchList, end_of, insertion_of, updates_of};
-ghost use Rattle.spine.specs.Holding.{IsSinceOf, IsMoved, IsWithout};
+ghost use Rattle.spine.specs.HoldRules.{IsSinceOf, IsMoved, IsWithout};
 ghost use Rattle.spine.specs.Spines.{SpineState, Stands, stored};
 
 use crate::holds::{end_hold, is_onward, move_hold, push_hold};
@@ -27,8 +28,8 @@ use trace::{BatchList, Hold, KeptHold, Trace, Unplaced};
 use update::Refusal;
 
 /// A trace that merges its batches under its readers' holds. A contract sees the batch list, the
-/// since, the holds, and how far merges have come: the updates that were copied, and the merges that
-/// are under way.
+/// since, the holds, and how far merges have come: the updates that were copied, and the merges
+/// that are under way.
 ///
 /// One worker owns a spine and all its readers. Each reader has a [`Hold`], and gives it back by
 /// [`release`](Spine::release).
@@ -42,7 +43,7 @@ pub struct Spine<T: Lattice> {
 
 impl<T: Lattice> Model for Spine<T> {
     ghost use Rattle.std.specs.Prelude.{vec_capacity, ◌≤◌};
-    ghost use Rattle.spine.specs.Holding.{IsSinceOf, logical_count};
+    ghost use Rattle.spine.specs.HoldRules.{IsSinceOf, logical_count};
     ghost use Rattle.spine.specs.Spines.{SpineState, AreEarlier};
 
     ghost Value = { SpineState T };
@@ -54,16 +55,16 @@ impl<T: Lattice> Model for Spine<T> {
       progress = record { copied = s.copied; underway = s.levels.underway };
     } };
 
-    ghost invariant = { λ s. IsSinceOf T.below T.cmp s.holds.items s.since.items
+    ghost invariant = { λ s. IsSinceOf T.times T.cmp s.holds.items s.since.items
         × (logical_count s.holds.items ≤ vec_capacity s.since)
-        × AreEarlier T.below s.since.items s.levels.underway };
+        × AreEarlier T.times s.since.items s.levels.underway };
 }
 
 // The frontier that has the least time alone.
 fn least_time<T: Minimum>(alloc: Global) -> Result<Vec<T>, Refusal>
-    ensures is { IfOk result (λ times. times.items ≡ T.least ∷ []) }
+    ensures is { IfOk result (λ times. times.items ≡ T.times.least ∷ []) }
     ensures room { IfOk result (λ times. 1 ≤ vec_capacity times) }
-    ensures only { IfErr result (λ refused. refused ≡ Refusal.OutOfMemory) }
+    ensures only { OnlyMemory result }
 {
     let mut times = Vec::new(alloc);
     times.push(T::minimum())?;
@@ -78,18 +79,19 @@ impl<T: Minimum> Spine<T> {
           list = record {
             worker = worker;
             node = node;
-            start = T.least ∷ [];
+            start = T.times.least ∷ [];
             batches = [];
             reserved = made.0.list.reserved;
           };
-          since = T.least ∷ [];
-          holds = record { logical = T.least ∷ []; physical = T.least ∷ [] } ∷ [];
+          since = T.times.least ∷ [];
+          holds = record { logical = T.times.least ∷ []; physical = T.times.least ∷ [] } ∷ [];
           progress = record { copied = 0; underway = [] };
         }) }
         ensures hold { IfOk result
-            (λ made. made.1 ≡ record { logical = T.least ∷ []; physical = T.least ∷ [] }) }
-        ensures stands { IfOk result (λ made. Stands T.below made.0 []) }
-        ensures only { IfErr result (λ refused. refused ≡ Refusal.OutOfMemory) }
+            (λ made. made.1
+            ≡ record { logical = T.times.least ∷ []; physical = T.times.least ∷ [] }) }
+        ensures stands { IfOk result (λ made. Stands T.times made.0 []) }
+        ensures only { OnlyMemory result }
     {
         let list = BatchList::new(alloc, worker, node)?;
         let since = least_time(alloc)?;
@@ -112,7 +114,7 @@ impl<T: Lattice> Spine<T> {
         ensures room { OnOk result
             (self.new ≡ record self.old { list = record self.old.list { reserved = true } }) }
         ensures same { OnErr result (self.new ≡ self.old) }
-        ensures only { IfErr result (λ refused. refused ≡ Refusal.OutOfMemory) }
+        ensures only { OnlyMemory result }
     {
         self.levels.reserve()
     }
@@ -134,8 +136,8 @@ impl<T: Lattice> Spine<T> {
             reserved = self.new.list.reserved;
           };
         }) }
-        ensures stands { OnOk result ((h : List (Insertion T)) → Stands T.below self.old h
-            → Stands T.below self.new (insertion_of batch ∷ h)) }
+        ensures stands { OnOk result ((h : List (Insertion T)) → Stands T.times self.old h
+            → Stands T.times self.new (insertion_of batch ∷ h)) }
         ensures same { OnErr result (self.new ≡ record self.old {
           list = record self.old.list { reserved = self.new.list.reserved };
         }) }
@@ -168,10 +170,10 @@ impl<T: Lattice> Spine<T> {
           } ∷ [];
         }) }
         ensures is_held { IfOk result (λ hold. Contains self.new.holds hold) }
-        ensures stands { OnOk result ((h : List (Insertion T)) → Stands T.below self.old h
-            → Stands T.below self.new h) }
+        ensures stands { OnOk result ((h : List (Insertion T)) → Stands T.times self.old h
+            → Stands T.times self.new h) }
         ensures same { OnErr result (self.new ≡ self.old) }
-        ensures only { IfErr result (λ refused. refused ≡ Refusal.OutOfMemory) }
+        ensures only { OnlyMemory result }
     {
         let more = self.since.len();
         make_room(&mut self.since, self.holds.as_slice(), more)?;
@@ -203,14 +205,14 @@ impl<T: Lattice> Spine<T> {
         ensures is_held { Contains self.new.holds hold.new }
         ensures kept { OnOk result
             (self.new ≡ record self.old { since = self.new.since; holds = self.new.holds }) }
-        ensures since { OnOk result (IsSinceOf T.below T.cmp self.new.holds self.new.since) }
+        ensures since { OnOk result (IsSinceOf T.times T.cmp self.new.holds self.new.since) }
         ensures onward { OnOk result
-            (IsTrue (all_beyond T.below self.old.since self.new.since)) }
-        ensures stands { OnOk result ((h : List (Insertion T)) → Stands T.below self.old h
-            → Stands T.below self.new h) }
+            (IsTrue (all_beyond T.times self.old.since self.new.since)) }
+        ensures stands { OnOk result ((h : List (Insertion T)) → Stands T.times self.old h
+            → Stands T.times self.new h) }
         ensures forward { (result ≡ Err Refusal.NotForward)
-            ↔ ((IsTrue (all_beyond T.below hold.old.logical logical.now)
-            × IsTrue (all_beyond T.below hold.old.physical physical.now)) → ⊥) }
+            ↔ ((IsTrue (all_beyond T.times hold.old.logical logical.now)
+            × IsTrue (all_beyond T.times hold.old.physical physical.now)) → ⊥) }
         ensures same { OnErr result ((self.new ≡ self.old) × (hold.new ≡ hold.old)) }
         ensures only { IfErr result (λ refused. (refused ≡ Refusal.OutOfMemory)
             ⊎ (refused ≡ Refusal.NotForward)) }
@@ -239,10 +241,10 @@ impl<T: Lattice> Spine<T> {
         ensures gone { IsWithout hold self.old.holds self.new.holds }
         ensures kept { self.new
             ≡ record self.old { since = self.new.since; holds = self.new.holds } }
-        ensures since { IsSinceOf T.below T.cmp self.new.holds self.new.since }
-        ensures onward { IsTrue (all_beyond T.below self.old.since self.new.since) }
-        ensures stands { (h : List (Insertion T)) → Stands T.below self.old h
-            → Stands T.below self.new h }
+        ensures since { IsSinceOf T.times T.cmp self.new.holds self.new.since }
+        ensures onward { IsTrue (all_beyond T.times self.old.since self.new.since) }
+        ensures stands { (h : List (Insertion T)) → Stands T.times self.old h
+            → Stands T.times self.new h }
     {
         end_hold(&mut self.holds, hold);
         refill(&mut self.since, self.holds.as_slice());
@@ -252,7 +254,7 @@ impl<T: Lattice> Spine<T> {
     /// [`Trace`]; this tells where the boundaries are, and in which order. Takes no memory.
     pub fn batches(&self) -> &[Batch<T>]
         ensures value { result.now ≡ self.now.list.batches }
-        ensures known { IsBatchList T.below T.cmp self.now.list }
+        ensures known { IsBatchList T.times T.cmp self.now.list }
     {
         self.levels.batches()
     }
@@ -296,7 +298,7 @@ impl<T: Lattice> Trace for Spine<T> {
 
     type Batch = Batch<T>;
 
-    ghost stands = { λ s h. Stands T.below s h };
+    ghost stands = { λ s h. Stands T.times s h };
 
     ghost start = { λ s. s.list.start };
 

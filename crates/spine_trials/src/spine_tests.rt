@@ -3,7 +3,7 @@
 //! keeps few batches. Which neighbours are merged is promised by no clause.
 ghost use Rattle.std.specs.Prelude.{◌≡◌, ◌∷◌, ◌++◌, List, [], IfOk, OnErr};
 ghost use Rattle.std.specs.List.{Contains};
-ghost use Rattle.spine.specs.Holding.{AreSameHolds};
+ghost use Rattle.spine.specs.HoldRules.{AreSameHolds};
 
 use antichain::Antichain;
 use batch::{Batch, BatchReader};

@@ -73,9 +73,9 @@ fn closed(
     worked(alloc, &nodes, changes, &[at((0, 1))], want)
 }
 
-// Row 7 is fed, and its time is closed. Until the workers have carried it on, the view's frontier is
-// where it was, and nothing can be read. A frontier that moved with the input's would show a view
-// without the row.
+// Row 7 is fed, and its time is closed. Until the workers have carried it on, the view's frontier
+// is where it was, and nothing can be read. A frontier that moved with the input's would show a
+// view without the row.
 #[test]
 fn work_in_flight_holds_the_frontier(rt: HostRuntime) -> Result<(), Fail> {
     let changes: [Change; 1] = [((0, 0), &[7], 1)];
@@ -117,8 +117,8 @@ fn a_worker_turns_to_what_it_holds(rt: HostRuntime) -> Result<(), Fail> {
     Ok(())
 }
 
-// One worker makes its steps. One that is refused memory it makes again, and nothing is lost or done
-// twice.
+// One worker makes its steps. One that is refused memory it makes again, and nothing is lost or
+// done twice.
 fn is_carried_on<R: Wait + Abort>(rt: &R, alloc: Global) -> Result<(), Refusal> {
     let worked = seven_twice(alloc)?;
     let mut crew: Crew = Vec::new(alloc);

@@ -121,7 +121,8 @@ impl Worked<Bitime> {
     }
 
     // The client of a new board, once the crew has carried on what it did, in an order that is
-    // drawn. A step of each worker finds the board quiet then, and each can tidy its desk to the end.
+    // drawn. A step of each worker finds the board quiet then, and each can tidy its desk to the
+    // end.
     fn carried_on<R: Wait + Abort>(
         &self,
         rt: &R,
@@ -169,7 +170,8 @@ impl Worked<Bitime> {
         self.assert_found(rt, alloc, &mut client)
     }
 
-    // So many workers carry the example on in rounds, always with their last piece, and tidy by units.
+    // So many workers carry the example on in rounds, always with their last piece, and tidy by
+    // units.
     fn assert_driven<R: Wait + Abort>(
         &self,
         rt: &R,

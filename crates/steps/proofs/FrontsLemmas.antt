@@ -3,6 +3,7 @@ use Rattle.std.proofs.Common.{◌≡◌, ℕ, zero, suc, ◌+◌, ◌<◌, Bool,
 use Rattle.std.specs.Prelude.{IfSome, IsTrue}
 use Rattle.std.specs.List.{slice_get}
 use Rattle.std.proofs.lemmas.Bool.{eqb-false, eqb-true}
+use Rattle.lattice.specs.Times.{Times}
 use Rattle.lattice.specs.Order.{PartialOrderLaws}
 use Rattle.lattice.specs.Frontiers.{is_beyond}
 use Rattle.plan.specs.Nodes.{node_at}
@@ -13,11 +14,11 @@ use Rattle.histories.specs.declared.event.Site.{Site}
 use Rattle.histories.specs.Histories.Dataflows.{Dataflow}
 use Rattle.histories.specs.Histories.Outstanding.{port_frontier}
 use Rattle.histories.specs.Histories.States.{State}
-use Rattle.shared_board.specs.declared.event.Doing.{Doing}
+use Rattle.shared_board.specs.declared.event.BoardEvent.{BoardEvent}
 use Rattle.shared_board.specs.Found.{AreFrontsFound, dataflow_of}
 use Rattle.shared_board.specs.Ports.{AreFrontsOf}
-use Rattle.shared_board.specs.Tenures.{Adds, IsActor, state_found, state_left}
-use Rattle.desk.specs.Tidying.{AreTold, front_in, holds_elsewhere}
+use Rattle.shared_board.specs.Tenures.{IsNextTenure, IsActor, state_found, state_left}
+use Rattle.desk.specs.Upkeep.{AreTold, front_in, holds_elsewhere}
 use Rattle.steps.specs.Steps.{ArePorts, LooksAtMost}
 use Rattle.steps.proofs.TenureLemmas.{tenure_of}
 
@@ -73,21 +74,21 @@ ports_next plan n ports a b len before an ap0 bn bp m port l few = by (eqb m n) 
 -- ---- what one look finds
 
 -- the list tells the frontiers of the ports of all nodes that have a hold
-told_from : {T : Type 0} (below : T → T → Bool) (p : Dataflow) (w : State T) (ports : List Site) (fronts : List (List T)) → ArePorts p.nodes (length p.nodes) ports → AreFrontsOf below p w ports fronts → AreTold below p w fronts
-told_from {T} below p w ports fronts are found n port within few holds t =
+told_from : {T : Type 0} (times : Times T) (p : Dataflow) (w : State T) (ports : List Site) (fronts : List (List T)) → ArePorts p.nodes (length p.nodes) ports → AreFrontsOf times p w ports fronts → AreTold times p w fronts
+told_from {T} times p w ports fronts are found n port within few holds t =
     let site = are n port within few in
     let front = found (n + (n + port)) site.0 site.1 in
-    ap (λ F. is_beyond below (front_in F) t) front.1
-    ∙ (front.2 t ∙ (λ i. is_beyond below (port_frontier below p w (site.2 holds i) (site.3 i)) t))
+    ap (λ F. is_beyond times (front_in F) t) front.1
+    ∙ (front.2 t ∙ (λ i. is_beyond times (port_frontier times p w (site.2 holds i) (site.3 i)) t))
 
-module _ {T : Type 0} (below : T → T → Bool) (joined : T → T → T) (minimum : T) (o : PartialOrderLaws below) (old new : Known (Doing T)) (after : IsActor below minimum new) where
+module _ {T : Type 0} (times : Times T) (o : PartialOrderLaws times) (old new : Known (BoardEvent T)) (after : IsActor times new) where
   -- and a look leaves the state as it found it
-  pub told_found : Adds old (Look old.number) new → (ports : List Site) (fronts : List (List T)) → ArePorts (dataflow_of old).nodes (length (dataflow_of old).nodes) ports → AreFrontsFound below minimum old new ports fronts → AreTold below (dataflow_of new) (state_left below minimum new) fronts
+  pub told_found : IsNextTenure old (Look old.number) new → (ports : List Site) (fronts : List (List T)) → ArePorts (dataflow_of old).nodes (length (dataflow_of old).nodes) ports → AreFrontsFound times old new ports fronts → AreTold times (dataflow_of new) (state_left times new) fronts
   told_found adds ports fronts are found =
-      let t = tenure_of below joined minimum o old (Look old.number) new after adds in
-      subst (λ (y : Dataflow × State T). AreTold below y.0 y.1 fronts) (λ i. (sym t.same_flow i, sym t.left i)) (told_from below (dataflow_of old) (state_found below minimum new) ports fronts are found)
+      let t = tenure_of times o old (Look old.number) new after adds in
+      subst (λ (y : Dataflow × State T). AreTold times y.0 y.1 fronts) (λ i. (sym t.same_flow i, sym t.left i)) (told_from times (dataflow_of old) (state_found times new) ports fronts are found)
 
 -- whether or not the board was there
-pub looks_found : {T : Type 0} (old new : Known (Doing T)) {A : Type 0} (found : Option A) → IfSome found (λ a. Adds old (Look old.number) new) → (found ≡ None → new ≡ old) → LooksAtMost old new
+pub looks_found : {T : Type 0} (old new : Known (BoardEvent T)) {A : Type 0} (found : Option A) → IfSome found (λ a. IsNextTenure old (Look old.number) new) → (found ≡ None → new ≡ old) → LooksAtMost old new
 looks_found old new (Some a) looked busy = inr looked
 looks_found old new None looked busy = inl (busy refl)

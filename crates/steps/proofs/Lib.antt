@@ -6,4 +6,4 @@ pub mod OutputLemmas
 pub mod GivenLemmas
 pub mod FrontsLemmas
 pub mod WorkerLemmas
-pub mod CrossingLemmas
+pub mod CrossLemmas

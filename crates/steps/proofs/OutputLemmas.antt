@@ -1,5 +1,5 @@
 -- What is ready leaves the hand and comes back, and for the desk nothing is changed by that.
-use Rattle.std.proofs.Common.{◌≡◌, ℕ, Bool, List, [], ap}
+use Rattle.std.proofs.Common.{◌≡◌, ℕ, List, [], ap}
 use Rattle.std.proofs.lemmas.Option.{same_Some}
 use Rattle.update.specs.declared.change.Update.{Update}
 use Rattle.histories.specs.Histories.Dataflows.{Dataflow}
@@ -7,6 +7,7 @@ use Rattle.desk_laws.specs.Own.{DeskView, IsHandOn, hand_node}
 use Rattle.desk_laws.specs.declared.hand.Hand.{Hand}
 use Rattle.desk_laws.specs.declared.hand.Hand.TheVariants.{Free, Taken, Kept, Turned, Ready, Sealed}
 use Rattle.steps.specs.Steps.{IsPutDown, output_of, without_output}
+use Rattle.lattice.specs.Times.{Times}
 
 module _ {T : Type 0} where
   pub ready_back : (h : Hand T) (n : ℕ) (us out : List (Update T)) → Ready n us ≡ without_output h → out ≡ output_of h → Ready n out ≡ h
@@ -25,8 +26,8 @@ module _ {T : Type 0} where
   other_back (Ready m vs) g f e = absurd (f m [] e)
   other_back (Sealed m batch) g f e = e
 
-module _ {T : Type 0} (below : T → T → Bool) (joined : T → T → T) (minimum : T) (p : Dataflow) (d : DeskView T) where
-  pub on_without : (h : Hand T) → IsHandOn below joined minimum p d h → IsHandOn below joined minimum p d (without_output h)
+module _ {T : Type 0} (times : Times T) (p : Dataflow) (d : DeskView T) where
+  pub on_without : (h : Hand T) → IsHandOn times p d h → IsHandOn times p d (without_output h)
   on_without Free x = x
   on_without (Taken bundle more) x = x
   on_without (Kept m more) x = x
@@ -34,7 +35,7 @@ module _ {T : Type 0} (below : T → T → Bool) (joined : T → T → T) (minim
   on_without (Ready m us) x = x
   on_without (Sealed m batch) x = x
 
-  pub down_without : (h : Hand T) (c : DeskView T) → IsPutDown below joined minimum p (without_output h) d c → IsPutDown below joined minimum p h d c
+  pub down_without : (h : Hand T) (c : DeskView T) → IsPutDown times p (without_output h) d c → IsPutDown times p h d c
   down_without Free c x = x
   down_without (Taken bundle more) c x = x
   down_without (Kept m more) c x = x

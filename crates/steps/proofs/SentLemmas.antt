@@ -16,10 +16,11 @@ use Rattle.histories.specs.Histories.Dataflows.{Dataflow, node_of, source_of, ro
 use Rattle.histories.specs.Histories.States.{same_place, updates_at}
 use Rattle.histories.specs.Histories.Shares.{part, share, share_from}
 use Rattle.histories.proofs.HistoryLemmas.PlaceLemmas.{there_some}
-use Rattle.outstanding.proofs.PlacingLemmas.{itself}
-use Rattle.operator_laws.specs.Gathering.{IsCut}
-use Rattle.operator_laws.proofs.GatheringLemmas.{cut_none}
+use Rattle.outstanding.proofs.PlacedLemmas.{itself}
+use Rattle.operator_laws.specs.GatheredUpdates.{IsCut}
+use Rattle.operator_laws.proofs.GatheredLemmas.{cut_none}
 use Rattle.shared_board.specs.Widths.{is_wide_for}
+use Rattle.lattice.specs.Times.{Times}
 
 module _ {T : Type 0} where
   -- if all updates sent to a bundle's place pass a test, so do its own
@@ -85,8 +86,8 @@ module _ {T : Type 0} where
           (own_part (λ u. eqb (length u.row) (width_of p.nodes g.node)) sent b m (ap (list_all (λ u. eqb (length u.row) (width_of p.nodes g.node))) (whole b.place) ∙ share_all (λ u. eqb (length u.row) (width_of p.nodes g.node)) b.place wide)))
 
 -- of nothing nothing is sent
-pub none_sent : {T : Type 0} (below : T → T → Bool) (p : Dataflow) (n k : ℕ) (sent : List (Bundle T)) → IsCut below p (record { node = n; worker = k; updates = [] }) sent → sent ≡ []
-none_sent below p n k [] cuts = refl
-none_sent {T} below p n k (b ∷ sent) cuts =
+pub none_sent : {T : Type 0} (times : Times T) (p : Dataflow) (n k : ℕ) (sent : List (Bundle T)) → IsCut times p (record { node = n; worker = k; updates = [] }) sent → sent ≡ []
+none_sent times p n k [] cuts = refl
+none_sent {T} times p n k (b ∷ sent) cuts =
     let first = (and_parts (not (eqb (length b.updates) 0)) (list_all (λ (c : Bundle T). not (eqb (length c.updates) 0)) sent) cuts.filled).0 in
-    absurd (there_some (b ∷ sent) b (inl refl) (some b.updates first) (cuts.whole b.place ∙ sym ((cut_none below p n k).whole b.place)))
+    absurd (there_some (b ∷ sent) b (inl refl) (some b.updates first) (cuts.whole b.place ∙ sym ((cut_none times p n k).whole b.place)))

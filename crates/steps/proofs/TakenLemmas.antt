@@ -1,10 +1,11 @@
--- What is right of a worker after it took a piece: the piece is in hand, of a node of the plan, and the
--- rows of a bundle have their width.
+-- What is right of a worker after it took a piece: the piece is in hand, of a node of the plan, and
+-- the rows of a bundle have their width.
 use Rattle.std.proofs.Common.{◌≡◌, ℕ, ◌<◌, Bool, true, false, ◌||◌, ◌&&◌, eqb, List, [], ◌∷◌, ◌++◌, length, IsTrue, sym, refl, ap, ◌∙◌, subst, ⊎_elim, ◌⊎◌, rules}
 use Rattle.std.specs.Prelude.{nat_lt}
 use Rattle.std.proofs.lemmas.Bool.{and_parts, eq-eqb, or_left, or_right}
 use Rattle.std.proofs.lemmas.List.{append-nil}
 use Rattle.std.proofs.lemmas.List.Folds.{list_all-map}
+use Rattle.lattice.specs.Times.{Times}
 use Rattle.lattice.specs.Order.{PartialOrderLaws}
 use Rattle.lattice.specs.Frontiers.{all_beyond, is_beyond}
 use Rattle.antichain.proofs.Lists.{all_at, all_from, contains_among}
@@ -18,21 +19,21 @@ use Rattle.histories.specs.declared.event.Event.TheVariants.{Take, TakeHeld}
 use Rattle.histories.specs.Histories.Dataflows.{Dataflow, IsDataflow, node_of}
 use Rattle.histories.specs.Histories.Outstanding.{input_frontier}
 use Rattle.histories.specs.Histories.Promises.{IsPlace, NeverGoesBack}
-use Rattle.histories.specs.Histories.States.{State, times}
+use Rattle.histories.specs.Histories.States.{State, update_times}
 use Rattle.histories.specs.Histories.{IsLegal, IsTake, initial_state, next_state, state_after}
 use Rattle.histories.proofs.HistoryLemmas.FlowLemmas.{queued}
 use Rattle.histories.proofs.HistoryLemmas.HeadlineLemmas.{inputs_lem}
 use Rattle.histories.proofs.HistoryLemmas.PlaceLemmas.{in_place_lem}
 use Rattle.operator.specs.Arrangements.{times_from}
-use Rattle.operator_laws.specs.Gathering.{IsStamped}
-use Rattle.operator_laws.proofs.ArrangingLemmas.{first_passed, taken_beyond}
-use Rattle.operator_laws.proofs.GatheringLemmas.{waiting_is_stamped}
-use Rattle.shared_board.specs.declared.event.Doing.{Doing}
-use Rattle.shared_board.specs.declared.board.taking.Taken.{Taken as Piece}
-use Rattle.shared_board.specs.declared.board.taking.Taken.TheVariants.{Bundled, Turned as turned_piece, Nothing}
+use Rattle.operator_laws.specs.GatheredUpdates.{IsStamped}
+use Rattle.operator_laws.proofs.ArrangeLemmas.{first_passed, taken_beyond}
+use Rattle.operator_laws.proofs.GatheredLemmas.{waiting_is_stamped}
+use Rattle.shared_board.specs.declared.event.BoardEvent.{BoardEvent}
+use Rattle.shared_board.specs.declared.board.pieces.Taken.{Taken as Piece}
+use Rattle.shared_board.specs.declared.board.pieces.Taken.TheVariants.{Bundled, Turned as turned_piece, Nothing}
 use Rattle.shared_board.specs.Found.{dataflow_of}
 use Rattle.shared_board.specs.Pieces.{IsTakenIn}
-use Rattle.shared_board.specs.Tenures.{Adds, IsActor, events, found_last, left_by, state_found, state_left}
+use Rattle.shared_board.specs.Tenures.{IsNextTenure, IsActor, events, found_last, left_by, state_found, state_left}
 use Rattle.shared_board.specs.Widths.{are_wide_for, is_wide_for}
 use Rattle.desk_laws.specs.Own.{DeskView, IsOwn}
 use Rattle.desk_laws.specs.declared.hand.Hand.TheVariants.{Free, Taken, Turned}
@@ -45,79 +46,79 @@ use Rattle.steps.proofs.TenureLemmas.{looked_right, right_after, same_flow, tenu
 has_port : (p : Dataflow) (n port : ℕ) → (port ≡ 0) ⊎ (port < length (sources (node_of p n))) → IsTrue (is_port (node_of p n) port)
 has_port p n port h = ⊎_elim (λ e. or_left (eqb port 0) (nat_lt port (length (sources (node_of p n)))) (eq-eqb port 0 e)) (λ l. or_right (eqb port 0) (nat_lt port (length (sources (node_of p n)))) (search rules)) h
 
-module _ {T : Type 0} (below : T → T → Bool) (minimum : T) (o : PartialOrderLaws below) (p : Dataflow) (q : IsDataflow p) (h : List (Event T)) (legal : IsLegal below minimum p h) where
+module _ {T : Type 0} (times : Times T) (o : PartialOrderLaws times) (p : Dataflow) (q : IsDataflow p) (h : List (Event T)) (legal : IsLegal times p h) where
   -- no input frontier goes back before the least time
-  from_start : (n : ℕ) → NeverGoesBack below (minimum ∷ []) (input_frontier below p (state_after below minimum p h) n)
-  from_start n t x = subst (λ k. NeverGoesBack below (input_frontier below p (initial_state below minimum p) n) (input_frontier below p (state_after below minimum p k) n)) (append-nil h)
-      (inputs_lem below minimum o p q [] h (subst (IsLegal below minimum p) (sym (append-nil h)) legal) n) t (first_passed below o p minimum n t x)
+  from_start : (n : ℕ) → NeverGoesBack times (times.least ∷ []) (input_frontier times p (state_after times p h) n)
+  from_start n t x = subst (λ k. NeverGoesBack times (input_frontier times p (initial_state times p) n) (input_frontier times p (state_after times p k) n)) (append-nil h)
+      (inputs_lem times o p q [] h (subst (IsLegal times p) (sym (append-nil h)) legal) n) t (first_passed times o p n t x)
 
-  module _ (number : ℕ) (bundle : Bundle T) (take : IsTake below p (state_after below minimum p h) number bundle) where
-    taken_stamped : IsStamped below bundle
-    taken_stamped = waiting_is_stamped below o minimum p h legal number bundle take
+  module _ (number : ℕ) (bundle : Bundle T) (take : IsTake times p (state_after times p h) number bundle) where
+    taken_stamped : IsStamped times bundle
+    taken_stamped = waiting_is_stamped times o p h legal number bundle take
 
     taken_place : IsPlace p bundle.place
     taken_place =
-        let waits = (queued bundle.place (state_after below minimum p h).in_flight number bundle take.waits).0 in
-        ((in_place_lem p q below minimum h legal).bundles bundle (contains_among bundle (state_after below minimum p h).in_flight waits)).0
+        let waits = (queued bundle.place (state_after times p h).in_flight number bundle take.waits).0 in
+        ((in_place_lem p q times h legal).bundles bundle (contains_among bundle (state_after times p h).in_flight waits)).0
 
     -- no update of a bundle comes before the least time
-    taken_times : IsTrue (times_from below minimum bundle.updates)
+    taken_times : IsTrue (times_from times bundle.updates)
     taken_times =
-        all_from (λ u. below minimum u.time) bundle.updates (λ u m.
-        sym (one (below minimum u.time)) ∙ all_at (λ (u : Update T). is_beyond below (minimum ∷ []) u.time) bundle.updates u (sym (list_all-map (is_beyond below (minimum ∷ [])) (λ (u : Update T). u.time) bundle.updates) ∙ later) m)
+        all_from (λ u. times.below times.least u.time) bundle.updates (λ u m.
+        sym (one (times.below times.least u.time)) ∙ all_at (λ (u : Update T). is_beyond times (times.least ∷ []) u.time) bundle.updates u (sym (list_all-map (is_beyond times (times.least ∷ [])) (λ (u : Update T). u.time) bundle.updates) ∙ later) m)
       where
         one : (c : Bool) → (c || false) ≡ c
         one true = refl
         one false = refl
 
-        later : IsTrue (all_beyond below (minimum ∷ []) (times bundle.updates))
-        later = taken_beyond below o p q (state_after below minimum p h) number bundle taken_stamped take (minimum ∷ []) (from_start bundle.place.node)
+        later : IsTrue (all_beyond times (times.least ∷ []) (update_times bundle.updates))
+        later = taken_beyond times o p q (state_after times p h) number bundle taken_stamped take (times.least ∷ []) (from_start bundle.place.node)
 
-module _ {T : Type 0} (below : T → T → Bool) (joined : T → T → T) (minimum : T) (o : PartialOrderLaws below) (join_below : (a b s : T) → below (joined a b) s ≡ (below a s && below b s))
-    (join_left : (a b : T) → IsTrue (below a (joined a b))) (join_right : (a b : T) → IsTrue (below b (joined a b))) (old new : Known (Doing T)) (before : IsActor below minimum old) (after : IsActor below minimum new) (d : DeskView T) where
+module _ {T : Type 0} (times : Times T) (o : PartialOrderLaws times) (join_below : (a b s : T) → times.below (times.joined a b) s ≡ (times.below a s && times.below b s))
+    (join_left : (a b : T) → IsTrue (times.below a (times.joined a b))) (join_right : (a b : T) → IsTrue (times.below b (times.joined a b))) (old new : Known (BoardEvent T)) (before : IsActor times old) (after : IsActor times new) (d : DeskView T) where
   abbrev p : Dataflow
   p = dataflow_of old
 
   abbrev w : State T
-  w = state_found below minimum new
+  w = state_found times new
 
   abbrev es : List (Event T)
   es = events (found_last new)
 
   -- the rows of a bundle that was taken have their width
-  taken_wide : (number : ℕ) (bundle : Bundle T) → Adds old (Take number bundle) new → IsTrue (is_wide_for p bundle)
+  taken_wide : (number : ℕ) (bundle : Bundle T) → IsNextTenure old (Take number bundle) new → IsTrue (is_wide_for p bundle)
   taken_wide number bundle adds =
       let f = dataflow_of new in
-      let v = left_by below minimum p (adds.others ++ old.seen) in
-      let came : (state_left below minimum new).received ≡ bundle ∷ v.received = ap (λ (k : Known (Doing T)). (state_left below minimum k).received) adds.new_is in
+      let v = left_by times p (adds.others ++ old.seen) in
+      let came : (state_left times new).received ≡ bundle ∷ v.received = ap (λ (k : Known (BoardEvent T)). (state_left times k).received) adds.new_is in
       subst (λ y. IsTrue (is_wide_for y bundle)) (same_flow old new (Take number bundle) adds)
       (and_parts (is_wide_for f bundle) (are_wide_for f v.received) (sym (ap (are_wide_for f) came) ∙ after.wide.received)).0
 
-  bundle_right : (number : ℕ) (bundle : Bundle T) (more : Bool) → bundle.place.worker ≡ old.number → Adds old (Take number bundle) new → IsRightOf below joined minimum old d Free → IsRightOf below joined minimum new d (Taken bundle more)
+  bundle_right : (number : ℕ) (bundle : Bundle T) (more : Bool) → bundle.place.worker ≡ old.number → IsNextTenure old (Take number bundle) new → IsRightOf times old d Free → IsRightOf times new d (Taken bundle more)
   bundle_right number bundle more own adds x =
-      let t = tenure_of below joined minimum o old (Take number bundle) new after adds in
-      let take : IsTake below p (state_after below minimum p es) number bundle = subst (λ (v : State T). IsTake below p v number bundle) t.found_is t.allowed in
-      let place = taken_place below minimum o p before.dataflow es t.legal number bundle take in
+      let t = tenure_of times o old (Take number bundle) new after adds in
+      let take : IsTake times p (state_after times p es) number bundle = subst (λ (v : State T). IsTake times p v number bundle) t.found_is t.allowed in
+      let place = taken_place times o p before.dataflow es t.legal number bundle take in
       let port = has_port p bundle.place.node bundle.place.port place.port in
       let found = t.right d Free x in
-      right_after below joined minimum o old (Take number bundle) new t d (Taken bundle more) (record {
-        own = subst (λ k. IsOwn below joined minimum p (next_state below p w (Take number bundle)) k d (Taken bundle more)) own
-            (taken_lem below joined minimum o join_below join_left join_right p before.dataflow w number bundle t.allowed (taken_stamped below minimum o p before.dataflow es t.legal number bundle take) port place.node d more
-            (subst (λ k. IsOwn below joined minimum p w k d Free) (sym own) found.own));
+      right_after times o old (Take number bundle) new t d (Taken bundle more) (record {
+        own = subst (λ k. IsOwn times p (next_state times p w (Take number bundle)) k d (Taken bundle more)) own
+            (taken_lem times o join_below join_left join_right p before.dataflow w number bundle t.allowed (taken_stamped times o p before.dataflow es t.legal number bundle take) port place.node d more
+            (subst (λ k. IsOwn times p w k d Free) (sym own) found.own));
         on_plan = record {
           places = found.on_plan.places;
           wide = found.on_plan.wide;
           joins = found.on_plan.joins;
-          hand = (place.node, port, taken_wide number bundle adds, taken_times below minimum o p before.dataflow es t.legal number bundle take);
+          hand = (place.node, port, taken_wide number bundle adds, taken_times times o p before.dataflow es t.legal number bundle take);
         };
       })
 
-  turned_right : (node : ℕ) (upper : List T) → Adds old (TakeHeld old.number node) new → ((t : T) → is_beyond below upper t ≡ is_beyond below (input_frontier below p w node) t) → IsRightOf below joined minimum old d Free → IsRightOf below joined minimum new d (Turned node upper)
+  turned_right : (node : ℕ) (upper : List T) → IsNextTenure old (TakeHeld old.number node) new → ((t : T) → is_beyond times upper t ≡ is_beyond times (input_frontier times p w node) t) → IsRightOf times old d Free → IsRightOf times new d (Turned node upper)
   turned_right node upper adds same x =
-      let t = tenure_of below joined minimum o old (TakeHeld old.number node) new after adds in
+      let t = tenure_of times o old (TakeHeld old.number node) new after adds in
       let found = t.right d Free x in
-      right_after below joined minimum o old (TakeHeld old.number node) new t d (Turned node upper) (record {
-        own = turned_lem below joined minimum o p before.dataflow w old.number node t.allowed d upper same found.own;
+      right_after times o old (TakeHeld old.number node) new t d (Turned node upper) (record {
+        own = turned_lem times o p before.dataflow w old.number node t.allowed d upper same found.own;
         on_plan = record {
           places = found.on_plan.places;
           wide = found.on_plan.wide;
@@ -127,11 +128,11 @@ module _ {T : Type 0} (below : T → T → Bool) (joined : T → T → T) (minim
       })
 
   -- with what it took in hand, the worker is right
-  pub taken_right : (pick : ℕ) (piece : Piece T) → IsTakenIn below minimum old new pick piece → IsRightOf below joined minimum old d Free → IsRightOf below joined minimum new d (hand_with piece)
+  pub taken_right : (pick : ℕ) (piece : Piece T) → IsTakenIn times old new pick piece → IsRightOf times old d Free → IsRightOf times new d (hand_with piece)
   taken_right pick (Bundled bundle more) taken x =
       let offer = taken.offered in
-      bundle_right offer.0 bundle more offer.2 (subst (λ e. Adds old e new) offer.3 taken.adds) x
+      bundle_right offer.0 bundle more offer.2 (subst (λ e. IsNextTenure old e new) offer.3 taken.adds) x
   taken_right pick (turned_piece node upper) taken x =
-      turned_right node upper (subst (λ e. Adds old e new) taken.offered.1 taken.adds) taken.offered.2 x
+      turned_right node upper (subst (λ e. IsNextTenure old e new) taken.offered.1 taken.adds) taken.offered.2 x
   taken_right pick (Nothing quiet) taken x =
-      looked_right below joined minimum o old new after (subst (λ e. Adds old e new) taken.offered.1 taken.adds) d Free x
+      looked_right times o old new after (subst (λ e. IsNextTenure old e new) taken.offered.1 taken.adds) d Free x

@@ -1,8 +1,8 @@
 //! A step of a worker: one attempt to enter the board, and what is computed before or after it.
 //!
 //! A piece costs two steps. The first takes it and computes what its node makes of it, the second
-//! gives that. What was computed already is not computed again: the hand says how far the worker has
-//! come, and a step goes on from there.
+//! gives that. What was computed already is not computed again: the hand says how far the worker
+//! has come, and a step goes on from there.
 ghost use Rattle.std.specs.Prelude.{◌≡◌, Err, Some, false, IfErr, IfOk, IsTrue};
 ghost use Rattle.update.specs.declared.refusal.Refusal.TheVariants.{Failed};
 ghost use Rattle.desk_laws.specs.Own.{hand_node};
@@ -35,35 +35,36 @@ pub enum Step {
 impl<T: Minimum, P: BoardProtocol<T>> Worker<T, P> {
     /// Makes one step: that of [`step_at`](Worker::step_at) with the first piece.
     pub fn step(&mut self, alloc: Global) -> Result<Step, Refusal>
-        ensures step { IfOk result (IsStep T.below T.least 0 self.old self.new) }
+        ensures step { IfOk result (IsStep T.times 0 self.old self.new) }
         ensures going { IfOk result (λ step. self.new.failed ≡ false) }
         ensures refused { IfErr result
-            (IsStepRefusal T.below T.least 0 T.cmp self.old self.new) }
+            (IsStepRefusal T.times 0 T.cmp self.old self.new) }
         ensures failed { IsTrue self.old.failed → (result ≡ Err Failed) }
     {
         self.step_at(alloc, 0)
     }
 
-    /// Makes one step. A worker with nothing in hand takes the piece of this number among those that
-    /// it may take, reduced modulo how many there are. So a schedule is a list of numbers.
+    /// Makes one step. A worker with nothing in hand takes the piece of this number among those
+    /// that it may take, reduced modulo how many there are. So a schedule is a list of numbers.
     ///
-    /// Once it has given what came of a turn to held times, all that it holds at that node is beyond
-    /// the input frontier that its newest take there found.
+    /// Once it has given what came of a turn to held times, all that it holds at that node is
+    /// beyond the input frontier that its newest take there found.
     ///
     /// - [`Refusal::Failed`] only if an earlier step was refused with `Overflow`, and then always.
     /// - [`Refusal::Overflow`] only if, with the changes that the worker has seen, some node has no
     ///   bound below 2^63. It has failed then.
-    /// - [`Refusal::OutOfMemory`] only if memory was refused. Nothing is lost: the next step goes on
-    ///   with what is in hand.
+    /// - [`Refusal::OutOfMemory`] only if memory was refused. Nothing is lost: the next step goes
+    ///   on with what is in hand.
     ///
     /// Cost: one attempt to enter the board. A take costs that of
-    /// [`Actor::try_take_piece`](shared_board::Actor::try_take_piece) and of [`desk::Desk::compute`]. A
-    /// give costs that of [`machine::Routing::cut`], and of a batch a copy.
+    /// [`Actor::try_take_piece`](shared_board::Actor::try_take_piece) and of
+    /// [`desk::Desk::compute`]. A give costs that of [`machine::Routing::cut`], and of a batch a
+    /// copy.
     pub fn step_at(&mut self, alloc: Global, pick: usize) -> Result<Step, Refusal>
-        ensures step { IfOk result (IsStep T.below T.least pick self.old self.new) }
+        ensures step { IfOk result (IsStep T.times pick self.old self.new) }
         ensures going { IfOk result (λ step. self.new.failed ≡ false) }
         ensures refused { IfErr result
-            (IsStepRefusal T.below T.least pick T.cmp self.old self.new) }
+            (IsStepRefusal T.times pick T.cmp self.old self.new) }
         ensures failed { IsTrue self.old.failed → (result ≡ Err Failed) }
     {
         if self.has_failed() {
@@ -79,10 +80,10 @@ impl<T: Minimum, P: BoardProtocol<T>> Worker<T, P> {
     fn begin(&mut self, alloc: Global, pick: usize) -> Result<Step, Refusal>
         requires going { self.old.failed ≡ false }
         requires free { self.old.hand ≡ Free }
-        ensures step { IfOk result (IsStep T.below T.least pick self.old self.new) }
+        ensures step { IfOk result (IsStep T.times pick self.old self.new) }
         ensures going { IfOk result (λ step. self.new.failed ≡ false) }
         ensures refused { IfErr result
-            (IsStepRefusal T.below T.least pick T.cmp self.old self.new) }
+            (IsStepRefusal T.times pick T.cmp self.old self.new) }
     {
         let step = self.take(pick)?;
         let Step::Took = step else {
@@ -96,10 +97,10 @@ impl<T: Minimum, P: BoardProtocol<T>> Worker<T, P> {
     fn go_on(&mut self, alloc: Global, pick: usize, node: NodeId) -> Result<Step, Refusal>
         requires going { self.old.failed ≡ false }
         requires node { hand_node self.old.hand ≡ Some node }
-        ensures step { IfOk result (IsStep T.below T.least pick self.old self.new) }
+        ensures step { IfOk result (IsStep T.times pick self.old self.new) }
         ensures going { IfOk result (λ step. self.new.failed ≡ false) }
         ensures refused { IfErr result
-            (IsStepRefusal T.below T.least pick T.cmp self.old self.new) }
+            (IsStepRefusal T.times pick T.cmp self.old self.new) }
     {
         self.compute(alloc)?;
         self.give(alloc, node)

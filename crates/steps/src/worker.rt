@@ -1,27 +1,27 @@
 //! A worker: an actor of the board, its desk, and what it has in hand.
 //!
 //! Its invariant (`IsWorker`, `specs/Workers`) says that desk and hand are right for the state that
-//! the worker left last. What others do leaves them so, and so does each of the worker's own events,
-//! and what it computes between two of them. Each method here is one of these, and none of them asks
-//! anything of the state.
+//! the worker left last. What others do leaves them so, and so does each of the worker's own
+//! events, and what it computes between two of them. Each method here is one of these, and none of
+//! them asks anything of the state.
 ghost use Rattle.std.specs.Prelude.{◌≡◌, ◌<◌, ℕ, Some, None, true, false, IfErr, IfOk, IfSome, OnOk, IsTrue, slice_get};
-ghost use Rattle.update.specs.Refusals.{IsMemoryOrOverflow};
+ghost use Rattle.update.specs.Refusals.{OnlyMemory};
 ghost use Rattle.update.specs.declared.refusal.Refusal.TheVariants.{OutOfMemory, Overflow};
 ghost use Rattle.histories.specs.declared.event.Event.TheVariants.{Look};
 ghost use Rattle.plan.specs.Nodes.{node_at};
 ghost use Rattle.shared_board.specs.Found.{dataflow_of};
-ghost use Rattle.shared_board.specs.Tenures.{Adds, IsActor, IsFirst, state_left, terms_for};
+ghost use Rattle.shared_board.specs.Tenures.{IsNextTenure, IsActor, IsFirst, state_left, opening_for};
 ghost use Rattle.desk_laws.specs.Own.{gives_passed, hand_node};
 ghost use Rattle.desk_laws.specs.declared.hand.Hand.TheVariants.{Free};
 ghost use Rattle.desk.specs.Desks.{IsComputed};
-ghost use Rattle.desk.specs.Tidying.{AreTold, kept_of};
+ghost use Rattle.desk.specs.Upkeep.{AreTold, kept_of};
 ghost use Rattle.steps.specs.Steps.{HasLeftLater, HasStopped, HasTriedToGive, HasTriedToTake, IsTidyFor, LooksAtMost, holds_for_more};
 ghost use Rattle.steps.specs.Workers.{HasSeenTooLarge, IsRightOf};
 
-use crate::giving::give;
+use crate::give::give;
 use crate::step::Step;
-use crate::taking::take_piece;
-use crate::tidying::{find_fronts, ports_of};
+use crate::take::take_piece;
+use crate::tidy::{find_fronts, ports_of};
 use antichain::Antichain;
 use desk::{Desk, Hand};
 use lattice::Minimum;
@@ -33,7 +33,8 @@ use std::marker::Model;
 use std::sync::Wait;
 use update::Refusal;
 
-/// A worker of a board. A contract sees what it has seen, its desk, its hand, and whether it failed.
+/// A worker of a board. A contract sees what it has seen, its desk, its hand, and whether it
+/// failed.
 #[derive(Drop)]
 pub struct Worker<T: Minimum, P: BoardProtocol<T>> {
     actor: Actor<T, P>,
@@ -53,14 +54,14 @@ impl<T: Minimum, P: BoardProtocol<T>> Model for Worker<T, P> {
     ghost view = { λ w.
         record { known = w.actor; desk = w.desk; hand = w.hand; failed = w.failed } };
 
-    ghost invariant = { λ w. IsWorker T.below T.joined T.least T.cmp w.plan w.routing w.number
+    ghost invariant = { λ w. IsWorker T.times T.cmp w.plan w.routing w.number
         (record { known = w.actor; desk = w.desk; hand = w.hand; failed = w.failed }) };
 }
 
 impl<T: Minimum, P: BoardProtocol<T>> Worker<T, P> {
-    /// The worker of an actor that has looked once at its board, as [`shared_board::open`] makes it.
-    /// The plan and the number of workers are those with which the board was opened. Refused only with
-    /// `OutOfMemory`.
+    /// The worker of an actor that has looked once at its board, as [`shared_board::open`] makes
+    /// it. The plan and the number of workers are those with which the board was opened. Refused
+    /// only with `OutOfMemory`.
     ///
     /// Cost: the square of the nodes, of which a plan has at most 256.
     pub fn new(
@@ -71,10 +72,11 @@ impl<T: Minimum, P: BoardProtocol<T>> Worker<T, P> {
         number: usize,
     ) -> Result<Worker<T, P>, Refusal>
         requires worker { number < workers }
-        requires first { (clients : ℕ) × IsFirst (terms_for plan.now workers clients) number actor }
+        requires first { (clients : ℕ)
+            × IsFirst (opening_for plan.now workers clients) number actor }
         ensures known { IfOk result (λ w. w.known ≡ actor) }
         ensures free { IfOk result (λ w. (w.hand ≡ Free) × (w.failed ≡ false)) }
-        ensures refused { IfErr result (λ refusal. refusal ≡ OutOfMemory) }
+        ensures refused { OnlyMemory result }
     {
         actor.known();
         let plan = plan.clone()?;
@@ -93,17 +95,17 @@ impl<T: Minimum, P: BoardProtocol<T>> Worker<T, P> {
 
     /// Costs nothing. It tells the prover what holds of each worker.
     pub fn known(&self)
-        ensures actor { IsActor T.below T.least self.now.known }
+        ensures actor { IsActor T.times self.now.known }
         ensures right { self.now.failed ≡ false
-            → IsRightOf T.below T.joined T.least self.now.known self.now.desk self.now.hand }
+            → IsRightOf T.times self.now.known self.now.desk self.now.hand }
         ensures large { IsTrue self.now.failed
-            → HasSeenTooLarge T.below T.least T.cmp self.now.known }
+            → HasSeenTooLarge T.times T.cmp self.now.known }
     {
         self.actor.known();
     }
 
-    /// How many updates the worker's spine at an arrange node shows its readers, or the greatest number
-    /// if that does not fit; 0 for another node. Takes no memory.
+    /// How many updates the worker's spine at an arrange node shows its readers, or the greatest
+    /// number if that does not fit; 0 for another node. Takes no memory.
     ///
     /// Cost: linear in the batches of that spine.
     pub fn kept(&self, node: NodeId) -> u64
@@ -116,8 +118,9 @@ impl<T: Minimum, P: BoardProtocol<T>> Worker<T, P> {
         self.desk.kept(&self.plan, node)
     }
 
-    /// A worker that has failed tells its board that a number is too large with the changes that it has
-    /// seen ([`Actor::tell_too_large`]). It takes no more steps, so it is consumed. Takes no memory.
+    /// A worker that has failed tells its board that a number is too large with the changes that it
+    /// has seen ([`Actor::tell_too_large`]). It takes no more steps, so it is consumed. Takes no
+    /// memory.
     pub fn tell_too_large<R: Wait>(self, rt: &R)
         requires failed { IsTrue self.failed }
     {
@@ -134,8 +137,8 @@ impl<T: Minimum, P: BoardProtocol<T>> Worker<T, P> {
         *failed
     }
 
-    /// Whether what the last piece made lies on the desk, and more bundles wait for the worker at that
-    /// node. Then its next give gives nothing, and a piece is there for its next take.
+    /// Whether what the last piece made lies on the desk, and more bundles wait for the worker at
+    /// that node. Then its next give gives nothing, and a piece is there for its next take.
     pub fn holds_for_more(&self) -> bool
         ensures { result ≡ holds_for_more self.now.hand }
     {
@@ -159,22 +162,23 @@ impl<T: Minimum, P: BoardProtocol<T>> Worker<T, P> {
         requires free { self.old.hand ≡ Free }
         ensures going { self.new.failed ≡ false }
         ensures tried { IfOk result
-            (HasTriedToTake T.below T.least pick self.old.known self.new.known self.new.hand) }
+            (HasTriedToTake T.times pick self.old.known self.new.known self.new.hand) }
         ensures refused { IfErr result (λ refusal. (refusal ≡ OutOfMemory)
             × (self.new.hand ≡ Free)
-            × Adds self.old.known (Look self.old.known.number) self.new.known) }
+            × IsNextTenure self.old.known (Look self.old.known.number) self.new.known) }
     {
         take_piece(&mut self.actor, &mut self.hand, pick)
     }
 
-    // Computes what is in hand as far as it goes without the board. With an overflow the worker fails.
+    // Computes what is in hand as far as it goes without the board. With an overflow the worker
+    // fails.
     pub(crate) fn compute(&mut self, alloc: Global) -> Result<(), Refusal>
         requires going { self.old.failed ≡ false }
         ensures known { self.new.known ≡ self.old.known }
         ensures node { hand_node self.new.hand ≡ hand_node self.old.hand }
         ensures passed { IsTrue (gives_passed self.old.hand) → IsTrue (gives_passed self.new.hand) }
         ensures computed { OnOk result (IsComputed self.new.hand × (self.new.failed ≡ false)) }
-        ensures refused { IfErr result (HasStopped T.below T.least T.cmp self.new) }
+        ensures refused { IfErr result (HasStopped T.times T.cmp self.new) }
     {
         self.actor.known();
         let Err(refusal) = self.desk.compute(alloc, &self.plan, &mut self.hand) else {
@@ -184,8 +188,8 @@ impl<T: Minimum, P: BoardProtocol<T>> Worker<T, P> {
         Err(refusal)
     }
 
-    // The frontiers of all ports, two for each node, as they are on the board now; `None` if another
-    // actor has it. With nothing in hand.
+    // The frontiers of all ports, two for each node, as they are on the board now; `None` if
+    // another actor has it. With nothing in hand.
     pub(crate) fn find_fronts(
         &mut self,
         alloc: Global,
@@ -196,9 +200,9 @@ impl<T: Minimum, P: BoardProtocol<T>> Worker<T, P> {
         ensures hand { self.new.hand ≡ Free }
         ensures going { self.new.failed ≡ false }
         ensures told { IfOk result (λ found.
-            IfSome found (λ fronts. AreTold T.below (dataflow_of self.new.known)
-            (state_left T.below T.least self.new.known) fronts.items)) }
-        ensures refused { IfErr result (λ refusal. refusal ≡ OutOfMemory) }
+            IfSome found (λ fronts. AreTold T.times (dataflow_of self.new.known)
+            (state_left T.times self.new.known) fronts.items)) }
+        ensures refused { OnlyMemory result }
     {
         let ports = ports_of(alloc, &self.plan)?;
         find_fronts(&mut self.actor, ports.as_slice())
@@ -213,13 +217,13 @@ impl<T: Minimum, P: BoardProtocol<T>> Worker<T, P> {
     ) -> Result<bool, Refusal>
         requires going { self.old.failed ≡ false }
         requires free { self.old.hand ≡ Free }
-        requires told { AreTold T.below (dataflow_of self.old.known)
-            (state_left T.below T.least self.old.known) fronts.now }
+        requires told { AreTold T.times (dataflow_of self.old.known)
+            (state_left T.times self.old.known) fronts.now }
         ensures known { self.new.known ≡ self.old.known }
         ensures hand { self.new.hand ≡ Free }
         ensures going { OnOk result (self.new.failed ≡ false) }
-        ensures tidy { IfOk result (λ done. done ≡ true → IsTidyFor T.below T.least self.new) }
-        ensures refused { IfErr result (HasStopped T.below T.least T.cmp self.new) }
+        ensures tidy { IfOk result (λ done. done ≡ true → IsTidyFor T.times self.new) }
+        ensures refused { IfErr result (HasStopped T.times T.cmp self.new) }
     {
         self.actor.known();
         match self.desk.tidy(alloc, &self.plan, fronts, fuel) {
@@ -239,7 +243,7 @@ impl<T: Minimum, P: BoardProtocol<T>> Worker<T, P> {
         ensures going { self.new.failed ≡ false }
         ensures tried { IfOk result (HasTriedToGive node self.old.known self.new.known
             self.old.hand self.new.hand) }
-        ensures beyond { IfOk result (HasLeftLater T.below T.least node self.old.known
+        ensures beyond { IfOk result (HasLeftLater T.times node self.old.known
             self.new.known self.old.hand) }
         ensures refused { IfErr result (λ refusal. (refusal ≡ OutOfMemory)
             × (self.new.hand ≡ self.old.hand) × LooksAtMost self.old.known self.new.known) }

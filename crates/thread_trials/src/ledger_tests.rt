@@ -1,5 +1,5 @@
-//! A ledger with corrections, counted by account: after each run the client reads what the plain query
-//! has, at pairs that can be compared and at pairs that cannot.
+//! A ledger with corrections, counted by account: after each run the client reads what the plain
+//! query has, at pairs that can be compared and at pairs that cannot.
 use antichain::Antichain;
 use lattice::Bitime;
 use oracle::{are_wide, evaluate};

@@ -30,8 +30,8 @@ fn feed<R: Wait>(
     client.feed(rt, NodeId::new(input), update)
 }
 
-// 7 comes at two times that cannot be compared, and the distinct rows change at a time that no change
-// has.
+// 7 comes at two times that cannot be compared, and the distinct rows change at a time that no
+// change has.
 fn sevens<R: Threads + Wait + Abort + Sync>(
     rt: &R,
     alloc: Global,
@@ -118,8 +118,9 @@ fn fails_from_now_on(alloc: Global, crew: &mut Crew) -> bool {
     has_failed
 }
 
-// A worker that meets a number which 64 bits cannot say ends the run. It has failed, so the next run
-// ends too. The view of the second join never passes, and that of the first one is right if it has.
+// A worker that meets a number which 64 bits cannot say ends the run. It has failed, so the next
+// run ends too. The view of the second join never passes, and that of the first one is right if it
+// has.
 #[test]
 fn a_number_that_is_too_large_ends_the_run(rt: HostRuntime) -> Result<(), Fail> {
     let alloc = rt.alloc();

@@ -1,5 +1,5 @@
-//! How many updates a spine shows its readers once its worker has tidied. Clauses say where the holds are
-//! then, and that nothing is left to merge. That so few updates are left is shown here.
+//! How many updates a spine shows its readers once its worker has tidied. Clauses say where the
+//! holds are then, and that nothing is left to merge. That so few updates are left is shown here.
 use antichain::Antichain;
 use lattice::Bitime;
 use plan::{Kind, NodeId, Plan};
@@ -40,7 +40,8 @@ fn close_before<R: Wait + Abort>(
     Ok(())
 }
 
-// For each i below 100 this row comes at (i, 0) with diff 1. Then all times before (i + 1, 0) are closed.
+// For each i below 100 this row comes at (i, 0) with diff 1. Then all times before (i + 1, 0) are
+// closed.
 fn a_hundred_come<R: Wait + Abort>(
     rt: &R,
     alloc: Global,
@@ -61,9 +62,9 @@ fn a_hundred_come<R: Wait + Abort>(
     Ok(())
 }
 
-// A reduction reads its source at the times that are pending, and at those that may still come. Both are
-// at or after (100, 0) in the end, and there the row is there a hundred times. A worker that moved no
-// hold would keep a hundred updates.
+// A reduction reads its source at the times that are pending, and at those that may still come.
+// Both are at or after (100, 0) in the end, and there the row is there a hundred times. A worker
+// that moved no hold would keep a hundred updates.
 #[test]
 fn a_hundred_changes_of_one_row_become_one(rt: HostRuntime) -> Result<(), Fail> {
     let alloc = rt.alloc();
@@ -95,9 +96,9 @@ fn little_fuel_comes_to_the_same(rt: HostRuntime) -> Result<(), Fail> {
     Ok(())
 }
 
-// A row that comes on the left is paired with what came on the right at any time that is still open on
-// the left. So the right keeps the hundred updates apart until the left is closed up to (100, 0), and the
-// left, at whose other port all before (100, 0) is closed, keeps one of a hundred.
+// A row that comes on the left is paired with what came on the right at any time that is still open
+// on the left. So the right keeps the hundred updates apart until the left is closed up to (100,
+// 0), and the left, at whose other port all before (100, 0) is closed, keeps one of a hundred.
 #[test]
 fn a_join_keeps_apart_what_its_other_side_may_need(rt: HostRuntime) -> Result<(), Fail> {
     let alloc = rt.alloc();

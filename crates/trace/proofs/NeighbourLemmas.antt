@@ -5,6 +5,7 @@ use Rattle.std.specs.List.{list_all, remove}
 use Rattle.std.specs.Cmp.{IsTotalOrder}
 use Rattle.std.specs.declared.cmp.Ordering.{Ordering}
 use Rattle.std.proofs.lemmas.List.{append-nil}
+use Rattle.lattice.specs.Times.{Times}
 use Rattle.lattice.specs.Order.{PartialOrderLaws, LatticeLaws}
 use Rattle.lattice.specs.Frontiers.{is_beyond, all_beyond}
 use Rattle.lattice.proofs.FrontierLemmas.{all_beyond_later}
@@ -18,7 +19,7 @@ use Rattle.batch.proofs.CompactionLemmas.{stand_sums, stand_upward, stand_size}
 use Rattle.trace.specs.Readings.{IsReadable}
 use Rattle.trace.specs.BatchLists.{BatchListState, merged_at, IsMergeOf, IsMergeAt, IsRewriteOf, IsRewriteAt, IsLink, AreLinked, IsBatchList}
 use Rattle.batch.proofs.IntervalLemmas.{none_left}
-use Rattle.trace.proofs.ReadingLemmas.{readable_later}
+use Rattle.trace.proofs.ReadLemmas.{readable_later}
 use Rattle.trace.proofs.BoundaryLemmas.{some_same, none_some, stays}
 
 module _ {T : Type 0} where
@@ -37,23 +38,23 @@ module _ {T : Type 0} where
   put_for_two (suc i) m (a ∷ bs) l = ap (λ cs. a ∷ cs) (put_for_two i m bs (omega (arith, l)))
 
   -- linked batches follow one another
-  pub linked_follow : (below : T → T → Bool) (cmp : T → T → Ordering) (worker node : ℕ) (from : List T) (bs : List (BatchState T)) (i : ℕ) (a b : BatchState T) → AreLinked below cmp worker node from bs → slice_get bs i ≡ Some a → slice_get bs (suc i) ≡ Some b → Follows a.description b.description
-  linked_follow below cmp worker node from [] i a b l e f = absurd (none_some e)
-  linked_follow below cmp worker node from (x ∷ []) zero a b l e f = absurd (none_some f)
-  linked_follow below cmp worker node from (x ∷ y ∷ bs) zero a b l e f =
+  pub linked_follow : (times : Times T) (cmp : T → T → Ordering) (worker node : ℕ) (from : List T) (bs : List (BatchState T)) (i : ℕ) (a b : BatchState T) → AreLinked times cmp worker node from bs → slice_get bs i ≡ Some a → slice_get bs (suc i) ≡ Some b → Follows a.description b.description
+  linked_follow times cmp worker node from [] i a b l e f = absurd (none_some e)
+  linked_follow times cmp worker node from (x ∷ []) zero a b l e f = absurd (none_some f)
+  linked_follow times cmp worker node from (x ∷ y ∷ bs) zero a b l e f =
       subst (λ (z : BatchState T). Follows z.description b.description) (some_same e)
       (subst (λ (z : BatchState T). Follows x.description z.description) (some_same f)
       (l.0.continues.0 ∙ sym l.1.0.continues.0, l.0.continues.1 ∙ sym l.1.0.continues.1, sym l.1.0.continues.2))
-  linked_follow below cmp worker node from (x ∷ bs) (suc i) a b l e f = linked_follow below cmp worker node x.description.upper bs i a b l.1 e f
+  linked_follow times cmp worker node from (x ∷ bs) (suc i) a b l e f = linked_follow times cmp worker node x.description.upper bs i a b l.1 e f
 
   -- what a merge promises makes one batch for two
-  pub merge_of : (below : T → T → Bool) (joined met : T → T → T) (since : List T) (m a b : BatchState T)
+  pub merge_of : (times : Times T) (since : List T) (m a b : BatchState T)
       → m.description ≡ record { worker = a.description.worker; node = a.description.node; lower = a.description.lower; upper = b.description.upper; since = since }
-      → ((t : T) → IsTrue (is_beyond below since t) → Alike (as_of below t m.updates) (as_of below t (a.updates ++ b.updates)))
-      → ((p : List ℤ → T → Bool) → IsUpward below p → IsTrue (list_all (λ u. p u.row u.time) (a.updates ++ b.updates)) → IsTrue (list_all (λ u. p u.row u.time) m.updates))
+      → ((t : T) → IsTrue (is_beyond times since t) → Alike (as_of times t m.updates) (as_of times t (a.updates ++ b.updates)))
+      → ((p : List ℤ → T → Bool) → IsUpward times p → IsTrue (list_all (λ u. p u.row u.time) (a.updates ++ b.updates)) → IsTrue (list_all (λ u. p u.row u.time) m.updates))
       → size m.updates ≤ size (a.updates ++ b.updates)
-      → IsMergeOf below since m a b
-  merge_of below joined met since m a b described sums upward smaller = record {
+      → IsMergeOf times since m a b
+  merge_of times since m a b described sums upward smaller = record {
     described = described;
     reads = record {
       sums = sums;
@@ -63,9 +64,9 @@ module _ {T : Type 0} where
     among = upward;
   }
 
-module _ {T : Type 0} {below : T → T → Bool} {cmp : T → T → Ordering} (o : PartialOrderLaws below) (total : IsTotalOrder cmp) (worker node : ℕ) (since : List T) where
+module _ {T : Type 0} {times : Times T} {cmp : T → T → Ordering} (o : PartialOrderLaws times) (total : IsTotalOrder cmp) (worker node : ℕ) (since : List T) where
   -- one batch for two goes on where the first begins
-  link_for_two : (from : List T) (m a b : BatchState T) → IsFrontier below cmp from → IsMergeOf below since m a b → AreLinked below cmp worker node from (a ∷ b ∷ []) → IsLink below cmp worker node from m
+  link_for_two : (from : List T) (m a b : BatchState T) → IsFrontier times cmp from → IsMergeOf times since m a b → AreLinked times cmp worker node from (a ∷ b ∷ []) → IsLink times cmp worker node from m
   link_for_two from m a b f is l = record {
     continues = (
       ap (λ (d : DescriptionState T). d.worker) is.described ∙ l.0.continues.0,
@@ -73,8 +74,8 @@ module _ {T : Type 0} {below : T → T → Bool} {cmp : T → T → Ordering} (o
       lower ∙ l.0.continues.2,
     );
     still = still;
-    frontier = subst (IsFrontier below cmp) (sym upper) l.1.0.frontier;
-    forward = subst (λ F. IsTrue (all_beyond below from F)) (sym upper) (all_beyond_later o from a.description.upper b.description.upper l.0.forward l.1.0.forward);
+    frontier = subst (IsFrontier times cmp) (sym upper) l.1.0.frontier;
+    forward = subst (λ F. IsTrue (all_beyond times from F)) (sym upper) (all_beyond_later o from a.description.upper b.description.upper l.0.forward l.1.0.forward);
   }
     where
       upper : m.description.upper ≡ b.description.upper
@@ -90,18 +91,18 @@ module _ {T : Type 0} {below : T → T → Bool} {cmp : T → T → Ordering} (o
           none_left m.updates (is.among (λ r t. false) (λ r t u l k. k) (subst (λ us. IsTrue (list_all (λ (u : Update T). false) us)) (sym empty) refl))
 
   -- linked batches stay linked
-  pub linked_merged : (i : ℕ) (m : BatchState T) (from : List T) (bs : List (BatchState T)) → IsFrontier below cmp from → IsMergeAt below since m i bs → AreLinked below cmp worker node from bs → AreLinked below cmp worker node from (merged_at i m bs)
+  pub linked_merged : (i : ℕ) (m : BatchState T) (from : List T) (bs : List (BatchState T)) → IsFrontier times cmp from → IsMergeAt times since m i bs → AreLinked times cmp worker node from bs → AreLinked times cmp worker node from (merged_at i m bs)
   linked_merged i m from [] f is l = tt
   linked_merged zero m from (a ∷ []) f is l = l
   linked_merged zero m from (a ∷ b ∷ bs) f is l =
       let one = is a b refl refl in
       let upper = ap (λ (d : DescriptionState T). d.upper) one.described in
-      (link_for_two from m a b f one (l.0, (l.1.0, tt)), subst (λ F. AreLinked below cmp worker node F bs) (sym upper) l.1.1)
+      (link_for_two from m a b f one (l.0, (l.1.0, tt)), subst (λ F. AreLinked times cmp worker node F bs) (sym upper) l.1.1)
   linked_merged (suc i) m from (a ∷ bs) f is l = (l.0, linked_merged i m a.description.upper bs l.0.frontier is l.1)
 
-module _ {T : Type 0} {below : T → T → Bool} {cmp : T → T → Ordering} (o : PartialOrderLaws below) (total : IsTotalOrder cmp) (since : List T) where
+module _ {T : Type 0} {times : Times T} {cmp : T → T → Ordering} (o : PartialOrderLaws times) (total : IsTotalOrder cmp) (since : List T) where
   -- a batch list stays one
-  pub list_merged : (worker node : ℕ) (start : List T) (bs : List (BatchState T)) (i : ℕ) (m : BatchState T) (old new : Bool) → IsBatchList below cmp (record { worker = worker; node = node; start = start; batches = bs; reserved = old }) → IsMergeAt below since m i bs → IsBatchList below cmp (record { worker = worker; node = node; start = start; batches = merged_at i m bs; reserved = new })
+  pub list_merged : (worker node : ℕ) (start : List T) (bs : List (BatchState T)) (i : ℕ) (m : BatchState T) (old new : Bool) → IsBatchList times cmp (record { worker = worker; node = node; start = start; batches = bs; reserved = old }) → IsMergeAt times since m i bs → IsBatchList times cmp (record { worker = worker; node = node; start = start; batches = merged_at i m bs; reserved = new })
   list_merged worker node start bs i m old new is one = record { start = is.start; linked = linked_merged o total worker node since i m start bs is.start one is.linked }
 
 module _ {T : Type 0} where
@@ -110,26 +111,26 @@ module _ {T : Type 0} where
   same_merged s t i m bs reserved e f r = (λ k. record s { batches = f k; reserved = r k }) ∙ ap (λ (x : BatchListState T). record x { batches = merged_at i m x.batches; reserved = true }) e
 
 -- a merge that has read both batches makes one batch for two
-pub finished_merge : {T : Type 0} {below : T → T → Bool} {joined met : T → T → T} (o : PartialOrderLaws below) (l : LatticeLaws below joined met) (since : List T) (m a b : BatchState T)
+pub finished_merge : {T : Type 0} {times : Times T} (o : PartialOrderLaws times) (l : LatticeLaws times) (since : List T) (m a b : BatchState T)
     → m.description ≡ record { worker = a.description.worker; node = a.description.node; lower = a.description.lower; upper = b.description.upper; since = since }
-    → StandFor m.updates (compacted joined met since (a.updates ++ b.updates))
-    → IsMergeOf below since m a b
-finished_merge {below = below} {joined = joined} {met = met} o l since m a b described stand =
-    merge_of below joined met since m a b described
+    → StandFor m.updates (compacted times since (a.updates ++ b.updates))
+    → IsMergeOf times since m a b
+finished_merge {times = times} o l since m a b described stand =
+    merge_of times since m a b described
     (stand_sums o l since m.updates (a.updates ++ b.updates) stand)
     (stand_upward o l since m.updates (a.updates ++ b.updates) stand)
     (stand_size o l since m.updates (a.updates ++ b.updates) stand)
 
 -- what may be read as of a frontier may be read as of a later one, so a merge that began as of an
 -- earlier since is one
-pub merge_later : {T : Type 0} {below : T → T → Bool} (o : PartialOrderLaws below) (first since : List T) (m a b : BatchState T) → IsTrue (all_beyond below first since) → IsMergeOf below first m a b → IsReadable below since m.updates (a.updates ++ b.updates)
-merge_later {below = below} o first since m a b later is = readable_later below o first since m.updates (a.updates ++ b.updates) later is.reads
+pub merge_later : {T : Type 0} {times : Times T} (o : PartialOrderLaws times) (first since : List T) (m a b : BatchState T) → IsTrue (all_beyond times first since) → IsMergeOf times first m a b → IsReadable times since m.updates (a.updates ++ b.updates)
+merge_later {times = times} o first since m a b later is = readable_later times o first since m.updates (a.updates ++ b.updates) later is.reads
 
 -- ---- one batch for one
 
-module _ {T : Type 0} {below : T → T → Bool} (cmp : T → T → Ordering) (worker node : ℕ) (since : List T) where
+module _ {T : Type 0} {times : Times T} (cmp : T → T → Ordering) (worker node : ℕ) (since : List T) where
   -- a rewritten batch goes on where the old one begins
-  link_for_one : (from : List T) (m a : BatchState T) → IsRewriteOf below since m a → IsLink below cmp worker node from a → IsLink below cmp worker node from m
+  link_for_one : (from : List T) (m a : BatchState T) → IsRewriteOf times since m a → IsLink times cmp worker node from a → IsLink times cmp worker node from m
   link_for_one from m a is l = record {
     continues = (
       ap (λ (d : DescriptionState T). d.worker) is.described ∙ l.continues.0,
@@ -137,8 +138,8 @@ module _ {T : Type 0} {below : T → T → Bool} (cmp : T → T → Ordering) (w
       lower ∙ l.continues.2,
     );
     still = still;
-    frontier = subst (IsFrontier below cmp) (sym upper) l.frontier;
-    forward = subst (λ F. IsTrue (all_beyond below from F)) (sym upper) l.forward;
+    frontier = subst (IsFrontier times cmp) (sym upper) l.frontier;
+    forward = subst (λ F. IsTrue (all_beyond times from F)) (sym upper) l.forward;
   }
     where
       upper : m.description.upper ≡ a.description.upper
@@ -153,24 +154,24 @@ module _ {T : Type 0} {below : T → T → Bool} (cmp : T → T → Ordering) (w
           none_left m.updates (is.among (λ r t. false) (λ r t u l k. k) (subst (λ us. IsTrue (list_all (λ (u : Update T). false) us)) (sym empty) refl))
 
   -- linked batches stay linked
-  linked_rewritten : (i : ℕ) (m : BatchState T) (from : List T) (bs : List (BatchState T)) → IsRewriteAt below since m i bs → AreLinked below cmp worker node from bs → AreLinked below cmp worker node from (set bs i m)
+  linked_rewritten : (i : ℕ) (m : BatchState T) (from : List T) (bs : List (BatchState T)) → IsRewriteAt times since m i bs → AreLinked times cmp worker node from bs → AreLinked times cmp worker node from (set bs i m)
   linked_rewritten i m from [] is l = tt
   linked_rewritten zero m from (a ∷ bs) is l =
       let one = is a refl in
-      (link_for_one from m a one l.0, subst (λ F. AreLinked below cmp worker node F bs) (sym (ap (λ (d : DescriptionState T). d.upper) one.described)) l.1)
+      (link_for_one from m a one l.0, subst (λ F. AreLinked times cmp worker node F bs) (sym (ap (λ (d : DescriptionState T). d.upper) one.described)) l.1)
   linked_rewritten (suc i) m from (a ∷ bs) is l = (l.0, linked_rewritten i m a.description.upper bs is l.1)
 
 -- a batch list stays one if a batch is rewritten
-pub list_rewritten : {T : Type 0} {below : T → T → Bool} (cmp : T → T → Ordering) (since : List T) (s : BatchListState T) (i : ℕ) (m : BatchState T) → IsBatchList below cmp s → IsRewriteAt below since m i s.batches → IsBatchList below cmp (record s { batches = set s.batches i m })
+pub list_rewritten : {T : Type 0} {times : Times T} (cmp : T → T → Ordering) (since : List T) (s : BatchListState T) (i : ℕ) (m : BatchState T) → IsBatchList times cmp s → IsRewriteAt times since m i s.batches → IsBatchList times cmp (record s { batches = set s.batches i m })
 list_rewritten cmp since s i m is one = record { start = is.start; linked = linked_rewritten cmp s.worker s.node since i m s.start s.batches one is.linked }
 
 -- the rewriting of a batch that has read it makes one batch for one
-pub finished_rewrite : {T : Type 0} {below : T → T → Bool} {joined met : T → T → T} (o : PartialOrderLaws below) (l : LatticeLaws below joined met) (since : List T) (m a : BatchState T)
+pub finished_rewrite : {T : Type 0} {times : Times T} (o : PartialOrderLaws times) (l : LatticeLaws times) (since : List T) (m a : BatchState T)
     → m.description ≡ record a.description { since = since }
-    → StandFor m.updates (compacted joined met since (a.updates ++ []))
-    → IsRewriteOf below since m a
-finished_rewrite {below = below} {joined = joined} {met = met} o l since m a described both =
-    let stand = subst (λ us. StandFor m.updates (compacted joined met since us)) (append-nil a.updates) both in
+    → StandFor m.updates (compacted times since (a.updates ++ []))
+    → IsRewriteOf times since m a
+finished_rewrite {times = times} o l since m a described both =
+    let stand = subst (λ us. StandFor m.updates (compacted times since us)) (append-nil a.updates) both in
     let upward = stand_upward o l since m.updates a.updates stand in
     record {
       described = described;

@@ -3,6 +3,7 @@
 use Rattle.std.specs.Prelude.{◌≡◌, ℕ, zero, suc, ℤ, Bool, cond, List, [], ◌∷◌, ◌++◌, map, reverse, slice_get, Some, ⊤, IsTrue}
 use Rattle.std.specs.List.{list_all}
 use Rattle.std.specs.declared.cmp.Ordering.{Ordering}
+use Rattle.lattice.specs.Times.{Times}
 use Rattle.lattice.specs.Frontiers.{all_beyond}
 use Rattle.antichain.specs.Antichains.{IsFrontier}
 use Rattle.update.specs.declared.change.Update.{Update}
@@ -62,7 +63,7 @@ module _ {T : Type 0} where
       × (b.description.node ≡ node)
       × (b.description.lower ≡ from)
 
-module _ {T : Type 0} (below : T → T → Bool) where
+module _ {T : Type 0} (times : Times T) where
   -- one batch for two neighbours: it reaches over both intervals, may be read in the place of both
   -- beyond the frontier, and has only rows of theirs, and times at or after theirs
   pub record IsMergeOf (since : List T) (m a b : BatchState T) : Type 0 where
@@ -73,9 +74,9 @@ module _ {T : Type 0} (below : T → T → Bool) where
       upper = b.description.upper;
       since = since;
     }
-    pub reads : IsReadable below since m.updates (a.updates ++ b.updates)
+    pub reads : IsReadable times since m.updates (a.updates ++ b.updates)
     pub among : (p : List ℤ → T → Bool)
-        → IsUpward below p
+        → IsUpward times p
         → IsTrue (list_all (λ u. p u.row u.time) (a.updates ++ b.updates))
         → IsTrue (list_all (λ u. p u.row u.time) m.updates)
 
@@ -87,13 +88,13 @@ module _ {T : Type 0} (below : T → T → Bool) where
       → slice_get bs (suc i) ≡ Some b
       → IsMergeOf since m a b
 
-  -- one batch for another: it has the same interval, may be read in the place of the other beyond the
-  -- frontier, and has only rows of the other's, and times at or after its times
+  -- one batch for another: it has the same interval, may be read in the place of the other beyond
+  -- the frontier, and has only rows of the other's, and times at or after its times
   pub record IsRewriteOf (since : List T) (m a : BatchState T) : Type 0 where
     pub described : m.description ≡ record a.description { since = since }
-    pub reads : IsReadable below since m.updates a.updates
+    pub reads : IsReadable times since m.updates a.updates
     pub among : (p : List ℤ → T → Bool)
-        → IsUpward below p
+        → IsUpward times p
         → IsTrue (list_all (λ u. p u.row u.time) a.updates)
         → IsTrue (list_all (λ u. p u.row u.time) m.updates)
 
@@ -101,14 +102,14 @@ module _ {T : Type 0} (below : T → T → Bool) where
   abbrev pub IsRewriteAt : List T → BatchState T → ℕ → List (BatchState T) → Type 0
   IsRewriteAt since m i bs = (a : BatchState T) → slice_get bs i ≡ Some a → IsRewriteOf since m a
 
-module _ {T : Type 0} (below : T → T → Bool) (cmp : T → T → Ordering) where
+module _ {T : Type 0} (times : Times T) (cmp : T → T → Ordering) where
   -- the batch continues a batch list, and ends at a frontier beyond the one at which it begins; it
   -- has no updates if that is the same frontier
   pub record IsLink (worker node : ℕ) (from : List T) (b : BatchState T) : Type 0 where
     pub continues : Continues worker node from b
     pub still : IsEmptyIfStill b
-    pub frontier : IsFrontier below cmp b.description.upper
-    pub forward : IsTrue (all_beyond below from b.description.upper)
+    pub frontier : IsFrontier times cmp b.description.upper
+    pub forward : IsTrue (all_beyond times from b.description.upper)
 
   -- each batch continues those before it
   abbrev pub AreLinked : ℕ → ℕ → List T → List (BatchState T) → Type 0
@@ -118,5 +119,5 @@ module _ {T : Type 0} (below : T → T → Bool) (cmp : T → T → Ordering) wh
 
   -- a batch list begins at a frontier, and its batches continue one another
   pub record IsBatchList (s : BatchListState T) : Type 0 where
-    pub start : IsFrontier below cmp s.start
+    pub start : IsFrontier times cmp s.start
     pub linked : AreLinked s.worker s.node s.start s.batches

@@ -2,6 +2,7 @@
 -- Shared Arrangements, VLDB 2020).
 use Rattle.std.specs.Prelude.{◌≡◌, ◌≢◌, ◌≤◌, Bool, List, [], ◌∷◌, ◌++◌, ℤ, IsTrue, ◌⊎◌}
 use Rattle.std.specs.List.{list_all, AllByRecursion, flat_map}
+use Rattle.lattice.specs.Times.{Times}
 use Rattle.lattice.specs.Frontiers.{is_beyond}
 use Rattle.update.specs.Bags.{Alike}
 use Rattle.update.specs.Updates.{as_of, size}
@@ -51,11 +52,11 @@ module _ {T : Type 0} where
       → IsTrue (list_all (λ u. p u.row) vs)
       → IsTrue (list_all (λ u. p u.row) us)
 
-module _ {T : Type 0} (below : T → T → Bool) where
+module _ {T : Type 0} (times : Times T) where
   -- us and vs sum to the same bag at each time beyond the frontier
   abbrev pub SameBeyond : List T → List (Update T) → List (Update T) → Type 0
   SameBeyond since us vs =
-      (t : T) → IsTrue (is_beyond below since t) → Alike (as_of below t us) (as_of below t vs)
+      (t : T) → IsTrue (is_beyond times since t) → Alike (as_of times t us) (as_of times t vs)
 
   -- at times beyond the frontier us may be read in the place of vs: the sums are the same, no row
   -- is new, and us is no larger

@@ -11,10 +11,10 @@
 ghost use Rattle.std.specs.Prelude.{◌≡◌, ◌↔◌, ◌⊎◌, ◌≤◌, ◌<◌, ◌∷◌, ◌++◌, suc, [], Some, None, IfErr, IfOk, IfSome, IsErrAnd, OnErr, OnOk, IsTrue, true, length, set, take, drop};
 ghost use Rattle.std.specs.Bool.{OnTrue};
 ghost use Rattle.std.specs.List.{Contains};
+ghost use Rattle.update.specs.Refusals.{OnlyMemory};
 ghost use Rattle.antichain.specs.Antichains.{IsFrontier};
 ghost use Rattle.lattice.specs.Frontiers.{all_beyond};
 ghost use Rattle.update.specs.declared.refusal.Refusal.{Refusal};
-ghost use Rattle.batch.specs.Descriptions.{BatchState};
 ghost use Rattle.trace.specs.BatchLists.{BatchListState, Continues, IsLink, IsBatchList, IsMergeAt, IsRewriteAt, end_of, ends_of, insertion_of, insertions_of, merged_at};
 
 use crate::Trace;
@@ -53,7 +53,7 @@ impl<T: Lattice> Model for BatchList<T> {
       reserved = nat_lt (vec_len s.batches) (vec_capacity s.batches);
     } };
 
-    ghost invariant = { λ s. IsBatchList T.below T.cmp (record {
+    ghost invariant = { λ s. IsBatchList T.times T.cmp (record {
       worker = s.worker;
       node = s.node;
       start = s.start.items;
@@ -78,12 +78,12 @@ impl<T: Minimum> BatchList<T> {
         ensures made { IfOk result (λ made. made ≡ record {
           worker = worker;
           node = node;
-          start = T.least ∷ [];
+          start = T.times.least ∷ [];
           batches = [];
           reserved = made.reserved;
         }) }
         ensures stands { IfOk result (λ made. insertions_of made.batches ≡ []) }
-        ensures only { IfErr result (λ refused. refused ≡ Refusal.OutOfMemory) }
+        ensures only { OnlyMemory result }
     {
         let mut start = Vec::new(alloc);
         start.push(T::minimum())?;
@@ -102,7 +102,7 @@ impl<T: Lattice> BatchList<T> {
     pub fn reserve(&mut self) -> Result<(), Refusal>
         ensures room { OnOk result (self.new ≡ record self.old { reserved = true }) }
         ensures same { OnErr result (self.new ≡ self.old) }
-        ensures only { IfErr result (λ refused. refused ≡ Refusal.OutOfMemory) }
+        ensures only { OnlyMemory result }
     {
         self.batches.reserve(1)?;
         Ok(())
@@ -124,7 +124,7 @@ impl<T: Lattice> BatchList<T> {
         }) }
         ensures stands { OnOk result (insertions_of self.new.batches
             ≡ insertion_of batch ∷ insertions_of self.old.batches) }
-        ensures known { OnOk result (IsBatchList T.below T.cmp self.new) }
+        ensures known { OnOk result (IsBatchList T.times T.cmp self.new) }
         ensures same { OnErr result
             (self.new ≡ record self.old { reserved = self.new.reserved }) }
         ensures returned { IfErr result (λ unplaced. unplaced.batch ≡ batch) }
@@ -157,7 +157,7 @@ impl<T: Lattice> BatchList<T> {
     /// Cost: one step for each batch behind them.
     pub fn put_pair(&mut self, i: usize, merged: Batch<T>)
         requires within { suc i < length self.old.batches }
-        requires merged { IsMergeAt T.below merged.description.since merged i self.old.batches }
+        requires merged { IsMergeAt T.times merged.description.since merged i self.old.batches }
         ensures { self.new ≡ record self.old {
           batches = merged_at i merged self.old.batches;
           reserved = true;
@@ -170,7 +170,7 @@ impl<T: Lattice> BatchList<T> {
     /// another frontier. Takes no memory.
     pub fn put_one(&mut self, i: usize, rewritten: Batch<T>)
         requires within { i < length self.old.batches }
-        requires rewritten { IsRewriteAt T.below rewritten.description.since
+        requires rewritten { IsRewriteAt T.times rewritten.description.since
             rewritten i self.old.batches }
         ensures { self.new ≡ record self.old { batches = set self.old.batches i rewritten } }
     {
@@ -180,7 +180,7 @@ impl<T: Lattice> BatchList<T> {
     /// The batches in order, each of which continues those before it. Takes no memory.
     pub fn batches(&self) -> &[Batch<T>]
         ensures value { result.now ≡ self.now.batches }
-        ensures known { IsBatchList T.below T.cmp self.now }
+        ensures known { IsBatchList T.times T.cmp self.now }
     {
         self.batches.as_slice()
     }
@@ -188,14 +188,14 @@ impl<T: Lattice> BatchList<T> {
     // The frontier at which the last batch ends.
     fn reached(&self) -> &[T]
         ensures value { result.now ≡ end_of self.now.start self.now.batches }
-        ensures frontier { IsFrontier T.below T.cmp result.now }
+        ensures frontier { IsFrontier T.times T.cmp result.now }
     {
         end_in(self.start.as_slice(), self.batches.as_slice())
     }
 
     // The number of batches up to a boundary; none are up to the frontier at which the list begins.
     fn number_to(&self, upto: &[T]) -> Option<usize>
-        ensures known { IsBatchList T.below T.cmp self.now }
+        ensures known { IsBatchList T.times T.cmp self.now }
         ensures start { upto.now ≡ self.now.start → result ≡ Some 0 }
         ensures within { IfSome result (λ n. n ≤ length self.now.batches) }
         ensures place { IfSome result
@@ -228,7 +228,7 @@ impl<T: Lattice> BatchList<T> {
 // Whether the batch continues a batch list of this worker and node that has reached a frontier.
 fn continues<T: Lattice>(worker: usize, node: usize, reached: &[T], batch: &Batch<T>) -> bool
     ensures value { IsTrue result ↔ Continues worker node reached.now batch.now }
-    ensures link { OnTrue result (IsLink T.below T.cmp worker node reached.now batch.now) }
+    ensures link { OnTrue result (IsLink T.times T.cmp worker node reached.now batch.now) }
 {
     let description = batch.description();
     description.worker() == worker && description.node() == node && begins_at(description, reached)
@@ -237,8 +237,8 @@ fn continues<T: Lattice>(worker: usize, node: usize, reached: &[T], batch: &Batc
 // Whether an interval begins at a frontier. Its upper frontier is beyond that one then.
 fn begins_at<T: Lattice>(description: &Description<T>, reached: &[T]) -> bool
     ensures value { IsTrue result ↔ (description.now.lower ≡ reached.now) }
-    ensures frontier { IsFrontier T.below T.cmp description.now.upper }
-    ensures forward { IsTrue (all_beyond T.below description.now.lower description.now.upper) }
+    ensures frontier { IsFrontier T.times T.cmp description.now.upper }
+    ensures forward { IsTrue (all_beyond T.times description.now.lower description.now.upper) }
 {
     let _end = description.upper();
     are_same(description.lower(), reached)

@@ -18,6 +18,7 @@ use Rattle.std.specs.Result.{IfOk, IfErr, IsErr, OnOk}
 use Rattle.std.specs.declared.result.Result.{Result}
 use Rattle.std.specs.declared.result.Result.TheVariants.{Ok, Err}
 use Rattle.std.specs.declared.cmp.Ordering.TheVariants.{Less, Equal, Greater}
+use Rattle.lattice.specs.Times.{Times}
 use Rattle.lattice.specs.Order.{PartialOrderLaws}
 use Rattle.update.specs.declared.change.Update.{Update}
 use Rattle.update.specs.Bags.{same_row, Alike}
@@ -131,32 +132,32 @@ module _ {T : Type 0} (cmp : T → T → Ordering) where
       let here = summed_size_is xs in
       omega (arith, less, left, here)
 
-module _ {T : Type 0} {below : T → T → Bool} {cmp : T → T → Ordering} (o : PartialOrderLaws below) (total : IsTotalOrder cmp) (exact : (s t : T) → cmp s t ≡ Equal → s ≡ t) where
+module _ {T : Type 0} {times : Times T} {cmp : T → T → Ordering} (o : PartialOrderLaws times) (total : IsTotalOrder cmp) (exact : (s t : T) → cmp s t ≡ Equal → s ≡ t) where
   -- the group sums have the sum of the list at every time
-  pub gathered_sum : (t : T) (xs : List (Update T)) → Alike (as_of below t (group_sums (groups_from cmp xs))) (as_of below t xs)
+  pub gathered_sum : (t : T) (xs : List (Update T)) → Alike (as_of times t (group_sums (groups_from cmp xs))) (as_of times t xs)
   gathered_sum t xs row =
-      count_as_of below row t (group_sums (groups_from cmp xs))
-      ∙ gathered_total exact (λ r s. same_row r row && below s t) xs
-      ∙ sym (count_as_of below row t xs)
+      count_as_of times row t (group_sums (groups_from cmp xs))
+      ∙ gathered_total exact (λ r s. same_row r row && times.below s t) xs
+      ∙ sym (count_as_of times row t xs)
 
-  from_fit : (xs : List (Update T)) → AreNeighbours cmp xs → AllFit (groups_from cmp xs) → (row : List ℤ) (t : T) → FitsSigned w64 (total_at below row t xs)
+  from_fit : (xs : List (Update T)) → AreNeighbours cmp xs → AllFit (groups_from cmp xs) → (row : List ℤ) (t : T) → FitsSigned w64 (total_at times row t xs)
   from_fit [] a f row t = fits_zero
   from_fit (u ∷ us) a f row t = totals_fit o total exact u u.diff us a f row t
 
-  from_large : (xs : List (Update T)) → AreNeighbours cmp xs → (AllFit (groups_from cmp xs) → ⊥) → HasLargeTotal below xs
+  from_large : (xs : List (Update T)) → AreNeighbours cmp xs → (AllFit (groups_from cmp xs) → ⊥) → HasLargeTotal times xs
   from_large [] a f = absurd (f tt)
   from_large (u ∷ us) a f = some_large o total exact u u.diff us a f
 
   -- in a grouped list every total fits in 64 bits if each group's total does
-  pub gathered_fit : (xs : List (Update T)) → IsGrouped cmp xs → AllFit (groups_from cmp xs) → HasLargeTotal below xs → ⊥
+  pub gathered_fit : (xs : List (Update T)) → IsGrouped cmp xs → AllFit (groups_from cmp xs) → HasLargeTotal times xs → ⊥
   gathered_fit xs g f large = large.2 (from_fit xs (grouped_neighbours cmp xs g) f large.0 large.1)
 
   -- and some total does not if a group's total does not
-  pub gathered_large : (xs : List (Update T)) → IsGrouped cmp xs → (AllFit (groups_from cmp xs) → ⊥) → HasLargeTotal below xs
+  pub gathered_large : (xs : List (Update T)) → IsGrouped cmp xs → (AllFit (groups_from cmp xs) → ⊥) → HasLargeTotal times xs
   gathered_large xs g f = from_large xs (grouped_neighbours cmp xs g) f
 
   -- no two group sums of a grouped list have the same row and time
-  pub gathered_apart : (xs : List (Update T)) → IsGrouped cmp xs → AreApart below (group_sums (groups_from cmp xs))
+  pub gathered_apart : (xs : List (Update T)) → IsGrouped cmp xs → AreApart times (group_sums (groups_from cmp xs))
   gathered_apart [] g = tt
   gathered_apart (u ∷ us) g = left_apart exact o total u u.diff us (grouped_neighbours cmp (u ∷ us) g)
 
@@ -176,17 +177,17 @@ module _ {T : Type 0} (us vs : List (Update T)) (q : IsPermutation us vs) where
       let test = λ (u : Update T). p u.row u.time in
       list_all-from_AllPass test vs (All-permutation (λ u. test u ≡ true) us vs q (AllPass-from_list_all test us a))
 
-  module _ (below : T → T → Bool) where
+  module _ (times : Times T) where
     -- the sums at each time
-    pub moved_sum : (t : T) → Alike (as_of below t vs) (as_of below t us)
+    pub moved_sum : (t : T) → Alike (as_of times t vs) (as_of times t us)
     moved_sum t row =
-        count_as_of below row t vs ∙ moved_total (λ r s. same_row r row && below s t) ∙ sym (count_as_of below row t us)
+        count_as_of times row t vs ∙ moved_total (λ r s. same_row r row && times.below s t) ∙ sym (count_as_of times row t us)
 
-    same_total_at : (row : List ℤ) (t : T) → total_at below row t vs ≡ total_at below row t us
-    same_total_at row t = moved_total (λ r s. same_row r row && (below s t && below t s))
+    same_total_at : (row : List ℤ) (t : T) → total_at times row t vs ≡ total_at times row t us
+    same_total_at row t = moved_total (λ r s. same_row r row && (times.below s t && times.below t s))
 
     -- whether a total is too large
-    pub moved_large : HasLargeTotal below us ↔ HasLargeTotal below vs
+    pub moved_large : HasLargeTotal times us ↔ HasLargeTotal times vs
     moved_large = (
       λ l. (l.0, l.1, λ f. l.2 (subst (FitsSigned w64) (same_total_at l.0 l.1) f)),
       λ l. (l.0, l.1, λ f. l.2 (subst (FitsSigned w64) (sym (same_total_at l.0 l.1)) f)),

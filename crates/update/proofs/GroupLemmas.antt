@@ -16,6 +16,7 @@ use Rattle.std.proofs.lemmas.List.Elements.{recursion_from_All}
 use Rattle.std.proofs.lemmas.List.Sorted.{sorted_far, ranks_by}
 use Rattle.std.specs.declared.cmp.Ordering.{Ordering}
 use Rattle.std.specs.declared.cmp.Ordering.TheVariants.{Less, Equal, Greater}
+use Rattle.lattice.specs.Times.{Times}
 use Rattle.lattice.specs.Order.{PartialOrderLaws}
 use Rattle.update.specs.declared.change.Update.{Update}
 use Rattle.update.specs.Bags.{same_row}
@@ -143,7 +144,7 @@ module _ {T : Type 0} {order : Update T → Update T → Ordering} (total : IsTo
   alike_left a b c e =
       total.antisymm a c ∙ ap ordering_reverse (alike_right total a b c e) ∙ sym (total.antisymm b c)
 
-module _ {T : Type 0} {cmp : T → T → Ordering} {order : Update T → Update T → Ordering} (times : IsTotalOrder cmp) (g : OrdersGroups cmp order) where
+module _ {T : Type 0} {cmp : T → T → Ordering} {order : Update T → Update T → Ordering} (ts : IsTotalOrder cmp) (g : OrdersGroups cmp order) where
   -- a list that is sorted by row and time is grouped
   pub sorted_grouped : (xs : List (Update T)) → IsSorted g.total xs → IsGrouped cmp xs
   sorted_grouped xs s i j k d a b c same =
@@ -160,7 +161,7 @@ module _ {T : Type 0} {cmp : T → T → Ordering} {order : Update T → Update 
 
   -- the order does not look at differences
   same_itself : (u : Update T) (n : ℤ) → is_same cmp (record u { diff = n }) u ≡ true
-  same_itself u n = and_from (is_eq (cmp u.time u.time)) (same_row u.row u.row) (ap is_eq (tied_itself times u.time)) ((signed_items u.row u.row).1 refl)
+  same_itself u n = and_from (is_eq (cmp u.time u.time)) (same_row u.row u.row) (ap is_eq (tied_itself ts u.time)) ((signed_items u.row u.row).1 refl)
 
   ties_itself : (u : Update T) (n : ℤ) → order (record u { diff = n }) u ≡ Equal
   ties_itself u n = equal_from (order (record u { diff = n }) u) (g.ties (record u { diff = n }) u ∙ same_itself u n)
@@ -279,34 +280,34 @@ module _ {T : Type 0} {cmp : T → T → Ordering} (exact : (s t : T) → cmp s 
   )
 
   -- the group sums of neighbours have each row and time once
-  module _ {below : T → T → Bool} (o : PartialOrderLaws below) (times : IsTotalOrder cmp) where
-    unlike : (u w : Update T) → is_same cmp u w ≡ false → is_doubled below u w ≡ false
-    unlike u w e = by (is_doubled below u w) refl
+  module _ {times : Times T} (o : PartialOrderLaws times) (ts : IsTotalOrder cmp) where
+    unlike : (u w : Update T) → is_same cmp u w ≡ false → is_doubled times u w ≡ false
+    unlike u w e = by (is_doubled times u w) refl
       where
-        by : (b : Bool) → is_doubled below u w ≡ b → b ≡ false
+        by : (b : Bool) → is_doubled times u w ≡ b → b ≡ false
         by true h =
-            let parts = and_parts (below u.time w.time && below w.time u.time) (same_row u.row w.row) h in
-            let ties = and_parts (below u.time w.time) (below w.time u.time) parts.0 in
+            let parts = and_parts (times.below u.time w.time && times.below w.time u.time) (same_row u.row w.row) h in
+            let ties = and_parts (times.below u.time w.time) (times.below w.time u.time) parts.0 in
             let time = o.antisymmetric u.time w.time ties.0 ties.1 in
-            let same = and_from (is_eq (cmp u.time w.time)) (same_row u.row w.row) (ap (λ t. is_eq (cmp t w.time)) time ∙ ap is_eq (tied_itself times w.time)) parts.1 in
+            let same = and_from (is_eq (cmp u.time w.time)) (same_row u.row w.row) (ap (λ t. is_eq (cmp t w.time)) time ∙ ap is_eq (tied_itself ts w.time)) parts.1 in
             absurd (true≢false (sym same ∙ e))
         by false h = refl
 
-    none_doubled : (u : Update T) (ws : List (Update T)) → AreOther cmp u ws → list_any (is_doubled below u) ws ≡ false
+    none_doubled : (u : Update T) (ws : List (Update T)) → AreOther cmp u ws → list_any (is_doubled times u) ws ≡ false
     none_doubled u [] a = refl
     none_doubled u (w ∷ ws) a = rw (unlike u w a.0, none_doubled u ws a.1) refl
 
-    apart_join : (u : Update T) (n : ℤ) (ws : List (Update T)) → AreOther cmp u ws → AreApart below ws → AreApart below (group_sum u n ++ ws)
+    apart_join : (u : Update T) (n : ℤ) (ws : List (Update T)) → AreOther cmp u ws → AreApart times ws → AreApart times (group_sum u n ++ ws)
     apart_join u n ws a s =
-        elim (int_eq n (pos 0)) as (λ b. AreApart below (cond b [] (record u { diff = n } ∷ []) ++ ws)) [
+        elim (int_eq n (pos 0)) as (λ b. AreApart times (cond b [] (record u { diff = n } ∷ []) ++ ws)) [
           | true ↦ s
           | false ↦ (none_doubled u ws a, s)
         ]
 
-    pub left_apart : (u : Update T) (n : ℤ) (vs : List (Update T)) → AreNeighbours cmp (u ∷ vs) → AreApart below (group_sums (groups_of cmp u n vs))
+    pub left_apart : (u : Update T) (n : ℤ) (vs : List (Update T)) → AreNeighbours cmp (u ∷ vs) → AreApart times (group_sums (groups_of cmp u n vs))
     left_apart u n [] a = apart_join u n [] tt tt
     left_apart u n (v ∷ vs) a =
-        elim (is_same cmp u v) as (λ b. is_same cmp u v ≡ b → AreApart below (group_sums (cond b (groups_of cmp u (n +ℤ v.diff) vs) (record { first = u; total = n } ∷ groups_of cmp v v.diff vs)))) [
+        elim (is_same cmp u v) as (λ b. is_same cmp u v ≡ b → AreApart times (group_sums (cond b (groups_of cmp u (n +ℤ v.diff) vs) (record { first = u; total = n } ∷ groups_of cmp v v.diff vs)))) [
           | true ↦ λ e. left_apart u (n +ℤ v.diff) vs (skip_second u v vs e a)
           | false ↦ λ e.
               apart_join u n (group_sums (groups_of cmp v v.diff vs))

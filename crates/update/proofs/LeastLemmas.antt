@@ -10,6 +10,7 @@ use Rattle.std.proofs.lemmas.Int.{ints}
 use Rattle.std.proofs.lemmas.Map.Keys.{sorted_head, sorted_tail}
 use Rattle.std.proofs.lemmas.List.Recursion.{is_sum_by}
 use Rattle.std.proofs.lemmas.List.Kept.{IsStrictlySortedBy-filter}
+use Rattle.lattice.specs.Times.{Times}
 use Rattle.lattice.specs.Order.{PartialOrderLaws}
 use Rattle.antichain.proofs.Lists.{Among, filter_has}
 use Rattle.antichain.proofs.AntichainLemmas.{not_from}
@@ -47,30 +48,30 @@ module _ {T : Type 0} where
       let t = triangle u.diff (total_by (λ w. w.diff) us) in
       omega arith
 
-module _ {T : Type 0} {below : T → T → Bool} {cmp : T → T → Ordering} (o : PartialOrderLaws below) (total : IsTotalOrder cmp) where
+module _ {T : Type 0} {times : Times T} {cmp : T → T → Ordering} (o : PartialOrderLaws times) (total : IsTotalOrder cmp) where
   -- if the second list has at the row and time of each update of the sorted first list that
   -- update's diff as its total, then it is no smaller than the first list
-  covers : (us vs : List (Update T)) → IsStrictlySortedBy (by_time_then_row cmp) us → ((u : Update T) → Among u us → total_at below u.row u.time vs ≡ u.diff) → summed_size us ≤ summed_size vs
+  covers : (us vs : List (Update T)) → IsStrictlySortedBy (by_time_then_row cmp) us → ((u : Update T) → Among u us → total_at times u.row u.time vs ≡ u.diff) → summed_size us ≤ summed_size vs
   covers [] vs s h = omega arith
   covers (u ∷ us) vs s h =
-      let here = total-le-size (filter (meets below u) vs) in
-      let same = ap unsigned_abs (total_by-filter (λ w. w.diff) (meets below u) vs ∙ h u (inl refl)) in
-      let elsewhere = covers us (filter (λ v. not (meets below u v)) vs) (sorted_tail (by_time_then_row cmp) u us s) still in
-      let split = summed_size-split (meets below u) vs in
+      let here = total-le-size (filter (meets times u) vs) in
+      let same = ap unsigned_abs (total_by-filter (λ w. w.diff) (meets times u) vs ∙ h u (inl refl)) in
+      let elsewhere = covers us (filter (λ v. not (meets times u v)) vs) (sorted_tail (by_time_then_row cmp) u us s) still in
+      let split = summed_size-split (meets times u) vs in
       omega arith
     where
-      apart : (w v : Update T) → Among w us → IsTrue (meets below w v) → IsTrue (not (meets below u v))
+      apart : (w v : Update T) → Among w us → IsTrue (meets times w v) → IsTrue (not (meets times u v))
       apart w v m e =
           let later = at_each (λ y. by_time_then_row cmp u y ≡ Less) us w (sorted_head (by_time_then_row cmp) u us s) m in
-          not_from (meets below u v) (λ k. not_in_order o total u w (sym (meets_row o w v e) ∙ meets_row o u v k) (sym (meets_time o w v e) ∙ meets_time o u v k) later)
+          not_from (meets times u v) (λ k. not_in_order o total u w (sym (meets_row o w v e) ∙ meets_row o u v k) (sym (meets_time o w v e) ∙ meets_time o u v k) later)
 
-      still : (w : Update T) → Among w us → total_at below w.row w.time (filter (λ v. not (meets below u v)) vs) ≡ w.diff
+      still : (w : Update T) → Among w us → total_at times w.row w.time (filter (λ v. not (meets times u v)) vs) ≡ w.diff
       still w m =
-          total_where-filter (λ r t. same_row r w.row && ties below t w.time) (λ v. not (meets below u v)) vs (λ v. apart w v m)
+          total_where-filter (λ r t. same_row r w.row && ties times t w.time) (λ v. not (meets times u v)) vs (λ v. apart w v m)
           ∙ h w (inr m)
 
   -- at the times of the set, a consolidated list is no larger than any list with its sums
-  pub least_size : (among : T → Bool) (us vs : List (Update T)) → ((s t : T) → IsTrue (below s t) → IsTrue (among t) → IsTrue (among s)) → ((t : T) → IsTrue (among t) → Alike (as_of below t us) (as_of below t vs)) → IsConsolidated cmp us → size (filter (λ u. among u.time) us) ≤ size (filter (λ u. among u.time) vs)
+  pub least_size : (among : T → Bool) (us vs : List (Update T)) → ((s t : T) → IsTrue (times.below s t) → IsTrue (among t) → IsTrue (among s)) → ((t : T) → IsTrue (among t) → Alike (as_of times t us) (as_of times t vs)) → IsConsolidated cmp us → size (filter (λ u. among u.time) us) ≤ size (filter (λ u. among u.time) vs)
   least_size among us vs down same a =
       let ordered = IsStrictlySortedBy-filter (by_time_then_row cmp) (λ u. among u.time) us a.ascending in
       let no_smaller = covers (filter (λ u. among u.time) us) (filter (λ u. among u.time) vs) ordered diff_there in
@@ -78,9 +79,9 @@ module _ {T : Type 0} {below : T → T → Bool} {cmp : T → T → Ordering} (o
       let theirs = summed_size_is_size (filter (λ u. among u.time) vs) in
       omega arith
     where
-      diff_there : (u : Update T) → Among u (filter (λ w. among w.time) us) → total_at below u.row u.time (filter (λ v. among v.time) vs) ≡ u.diff
+      diff_there : (u : Update T) → Among u (filter (λ w. among w.time) us) → total_at times u.row u.time (filter (λ v. among v.time) vs) ≡ u.diff
       diff_there u m =
           let has = filter_has (λ w. among w.time) us u m in
-          total_where-filter (λ r t. same_row r u.row && ties below t u.time) (λ v. among v.time) vs (λ v e. ap among (meets_time o u v e) ∙ has.1)
+          total_where-filter (λ r t. same_row r u.row && ties times t u.time) (λ v. among v.time) vs (λ v e. ap among (meets_time o u v e) ∙ has.1)
           ∙ sym (same_totals o among us vs down same u.row u.time has.1)
           ∙ own_total o total us a.ascending u has.0

@@ -8,13 +8,11 @@ use Rattle.update.specs.declared.change.Update.{Update}
 use Rattle.update.specs.declared.unit_time.UnitTime.{UnitTime}
 use Rattle.update.specs.Bags.{Entry, same_row, count_of, HasLargeCount, Alike, bag_size}
 use Rattle.update.specs.Updates.{entry, as_of, total_at, HasLargeTotal, size}
-use Rattle.update.specs.UnitTimes.{at_unit_time}
+use Rattle.update.specs.UnitTimes.{unit_times, at_unit_time}
 use Rattle.update.proofs.ConsolidatedLemmas.{summed_size, summed_size_is}
+use Rattle.lattice.specs.Times.{Times}
 
 -- the one time is at or before itself
-abbrev always : UnitTime → UnitTime → Bool
-always s t = true
-
 all_pass : {X : Type 0} (xs : List X) → filter (λ _. true) xs ≡ xs
 all_pass [] = refl
 all_pass (x ∷ xs) = ap (λ l. x ∷ l) (all_pass xs)
@@ -28,12 +26,12 @@ and_true true = refl
 and_true false = refl
 
 -- at the one time the total of a row is its count
-total_is_count : (row : List ℤ) (t : UnitTime) (us : List (Update UnitTime)) → total_at always row t us ≡ count_of (map entry us) row
+total_is_count : (row : List ℤ) (t : UnitTime) (us : List (Update UnitTime)) → total_at unit_times row t us ≡ count_of (map entry us) row
 total_is_count row t [] = refl
 total_is_count row t (u ∷ us) =
     let here = and_true (same_row u.row row) in
     let rest = total_is_count row t us in
-    ap (λ b. cond b u.diff (pos 0) +ℤ total_at always row t us) here ∙ ap (λ n. cond (same_row u.row row) u.diff (pos 0) +ℤ n) rest
+    ap (λ b. cond b u.diff (pos 0) +ℤ total_at unit_times row t us) here ∙ ap (λ n. cond (same_row u.row row) u.diff (pos 0) +ℤ n) rest
 
 -- the size of entries, by recursion
 abbrev entry_size : List Entry → ℕ
@@ -56,28 +54,28 @@ summed_size_moved p (u ∷ us) =
       | false ↦ omega (arith, rest)
     ]
 
-module _ {T : Type 0} (below : T → T → Bool) (t : T) (us : List (Update T)) where
+module _ {T : Type 0} (times : Times T) (t : T) (us : List (Update T)) where
   abbrev gone : List (Update UnitTime)
-  gone = map at_unit_time (filter (λ u. below u.time t) us)
+  gone = map at_unit_time (filter (λ u. times.below u.time t) us)
 
   -- the updates at or before t, moved to the one time, sum to the sum at t; so `sum_at` may
   -- consolidate them
-  pub sum_moved : (m : UnitTime) (out : List (Update UnitTime)) → Alike (as_of always m out) (as_of always m gone) → Alike (map entry out) (as_of below t us)
+  pub sum_moved : (m : UnitTime) (out : List (Update UnitTime)) → Alike (as_of unit_times m out) (as_of unit_times m gone) → Alike (map entry out) (as_of times t us)
   sum_moved m out same row =
       ap (λ es. count_of (map entry es) row) (sym (all_pass out))
       ∙ same row
       ∙ ap (λ es. count_of (map entry es) row) (all_pass gone)
-      ∙ ap (λ es. count_of es row) (entries_moved (filter (λ u. below u.time t) us))
+      ∙ ap (λ es. count_of es row) (entries_moved (filter (λ u. times.below u.time t) us))
 
-  total_moved : (row : List ℤ) (m : UnitTime) → total_at always row m gone ≡ count_of (as_of below t us) row
-  total_moved row m = total_is_count row m gone ∙ ap (λ es. count_of es row) (entries_moved (filter (λ u. below u.time t) us))
+  total_moved : (row : List ℤ) (m : UnitTime) → total_at unit_times row m gone ≡ count_of (as_of times t us) row
+  total_moved row m = total_is_count row m gone ∙ ap (λ es. count_of es row) (entries_moved (filter (λ u. times.below u.time t) us))
 
   -- a total that is too large at the one time is a count that is too large at t
-  pub large_moved : HasLargeTotal always gone → HasLargeCount (as_of below t us)
+  pub large_moved : HasLargeTotal unit_times gone → HasLargeCount (as_of times t us)
   large_moved large = (large.0, λ fits. large.2 (subst (FitsSigned w64) (sym (total_moved large.0 large.1)) fits))
 
   -- a count that is too large at t is a total that is too large at the one time
-  pub large_count : (m : UnitTime) → HasLargeCount (as_of below t us) → HasLargeTotal always gone
+  pub large_count : (m : UnitTime) → HasLargeCount (as_of times t us) → HasLargeTotal unit_times gone
   large_count m large = (large.0, m, λ fits. large.1 (subst (FitsSigned w64) (total_moved large.0 m) fits))
 
   -- moving updates makes nothing larger
@@ -87,7 +85,7 @@ module _ {T : Type 0} (below : T → T → Bool) (t : T) (us : List (Update T)) 
       let entries = size_of_entries out in
       let left = summed_size_is out in
       let moved = summed_size_is gone in
-      let fewer = summed_size_moved (λ u. below u.time t) us in
+      let fewer = summed_size_moved (λ u. times.below u.time t) us in
       let all = summed_size_is us in
       omega (arith, less, bag, entries, left, moved, fewer, all)
 
@@ -95,35 +93,35 @@ module _ {T : Type 0} (below : T → T → Bool) (t : T) (us : List (Update T)) 
 module _ (all : List (Update UnitTime)) where
   -- a list with the sum of all entries at the one time is the same bag as they are, so `into_bag`
   -- may consolidate them
-  pub sum_entries : (m : UnitTime) (out : List (Update UnitTime)) → Alike (as_of always m out) (as_of always m all) → Alike (map entry out) (map entry all)
+  pub sum_entries : (m : UnitTime) (out : List (Update UnitTime)) → Alike (as_of unit_times m out) (as_of unit_times m all) → Alike (map entry out) (map entry all)
   sum_entries m out same row =
       ap (λ us. count_of (map entry us) row) (sym (all_pass out))
       ∙ same row
       ∙ ap (λ us. count_of (map entry us) row) (all_pass all)
 
   -- a total that is too large at the one time is a count that is too large
-  pub large_entries : HasLargeTotal always all → HasLargeCount (map entry all)
+  pub large_entries : HasLargeTotal unit_times all → HasLargeCount (map entry all)
   large_entries large = (large.0, λ fits. large.2 (subst (FitsSigned w64) (sym (total_is_count large.0 large.1 all)) fits))
 
 -- entries at the one time, followed by updates that are moved to it, sum to both together
 module _ {T : Type 0} (all : List (Update UnitTime)) (us : List (Update T)) (es : List Entry) (parts : map entry all ≡ es ++ map entry us) where
   -- the sum is the bag and the updates together, as `Bag::with` promises
-  pub sum_both : (m : UnitTime) (out : List (Update UnitTime)) → Alike (as_of always m out) (as_of always m all) → Alike (map entry out) (es ++ map entry us)
+  pub sum_both : (m : UnitTime) (out : List (Update UnitTime)) → Alike (as_of unit_times m out) (as_of unit_times m all) → Alike (map entry out) (es ++ map entry us)
   sum_both m out same row =
       ap (λ us. count_of (map entry us) row) (sym (all_pass out))
       ∙ same row
       ∙ ap (λ us. count_of (map entry us) row) (all_pass all)
       ∙ ap (λ es. count_of es row) parts
 
-  total_both : (row : List ℤ) (m : UnitTime) → total_at always row m all ≡ count_of (es ++ map entry us) row
+  total_both : (row : List ℤ) (m : UnitTime) → total_at unit_times row m all ≡ count_of (es ++ map entry us) row
   total_both row m = total_is_count row m all ∙ ap (λ es. count_of es row) parts
 
   -- a total that is too large at the one time is a count that is too large
-  pub large_both : HasLargeTotal always all → HasLargeCount (es ++ map entry us)
+  pub large_both : HasLargeTotal unit_times all → HasLargeCount (es ++ map entry us)
   large_both large = (large.0, λ fits. large.2 (subst (FitsSigned w64) (sym (total_both large.0 large.1)) fits))
 
   -- a count that is too large is a total that is too large at the one time
-  pub large_there : (m : UnitTime) → HasLargeCount (es ++ map entry us) → HasLargeTotal always all
+  pub large_there : (m : UnitTime) → HasLargeCount (es ++ map entry us) → HasLargeTotal unit_times all
   large_there m large = (large.0, m, λ fits. large.1 (subst (FitsSigned w64) (total_both large.0 m) fits))
 
 -- the entries of a list to which moved updates were appended

@@ -1,5 +1,5 @@
 -- The number of each refusal, and the sets of refusals that contracts speak of.
-use Rattle.std.specs.Prelude.{◌≡◌, ℕ, Option, Some, None, ◌⊎◌}
+use Rattle.std.specs.Prelude.{◌≡◌, ℕ, Option, Some, None, Result, IfErr, ◌⊎◌}
 use Rattle.update.specs.declared.refusal.Refusal.{Refusal}
 use Rattle.update.specs.declared.refusal.Refusal.TheVariants.{OutOfMemory, WrongWidth, ZeroWeight, WeightTooLarge, TimePassed, NotForward, InputFull, NotPassed, GivenUp, Overflow, Busy, Failed, TooManyNodes, UnknownName, DuplicateName, BadColumn, WidthMismatch, NotArranged, KeyMismatch, BadWidth, BadKey, Stray, BadWorkers, NoThread, UnknownCommand, WrongWordCount, BadNumber, BadOrder, LineTooLong, NotUtf8, BadName}
 
@@ -36,6 +36,10 @@ code_of BadOrder = 34
 code_of LineTooLong = 35
 code_of NotUtf8 = 36
 code_of BadName = 37
+
+-- the only error is want of memory
+abbrev pub OnlyMemory : {A : Type 0} → Result A Refusal → Type 0
+OnlyMemory result = IfErr result (λ refused. refused ≡ OutOfMemory)
 
 -- out of memory, or an overflow that has this cause
 abbrev pub IsMemoryOrOverflow : Type 0 → Refusal → Type 0

@@ -1,12 +1,17 @@
 -- The lattice with only one time: its laws, and updates moved to it.
 use Rattle.std.specs.Prelude.{true, refl}
 use Rattle.std.specs.declared.cmp.Ordering.TheVariants.{Equal}
+use Rattle.lattice.specs.Times.{Times}
 use Rattle.lattice.specs.Order.{PartialOrderLaws, LatticeLaws, ExtendsLaws}
 use Rattle.update.specs.declared.change.Update.{Update}
 use Rattle.update.specs.declared.unit_time.UnitTime.{UnitTime}
 
+-- the one time is at or before itself, and its own join and meet
+abbrev pub unit_times : Times UnitTime
+unit_times = record { below = λ _ _. true; joined = λ t _. t; met = λ t _. t; least = record {} }
+
 -- the one time is partially ordered
-pub unit_order : PartialOrderLaws {T = UnitTime} (λ _ _. true)
+pub unit_order : PartialOrderLaws unit_times
 unit_order = record {
   reflexive = λ t. refl;
   transitive = λ t u v h k. refl;
@@ -14,7 +19,7 @@ unit_order = record {
 }
 
 -- the one time is its own join and meet
-pub unit_bounds : LatticeLaws {T = UnitTime} (λ _ _. true) (λ t _. t) (λ t _. t)
+pub unit_bounds : LatticeLaws unit_times
 unit_bounds = record {
   join_left = λ t u. refl;
   join_right = λ t u. refl;
@@ -25,7 +30,7 @@ unit_bounds = record {
 }
 
 -- the order of sorting extends the partial order
-pub unit_extends : ExtendsLaws {T = UnitTime} (λ _ _. true) (λ _ _. Equal)
+pub unit_extends : ExtendsLaws unit_times (λ _ _. Equal)
 unit_extends = record { extends = λ t u h. refl; exact = λ t u e. refl }
 
 -- the update, moved to the one time

@@ -9,31 +9,32 @@ use Rattle.std.specs.Ordering.{int_cmp, ordering_then}
 use Rattle.std.specs.declared.cmp.Ordering.{Ordering}
 use Rattle.update.specs.declared.change.Update.{Update}
 use Rattle.update.specs.Bags.{total_by, same_row, Entry}
+use Rattle.lattice.specs.Times.{Times}
 
 -- the row of an update and its diff, without the time
 abbrev pub entry : {T : Type 0} → Update T → Entry
 entry u = record { row = u.row; count = u.diff }
 
 -- the sum of a list at t: the rows and diffs of its updates at or before t
-abbrev pub as_of : {T : Type 0} → (T → T → Bool) → T → List (Update T) → List Entry
-as_of below t us = map entry (filter (λ u. below u.time t) us)
+abbrev pub as_of : {T : Type 0} → Times T → T → List (Update T) → List Entry
+as_of times t us = map entry (filter (λ u. times.below u.time t) us)
 
 -- the total of the diffs of the updates whose row and time pass a test
 abbrev pub total_where : {T : Type 0} → (List ℤ → T → Bool) → List (Update T) → ℤ
 total_where p us = total_by (λ u. if p u.row u.time then u.diff else pos 0) us
 
 -- the total of the diffs of a row at exactly the time t
-abbrev pub total_at : {T : Type 0} → (T → T → Bool) → List ℤ → T → List (Update T) → ℤ
-total_at below row t us = total_where (λ r s. same_row r row && (below s t && below t s)) us
+abbrev pub total_at : {T : Type 0} → Times T → List ℤ → T → List (Update T) → ℤ
+total_at times row t us = total_where (λ r s. same_row r row && (times.below s t && times.below t s)) us
 
 -- the total of some row at some time is no 64-bit number
-abbrev pub HasLargeTotal : {T : Type 0} → (T → T → Bool) → List (Update T) → Type 0
-HasLargeTotal {T} below us = (row : List ℤ) × (t : T) × (FitsSigned w64 (total_at below row t us) → ⊥)
+abbrev pub HasLargeTotal : {T : Type 0} → Times T → List (Update T) → Type 0
+HasLargeTotal {T} times us = (row : List ℤ) × (t : T) × (FitsSigned w64 (total_at times row t us) → ⊥)
 
-module _ {T : Type 0} (below : T → T → Bool) where
+module _ {T : Type 0} (times : Times T) where
   -- the two updates have the same row and the same time
   abbrev pub is_doubled : Update T → Update T → Bool
-  is_doubled u v = (below u.time v.time && below v.time u.time) && same_row u.row v.row
+  is_doubled u v = (times.below u.time v.time && times.below v.time u.time) && same_row u.row v.row
 
   -- no two of the updates have the same row and the same time
   abbrev pub AreApart : List (Update T) → Type 0

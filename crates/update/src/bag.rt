@@ -6,7 +6,7 @@ ghost use Rattle.update.specs.Bags.{IsBag, Alike, HasLargeCount, count_of};
 ghost use Rattle.update.specs.UnitTimes.{at_unit_time};
 ghost use Rattle.update.specs.Updates.{IsConsolidated, entry};
 ghost use Rattle.update.specs.Text.{bag_text};
-ghost use Rattle.update.specs.Refusals.{IsMemoryOrOverflow};
+ghost use Rattle.update.specs.Refusals.{OnlyMemory, IsMemoryOrOverflow};
 
 use crate::consolidation::consolidate_behind;
 use crate::unit_time::UnitTime;
@@ -123,7 +123,7 @@ impl Bag {
     // A copy of the entries as a list.
     fn copy_entries(&self) -> Result<Vec<Update<UnitTime>>, Refusal>
         ensures copied { IfOk result (λ entries. map entry entries.items ≡ self.now) }
-        ensures refused { IfErr result (λ refused. refused ≡ Refusal.OutOfMemory) }
+        ensures refused { OnlyMemory result }
     {
         let Bag { entries } = self.clone()?;
         Ok(entries)
@@ -137,7 +137,7 @@ fn push_counts<T: Lattice>(
 ) -> Result<(), Refusal>
     ensures more { OnOk result
         (entries.new.items ≡ entries.old.items ++ map at_unit_time updates.now) }
-    ensures refused { IfErr result (λ refused. refused ≡ Refusal.OutOfMemory) }
+    ensures refused { OnlyMemory result }
 {
     entries.reserve(updates.len())?;
     for update in updates {

@@ -186,7 +186,7 @@ pub fn consolidate_grouped<T: Lattice>(
     mut updates: Vec<Update<T>>,
 ) -> Result<Vec<Update<T>>, Refusal>
     requires { IsGrouped T.cmp updates.items }
-    ensures apart { IfOk result (λ out. AreApart T.below out.items) }
+    ensures apart { IfOk result (λ out. AreApart T.times out.items) }
     ensures nonzero { IfOk result (λ out. AllByRecursion (λ u. u.diff ≢ pos 0) out.items) }
     ensures ascending { IfOk result (λ out. (order : Update T → Update T → Ordering)
         → OrdersGroups T.cmp order → IsSortedBy (λ u v. is_lt (order u v)) updates.items
@@ -194,12 +194,12 @@ pub fn consolidate_grouped<T: Lattice>(
     ensures totals { IfOk result (λ out. (p : List ℤ → T → Bool)
         → total_where p out.items ≡ total_where p updates.items) }
     ensures sums { IfOk result (λ out. (t : T)
-        → Alike (as_of T.below t out.items) (as_of T.below t updates.items)) }
+        → Alike (as_of T.times t out.items) (as_of T.times t updates.items)) }
     ensures among { IfOk result (λ out. (p : List ℤ → T → Bool)
         → IsTrue (list_all (λ u. p u.row u.time) updates.items)
         → IsTrue (list_all (λ u. p u.row u.time) out.items)) }
     ensures size { IfOk result (λ out. size out.items ≤ size updates.items) }
-    ensures overflow { IsErr result ↔ HasLargeTotal T.below updates.items }
+    ensures overflow { IsErr result ↔ HasLargeTotal T.times updates.items }
     ensures only { IfErr result (λ refused. refused ≡ Refusal.Overflow) }
 {
     keep_totals(&mut updates)?;
@@ -218,12 +218,12 @@ pub fn consolidate<T: Lattice>(mut updates: Vec<Update<T>>) -> Result<Vec<Update
     ensures totals { IfOk result (λ out. (p : List ℤ → T → Bool)
         → total_where p out.items ≡ total_where p updates.items) }
     ensures sums { IfOk result (λ out. (t : T)
-        → Alike (as_of T.below t out.items) (as_of T.below t updates.items)) }
+        → Alike (as_of T.times t out.items) (as_of T.times t updates.items)) }
     ensures among { IfOk result (λ out. (p : List ℤ → T → Bool)
         → IsTrue (list_all (λ u. p u.row u.time) updates.items)
         → IsTrue (list_all (λ u. p u.row u.time) out.items)) }
     ensures size { IfOk result (λ out. size out.items ≤ size updates.items) }
-    ensures overflow { IsErr result ↔ HasLargeTotal T.below updates.items }
+    ensures overflow { IsErr result ↔ HasLargeTotal T.times updates.items }
     ensures only { IfErr result (λ refused. refused ≡ Refusal.Overflow) }
 {
     updates.sort_unstable();
@@ -241,9 +241,9 @@ pub(crate) fn consolidate_behind<T: Lattice>(
 ) -> Result<Vec<Update<T>>, Refusal>
     ensures consolidated { IfOk result (λ out. IsConsolidated T.cmp out.items) }
     ensures sums { IfOk result (λ out. (t : T)
-        → Alike (as_of T.below t out.items) (as_of T.below t updates.items)) }
-    ensures fits { OnOk result (HasLargeTotal T.below updates.items → ⊥) }
-    ensures refused { IfErr result (IsMemoryOrOverflow (HasLargeTotal T.below updates.items)) }
+        → Alike (as_of T.times t out.items) (as_of T.times t updates.items)) }
+    ensures fits { OnOk result (HasLargeTotal T.times updates.items → ⊥) }
+    ensures refused { IfErr result (IsMemoryOrOverflow (HasLargeTotal T.times updates.items)) }
 {
     updates.sort()?;
     consolidate_grouped(updates)

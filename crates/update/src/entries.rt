@@ -3,7 +3,7 @@
 //! and copy it.
 ghost use Rattle.std.specs.Prelude.{◌≡◌, ◌⊎◌, ◌++◌, [], ◌∷◌, IfOk, IfErr, OnOk};
 ghost use Rattle.update.specs.Bags.{Alike, IsBag, HasLargeCount, entry_of};
-ghost use Rattle.update.specs.Refusals.{IsMemoryOrOverflow};
+ghost use Rattle.update.specs.Refusals.{OnlyMemory, IsMemoryOrOverflow};
 
 use crate::unit_time::UnitTime;
 use crate::{Bag, Refusal, Update, consolidate};
@@ -40,7 +40,7 @@ impl Entries {
     /// Adds an entry at the end. Refused only with `OutOfMemory`; the entry is then dropped.
     pub fn push(&mut self, row: Row, count: i64) -> Result<(), Refusal>
         ensures added { OnOk result (self.new ≡ self.old ++ entry_of row count ∷ []) }
-        ensures refused { IfErr result (λ refused. refused ≡ Refusal.OutOfMemory) }
+        ensures refused { OnlyMemory result }
     {
         self.entries.push(Update {
             time: UnitTime,

@@ -15,13 +15,13 @@ use lattice::Lattice;
 /// the same updates at these times.
 pub fn sums_determine_a_list<T: Lattice>()
     ensures totals { (among : T → Bool) (us vs : List (Update T))
-        → ((s t : T) → IsTrue (T.below s t) → IsTrue (among t) → IsTrue (among s))
-        → ((t : T) → IsTrue (among t) → Alike (as_of T.below t us) (as_of T.below t vs))
+        → ((s t : T) → IsTrue (T.times.below s t) → IsTrue (among t) → IsTrue (among s))
+        → ((t : T) → IsTrue (among t) → Alike (as_of T.times t us) (as_of T.times t vs))
         → (row : List ℤ) (t : T) → IsTrue (among t)
-        → total_at T.below row t us ≡ total_at T.below row t vs }
+        → total_at T.times row t us ≡ total_at T.times row t vs }
     ensures updates { (among : T → Bool) (us vs : List (Update T))
-        → ((s t : T) → IsTrue (T.below s t) → IsTrue (among t) → IsTrue (among s))
-        → ((t : T) → IsTrue (among t) → Alike (as_of T.below t us) (as_of T.below t vs))
+        → ((s t : T) → IsTrue (T.times.below s t) → IsTrue (among t) → IsTrue (among s))
+        → ((t : T) → IsTrue (among t) → Alike (as_of T.times t us) (as_of T.times t vs))
         → IsConsolidated T.cmp us → IsConsolidated T.cmp vs
         → filter (λ u. among u.time) us ≡ filter (λ u. among u.time) vs }
 {}
@@ -30,8 +30,8 @@ pub fn sums_determine_a_list<T: Lattice>()
 /// size there.
 pub fn consolidated_lists_are_least<T: Lattice>()
     ensures { (among : T → Bool) (us vs : List (Update T))
-        → ((s t : T) → IsTrue (T.below s t) → IsTrue (among t) → IsTrue (among s))
-        → ((t : T) → IsTrue (among t) → Alike (as_of T.below t us) (as_of T.below t vs))
+        → ((s t : T) → IsTrue (T.times.below s t) → IsTrue (among t) → IsTrue (among s))
+        → ((t : T) → IsTrue (among t) → Alike (as_of T.times t us) (as_of T.times t vs))
         → IsConsolidated T.cmp us
         → size (filter (λ u. among u.time) us) ≤ size (filter (λ u. among u.time) vs) }
 {}

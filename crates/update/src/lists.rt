@@ -1,7 +1,7 @@
 //! Lists that enums and events have as fields. Each has a type of its own, so that a contract sees
 //! a plain list, and two values with the same list are the same value.
-ghost use Rattle.std.specs.Prelude.{◌≡◌, [], ◌∷◌, ◌++◌, IfErr, IfOk, OnErr, OnOk, length};
-ghost use Rattle.update.specs.declared.refusal.Refusal.TheVariants.{OutOfMemory};
+ghost use Rattle.std.specs.Prelude.{◌≡◌, [], ◌∷◌, ◌++◌, IfOk, OnErr, OnOk, length};
+ghost use Rattle.update.specs.Refusals.{OnlyMemory};
 
 use crate::{Refusal, Update};
 use lattice::Lattice;
@@ -63,7 +63,7 @@ impl<T: Lattice> Updates<T> {
     /// Appends an update. Refused only with `OutOfMemory`; the update is then dropped.
     pub fn push(&mut self, update: Update<T>) -> Result<(), Refusal>
         ensures more { OnOk result (self.new ≡ self.old ++ update ∷ []) }
-        ensures refused { IfErr result (λ refusal. refusal ≡ OutOfMemory) }
+        ensures refused { OnlyMemory result }
     {
         self.items.push(update)?;
         Ok(())
@@ -73,7 +73,7 @@ impl<T: Lattice> Updates<T> {
     /// number of updates.
     pub fn copy(&self, alloc: Global) -> Result<Updates<T>, Refusal>
         ensures copied { IfOk result (λ copy. copy ≡ self.now) }
-        ensures refused { IfErr result (λ refusal. refusal ≡ OutOfMemory) }
+        ensures refused { OnlyMemory result }
     {
         let mut items = Vec::with_capacity(alloc, self.items.len())?;
         for update in self.as_slice() {
@@ -86,7 +86,7 @@ impl<T: Lattice> Updates<T> {
     /// then both lists are as before.
     pub fn append(&mut self, more: &mut Updates<T>) -> Result<(), Refusal>
         ensures more { OnOk result (self.new ≡ self.old ++ more.old) }
-        ensures refused { IfErr result (λ refusal. refusal ≡ OutOfMemory) }
+        ensures refused { OnlyMemory result }
         ensures unchanged { OnErr result (self.new ≡ self.old) }
         ensures kept { OnErr result (more.new ≡ more.old) }
     {

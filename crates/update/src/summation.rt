@@ -6,7 +6,7 @@ ghost use Rattle.std.specs.Prelude.{◌≡◌, ◌≤◌, ◌⊎◌, map, filter
 ghost use Rattle.update.specs.Bags.{Alike, IsBag, HasLargeCount, bag_size};
 ghost use Rattle.update.specs.UnitTimes.{at_unit_time};
 ghost use Rattle.update.specs.Updates.{as_of, size};
-ghost use Rattle.update.specs.Refusals.{IsMemoryOrOverflow};
+ghost use Rattle.update.specs.Refusals.{OnlyMemory, IsMemoryOrOverflow};
 
 use crate::unit_time::UnitTime;
 use crate::{Bag, Refusal, Update, consolidate};
@@ -20,8 +20,8 @@ fn at_or_before<T: Lattice>(
     t: T,
 ) -> Result<Vec<Update<UnitTime>>, Refusal>
     ensures gone { IfOk result
-        (λ gone. gone.items ≡ map at_unit_time (filter (λ u. T.below u.time t) updates.now)) }
-    ensures only { IfErr result (λ refused. refused ≡ Refusal.OutOfMemory) }
+        (λ gone. gone.items ≡ map at_unit_time (filter (λ u. T.times.below u.time t) updates.now)) }
+    ensures only { OnlyMemory result }
 {
     let mut gone = Vec::new(alloc);
     for update in updates {
@@ -43,12 +43,12 @@ fn at_or_before<T: Lattice>(
 ///
 /// Cost: linear in the number of updates, and one sort of those at or before `t`, which are copied.
 pub fn sum_at<T: Lattice>(alloc: Global, updates: &[Update<T>], t: T) -> Result<Bag, Refusal>
-    ensures sum { IfOk result (λ bag. Alike bag (as_of T.below t updates.now)) }
+    ensures sum { IfOk result (λ bag. Alike bag (as_of T.times t updates.now)) }
     ensures bag { IfOk result IsBag }
     ensures size { IfOk result (λ bag. bag_size bag ≤ size updates.now) }
-    ensures fits { OnOk result (HasLargeCount (as_of T.below t updates.now) → ⊥) }
+    ensures fits { OnOk result (HasLargeCount (as_of T.times t updates.now) → ⊥) }
     ensures refused { IfErr result
-        (IsMemoryOrOverflow (HasLargeCount (as_of T.below t updates.now))) }
+        (IsMemoryOrOverflow (HasLargeCount (as_of T.times t updates.now))) }
 {
     let gone = at_or_before(alloc, updates, t)?;
     let entries = consolidate(gone)?;

@@ -8,10 +8,9 @@ use lattice::{Lattice, PartialOrder};
 pub(crate) struct UnitTime;
 
 impl PartialOrder for UnitTime {
-    ghost use Rattle.std.specs.Prelude.{true};
-    ghost use Rattle.update.specs.UnitTimes.{unit_order};
+    ghost use Rattle.update.specs.UnitTimes.{unit_times, unit_order};
 
-    ghost below = { λ _ _. true };
+    ghost times = { unit_times };
 
     ghost order = { unit_order };
 
@@ -22,10 +21,6 @@ impl PartialOrder for UnitTime {
 
 impl Lattice for UnitTime {
     ghost use Rattle.update.specs.UnitTimes.{unit_bounds, unit_extends};
-
-    ghost joined = { λ t _. t };
-
-    ghost met = { λ t _. t };
 
     ghost bounds = { unit_bounds };
 

@@ -15,6 +15,7 @@ use Rattle.plan.proofs.CountLemmas.{count_of-append, row_same}
 use Rattle.views.specs.Views.{update_at, is_later_at, later_below, IsReadOf}
 use Rattle.views.proofs.ViewLemmas.{take_position, later_there}
 use Rattle.views.proofs.SumLemmas.{sum_at-append}
+use Rattle.lattice.specs.Times.{Times}
 
 out : {X : Type 0} → Option X → X → X
 out (Some x) d = x
@@ -104,76 +105,76 @@ alike_behind xs ys more all h e row =
     let same = h row in
     e row ∙ omega (arith, ints, one, other, same)
 
-module _ {T : Type 0} (below : T → T → Bool) (t : T) where
+module _ {T : Type 0} (times : Times T) (t : T) where
   -- what is added up, with one more position
-  pub sums_more : (us : List (Update T)) (n k : ℕ) (old mid new : List Entry) → n ≤ k → k < length us → Alike mid (old ++ as_of below t (drop n (take k us))) → Alike new (mid ++ as_of below t (update_at us k))
-      → Alike new (old ++ as_of below t (drop n (take (k + 1) us)))
+  pub sums_more : (us : List (Update T)) (n k : ℕ) (old mid new : List Entry) → n ≤ k → k < length us → Alike mid (old ++ as_of times t (drop n (take k us))) → Alike new (mid ++ as_of times t (update_at us k))
+      → Alike new (old ++ as_of times t (drop n (take (k + 1) us)))
   sums_more us n k old mid new l h m e row =
       let long = length-take-le k us (omega (arith, h)) in
       let more : take (k + 1) us ≡ take k us ++ update_at us k = rw add-one (take_position us k) in
       let part : drop n (take (k + 1) us) ≡ drop n (take k us) ++ update_at us k = ap (drop n) more ∙ drop-append-le n (take k us) (update_at us k) (omega (arith, l, long)) in
-      let whole = ap (λ vs. count_of (as_of below t vs) row) part ∙ sum_at-append below t (drop n (take k us)) (update_at us k) row in
-      let before = m row ∙ count_of-append old (as_of below t (drop n (take k us))) row in
-      let now = e row ∙ count_of-append mid (as_of below t (update_at us k)) row in
-      let then = count_of-append old (as_of below t (drop n (take (k + 1) us))) row in
+      let whole = ap (λ vs. count_of (as_of times t vs) row) part ∙ sum_at-append times t (drop n (take k us)) (update_at us k) row in
+      let before = m row ∙ count_of-append old (as_of times t (drop n (take k us))) row in
+      let now = e row ∙ count_of-append mid (as_of times t (update_at us k)) row in
+      let then = count_of-append old (as_of times t (drop n (take (k + 1) us))) row in
       omega (arith, ints, whole, before, now, then)
 
   -- all that came in, added to what counts nothing, is the sum
-  pub all_came : (us : List (Update T)) (none old new : List Entry) (n : ℕ) → n ≡ length us → Alike none [] → old ≡ [] → Alike new (old ++ as_of below t (drop 0 (take n us))) → Alike (none ++ new) (as_of below t us)
+  pub all_came : (us : List (Update T)) (none old new : List Entry) (n : ℕ) → n ≡ length us → Alike none [] → old ≡ [] → Alike new (old ++ as_of times t (drop 0 (take n us))) → Alike (none ++ new) (as_of times t us)
   all_came us none old new n e z o h row =
       let both = count_of-append none new row in
       let nothing = z row in
-      let came = h row ∙ ap (λ es. count_of (es ++ as_of below t (take n us)) row) o ∙ ap (λ vs. count_of (as_of below t vs) row) (ap (λ k. take k us) e ∙ take_all (length us) us (omega arith)) in
+      let came = h row ∙ ap (λ es. count_of (es ++ as_of times t (take n us)) row) o ∙ ap (λ vs. count_of (as_of times t vs) row) (ap (λ k. take k us) e ∙ take_all (length us) us (omega arith)) in
       omega (arith, ints, both, nothing, came)
 
   -- what is added up at some positions, with one more
-  pub sums_of_more : (us : List (Update T)) (ks : List ℕ) (k : ℕ) (mid new : List Entry) → Alike mid (flat_map (λ j. as_of below t (update_at us j)) ks) → Alike new (mid ++ as_of below t (update_at us k))
-      → Alike new (flat_map (λ j. as_of below t (update_at us j)) (ks ++ k ∷ []))
+  pub sums_of_more : (us : List (Update T)) (ks : List ℕ) (k : ℕ) (mid new : List Entry) → Alike mid (flat_map (λ j. as_of times t (update_at us j)) ks) → Alike new (mid ++ as_of times t (update_at us k))
+      → Alike new (flat_map (λ j. as_of times t (update_at us j)) (ks ++ k ∷ []))
   sums_of_more us ks k mid new m e row =
-      let here = as_of below t (update_at us k) in
-      let all = flat_map-append (λ j. as_of below t (update_at us j)) ks (k ∷ []) ∙ ap (λ es. flat_map (λ j. as_of below t (update_at us j)) ks ++ es) (append-nil here) in
-      alike_before mid (flat_map (λ j. as_of below t (update_at us j)) ks) here new m e row ∙ ap (λ es. count_of es row) (sym all)
+      let here = as_of times t (update_at us k) in
+      let all = flat_map-append (λ j. as_of times t (update_at us j)) ks (k ∷ []) ∙ ap (λ es. flat_map (λ j. as_of times t (update_at us j)) ks ++ es) (append-nil here) in
+      alike_before mid (flat_map (λ j. as_of times t (update_at us j)) ks) here new m e row ∙ ap (λ es. count_of es row) (sym all)
 
-module _ {T : Type 0} (below : T → T → Bool) (t : T) (us : List (Update T)) (k : ℕ) (l : k < length us) (s : T) (time : IsSomeAnd (slice_get us k) (λ u. s ≡ u.time)) (b : Bool) (test : b ≡ below s t) where
+module _ {T : Type 0} (times : Times T) (t : T) (us : List (Update T)) (k : ℕ) (l : k < length us) (s : T) (time : IsSomeAnd (slice_get us k) (λ u. s ≡ u.time)) (b : Bool) (test : b ≡ times.below s t) where
   abbrev here : (u : Update T) × (update_at us k ≡ u ∷ []) × (slice_get us k ≡ Some u) × (u ≡ get_or us k u)
   here = found_at us k l
 
-  tested : below here.0.time t ≡ b
-  tested = sym (test ∙ ap (λ x. below x t) (subst (λ o. IsSomeAnd o (λ u. s ≡ u.time)) here.2 time))
+  tested : times.below here.0.time t ≡ b
+  tested = sym (test ∙ ap (λ x. times.below x t) (subst (λ o. IsSomeAnd o (λ u. s ≡ u.time)) here.2 time))
 
   -- whether an update is later is found from its time
-  pub later_found : not b ≡ is_later_at below t us k
-  later_found = sym (later_there below t us k here.0 b here.1 tested)
+  pub later_found : not b ≡ is_later_at times t us k
+  later_found = sym (later_there times t us k here.0 b here.1 tested)
 
   -- if it is, then nothing is added up
-  pub no_copy : b ≡ false → as_of below t (update_at us k) ≡ []
-  no_copy e = ap (as_of below t) here.1 ∙ ap (λ c. map entry (cond c (here.0 ∷ []) [])) (tested ∙ e)
+  pub no_copy : b ≡ false → as_of times t (update_at us k) ≡ []
+  no_copy e = ap (as_of times t) here.1 ∙ ap (λ c. map entry (cond c (here.0 ∷ []) [])) (tested ∙ e)
 
   -- if it is not, then the update is
-  pub added_one : b ≡ true → (xs ys : List Entry) → IsSomeAnd (slice_get us k) (λ u. Alike xs (ys ++ entry u ∷ [])) → Alike xs (ys ++ as_of below t (update_at us k))
+  pub added_one : b ≡ true → (xs ys : List Entry) → IsSomeAnd (slice_get us k) (λ u. Alike xs (ys ++ entry u ∷ [])) → Alike xs (ys ++ as_of times t (update_at us k))
   added_one e xs ys same row =
-      let found = ap (as_of below t) here.1 ∙ ap (λ c. map entry (cond c (here.0 ∷ []) [])) (tested ∙ e) in
+      let found = ap (as_of times t) here.1 ∙ ap (λ c. map entry (cond c (here.0 ∷ []) [])) (tested ∙ e) in
       subst (λ o. IsSomeAnd o (λ u. Alike xs (ys ++ entry u ∷ []))) here.2 same row ∙ ap (λ es. count_of (ys ++ es) row) (sym found)
 
   -- so is a copy of it
-  pub added_copy : b ≡ true → (old new : List (Update T)) (copy : Update T) → new ≡ old ++ copy ∷ [] → IsSomeAnd (slice_get us k) (λ u. copy ≡ u) → Alike (map entry new) (map entry old ++ as_of below t (update_at us k))
+  pub added_copy : b ≡ true → (old new : List (Update T)) (copy : Update T) → new ≡ old ++ copy ∷ [] → IsSomeAnd (slice_get us k) (λ u. copy ≡ u) → Alike (map entry new) (map entry old ++ as_of times t (update_at us k))
   added_copy e old new copy pushed same row =
-      let found = ap (as_of below t) here.1 ∙ ap (λ c. map entry (cond c (here.0 ∷ []) [])) (tested ∙ e) in
+      let found = ap (as_of times t) here.1 ∙ ap (λ c. map entry (cond c (here.0 ∷ []) [])) (tested ∙ e) in
       let own = subst (λ o. IsSomeAnd o (λ u. copy ≡ u)) here.2 same in
       ap (λ us. count_of us row) (ap (map entry) pushed ∙ map-append entry old (copy ∷ []) ∙ ap (λ u. map entry old ++ entry u ∷ []) own ∙ ap (λ es. map entry old ++ es) (sym found))
 
-module _ {T : Type 0} (below : T → T → Bool) (t : T) where
+module _ {T : Type 0} (times : Times T) (t : T) where
   one_few : (b : Bool) (k : ℕ) → length (cond b (k ∷ []) []) ≤ 1
   one_few true k = omega arith
   one_few false k = omega arith
 
   -- no more updates are later than there are
-  pub later_few : (us : List (Update T)) (n : ℕ) → length (later_below below t us n) ≤ n
+  pub later_few : (us : List (Update T)) (n : ℕ) → length (later_below times t us n) ≤ n
   later_few us zero = omega arith
   later_few us (suc n) =
       let few = later_few us n in
-      let one = one_few (is_later_at below t us n) n in
-      let more = ap length (filter-append (is_later_at below t us) (numbers_below n) (n ∷ [])) ∙ length-append (later_below below t us n) (cond (is_later_at below t us n) (n ∷ []) []) in
+      let one = one_few (is_later_at times t us n) n in
+      let more = ap length (filter-append (is_later_at times t us) (numbers_below n) (n ∷ [])) ∙ length-append (later_below times t us n) (cond (is_later_at times t us n) (n ∷ []) []) in
       omega (arith, few, one, more)
 
 take_twice : {X : Type 0} (n m : ℕ) (xs : List X) → n ≤ m → take n (take m xs) ≡ take n xs
@@ -182,17 +183,17 @@ take_twice (suc n) zero xs l = absurd (omega (arith, l))
 take_twice (suc n) (suc m) [] l = refl
 take_twice (suc n) (suc m) (x ∷ xs) l = ap (λ ys. x ∷ ys) (take_twice n m xs (omega (arith, l)))
 
-module _ {T : Type 0} (below : T → T → Bool) (t : T) (us : List (Update T)) where
+module _ {T : Type 0} (times : Times T) (t : T) (us : List (Update T)) where
   -- a read goes on by a part: what came in by then is added to its bag
-  pub read_of_part : (bag more : List Entry) (n m : ℕ) (ks js : List ℕ) → IsReadOf below us t bag n ks → n ≤ m → m ≤ length us → Alike more (bag ++ map entry (filter (λ u. below u.time t) (drop n (take m us)))) → js ≡ later_below below t us m → IsReadOf below us t more m js
+  pub read_of_part : (bag more : List Entry) (n m : ℕ) (ks js : List ℕ) → IsReadOf times us t bag n ks → n ≤ m → m ≤ length us → Alike more (bag ++ map entry (filter (λ u. times.below u.time t) (drop n (take m us)))) → js ≡ later_below times t us m → IsReadOf times us t more m js
   read_of_part bag more n m ks js read onward within sum later = record {
     within = within;
     sum = λ row.
         let part = drop n (take m us) in
         let was = read.sum row in
-        let split = count_of-append bag (map entry (filter (λ u. below u.time t) part)) row in
-        let whole = sum_at-append below t (take n us) part row in
-        let same = ap (λ vs. count_of (as_of below t (vs ++ part)) row) (sym (take_twice n m us onward)) ∙ ap (λ vs. count_of (as_of below t vs) row) (take-append-drop n (take m us)) in
+        let split = count_of-append bag (map entry (filter (λ u. times.below u.time t) part)) row in
+        let whole = sum_at-append times t (take n us) part row in
+        let same = ap (λ vs. count_of (as_of times t (vs ++ part)) row) (sym (take_twice n m us onward)) ∙ ap (λ vs. count_of (as_of times t vs) row) (take-append-drop n (take m us)) in
         sum row ∙ split ∙ omega (arith, ints, was, whole, same);
     rest = later;
   }

@@ -9,6 +9,7 @@ use Rattle.std.proofs.lemmas.Int.{ints}
 use Rattle.std.proofs.lemmas.List.{append-nil, map-append, length-append, take-append-le, take-append-drop}
 use Rattle.std.proofs.lemmas.List.Concat.{flat_map-append}
 use Rattle.std.proofs.lemmas.List.Elements.{filter-append, All-filter, All-from_recursion}
+use Rattle.lattice.specs.Times.{Times}
 use Rattle.lattice.specs.Order.{PartialOrderLaws}
 use Rattle.update.specs.Bags.{Entry, Alike, count_of}
 use Rattle.update.specs.Updates.{as_of, entry}
@@ -30,15 +31,15 @@ module _ {T : Type 0} where
   take_position (u ∷ us) zero = refl
   take_position (u ∷ us) (suc k) = ap (λ vs. u ∷ vs) (take_position us k)
 
-module _ {T : Type 0} (below : T → T → Bool) (t : T) where
+module _ {T : Type 0} (times : Times T) (t : T) where
   -- whether the update at a position is later is found from its time
-  pub later_there : (us : List (Update T)) (k : ℕ) (u : Update T) (b : Bool) → update_at us k ≡ u ∷ [] → below u.time t ≡ b → is_later_at below t us k ≡ not b
-  later_there us k u b e h = ap (list_any (λ v. not (below v.time t))) e ∙ or_none (not (below u.time t)) ∙ ap not h
+  pub later_there : (us : List (Update T)) (k : ℕ) (u : Update T) (b : Bool) → update_at us k ≡ u ∷ [] → times.below u.time t ≡ b → is_later_at times t us k ≡ not b
+  later_there us k u b e h = ap (list_any (λ v. not (times.below v.time t))) e ∙ or_none (not (times.below u.time t)) ∙ ap not h
 
   -- the later positions with one more, by whether its update is later
-  pub later_more : (us : List (Update T)) (k : ℕ) (b : Bool) → is_later_at below t us k ≡ b → later_below below t us (k + 1) ≡ later_below below t us k ++ cond b (k ∷ []) []
+  pub later_more : (us : List (Update T)) (k : ℕ) (b : Bool) → is_later_at times t us k ≡ b → later_below times t us (k + 1) ≡ later_below times t us k ++ cond b (k ∷ []) []
   later_more us k b h =
-      rw add-one (filter-append (is_later_at below t us) (numbers_below k) (k ∷ []) ∙ ap (λ c. later_below below t us k ++ cond c (k ∷ []) []) h)
+      rw add-one (filter-append (is_later_at times t us) (numbers_below k) (k ∷ []) ∙ ap (λ c. later_below times t us k ++ cond c (k ∷ []) []) h)
 
 -- A test that implies another
 module _ {X : Type 0} (p q : X → Bool) (weaker : (x : X) → p x ≡ true → q x ≡ true) where
@@ -93,113 +94,113 @@ module _ {T : Type 0} where
   one_or_none (u ∷ us) zero = inr (u, refl)
   one_or_none (u ∷ us) (suc k) = one_or_none us k
 
-module _ {T : Type 0} (below : T → T → Bool) where
+module _ {T : Type 0} (times : Times T) where
   -- the positions that a read keeps are those of captured updates
-  pub later_within : (us : List (Update T)) (t : T) (bag : List Entry) (n : ℕ) (ks : List ℕ) → IsReadOf below us t bag n ks → All (λ k. k < length us) ks
+  pub later_within : (us : List (Update T)) (t : T) (bag : List Entry) (n : ℕ) (ks : List ℕ) → IsReadOf times us t bag n ks → All (λ k. k < length us) ks
   later_within us t bag n ks r =
       subst (All (λ k. k < length us)) (sym r.rest)
-      (All-filter (is_later_at below t us) (λ k. k < length us) (numbers_below n) (All-from_recursion (λ k. k < length us) (numbers_below n) (small_numbers n (length us) r.within)))
+      (All-filter (is_later_at times t us) (λ k. k < length us) (numbers_below n) (All-from_recursion (λ k. k < length us) (numbers_below n) (small_numbers n (length us) r.within)))
 
   -- a read stays right after more updates are captured
-  pub read_appended : (us more : List (Update T)) (t : T) (bag : List Entry) (n : ℕ) (ks : List ℕ) → IsReadOf below us t bag n ks → IsReadOf below (us ++ more) t bag n ks
+  pub read_appended : (us more : List (Update T)) (t : T) (bag : List Entry) (n : ℕ) (ks : List ℕ) → IsReadOf times us t bag n ks → IsReadOf times (us ++ more) t bag n ks
   read_appended us more t bag n ks r = record {
     within = let l = r.within in omega (arith, l, length-append us more);
-    sum = λ row. r.sum row ∙ ap (λ vs. count_of (as_of below t vs) row) (sym (take-append-le n us more r.within));
-    rest = r.rest ∙ same_below (is_later_at below t us) (is_later_at below t (us ++ more)) n (λ k l. ap (list_any (λ u. not (below u.time t))) (sym (update_before us more k (let m = r.within in omega (arith, l, m)))));
+    sum = λ row. r.sum row ∙ ap (λ vs. count_of (as_of times t vs) row) (sym (take-append-le n us more r.within));
+    rest = r.rest ∙ same_below (is_later_at times t us) (is_later_at times t (us ++ more)) n (λ k l. ap (list_any (λ u. not (times.below u.time t))) (sym (update_before us more k (let m = r.within in omega (arith, l, m)))));
   }
 
   -- what a view remembers stays right whether or not a capture was refused
   pub still_remembered : {V E L : Type 0} (r : Result V E) (last : Option L) (time : L → T) (bag : L → List Entry) (n : L → ℕ) (ks : L → List ℕ) (old new more : List (Update T))
-      → OnOk r (new ≡ old ++ more) → OnErr r (new ≡ old) → IfSome last (λ x. IsReadOf below old (time x) (bag x) (n x) (ks x)) → IfSome last (λ x. IsReadOf below new (time x) (bag x) (n x) (ks x))
+      → OnOk r (new ≡ old ++ more) → OnErr r (new ≡ old) → IfSome last (λ x. IsReadOf times old (time x) (bag x) (n x) (ks x)) → IfSome last (λ x. IsReadOf times new (time x) (bag x) (n x) (ks x))
   still_remembered r None time bag n ks old new more h k a = tt
-  still_remembered (Ok v) (Some x) time bag n ks old new more h k a = subst (λ us. IsReadOf below us (time x) (bag x) (n x) (ks x)) (sym h) (read_appended old more (time x) (bag x) (n x) (ks x) a)
-  still_remembered (Err e) (Some x) time bag n ks old new more h k a = subst (λ us. IsReadOf below us (time x) (bag x) (n x) (ks x)) (sym k) a
+  still_remembered (Ok v) (Some x) time bag n ks old new more h k a = subst (λ us. IsReadOf times us (time x) (bag x) (n x) (ks x)) (sym h) (read_appended old more (time x) (bag x) (n x) (ks x) a)
+  still_remembered (Err e) (Some x) time bag n ks old new more h k a = subst (λ us. IsReadOf times us (time x) (bag x) (n x) (ks x)) (sym k) a
 
   -- a read that knows all captured updates
-  pub read_of_all : (us : List (Update T)) (t : T) (bag : List Entry) (ks : List ℕ) → Alike bag (as_of below t us) → ks ≡ later_below below t us (length us) → IsReadOf below us t bag (length us) ks
+  pub read_of_all : (us : List (Update T)) (t : T) (bag : List Entry) (ks : List ℕ) → Alike bag (as_of times t us) → ks ≡ later_below times t us (length us) → IsReadOf times us t bag (length us) ks
   read_of_all us t bag ks same e = record {
     within = omega arith;
-    sum = λ row. same row ∙ ap (λ vs. count_of (as_of below t vs) row) (sym (take_all (length us) us (omega arith)));
+    sum = λ row. same row ∙ ap (λ vs. count_of (as_of times t vs) row) (sym (take_all (length us) us (omega arith)));
     rest = e;
   }
 
-  module _ (o : PartialOrderLaws below) (s t : T) (onward : below s t ≡ true) where
+  module _ (o : PartialOrderLaws times) (s t : T) (onward : times.below s t ≡ true) where
     -- an update that is not at or before the later time is not at or before the earlier one
-    still : (u : Update T) → not (below u.time t) ≡ true → not (below u.time s) ≡ true
-    still u h = step (below u.time s) refl
+    still : (u : Update T) → not (times.below u.time t) ≡ true → not (times.below u.time s) ≡ true
+    still u h = step (times.below u.time s) refl
       where
-        step : (b : Bool) → below u.time s ≡ b → not b ≡ true
+        step : (b : Bool) → times.below u.time s ≡ b → not b ≡ true
         step true e = absurd (true≢false (sym h ∙ ap not (o.transitive u.time s t e onward)))
         step false e = refl
 
     -- the later positions of a read that goes on are among those of the earlier read
-    pub later_again : (us : List (Update T)) (n : ℕ) → filter (is_later_at below t us) (later_below below s us n) ≡ later_below below t us n
+    pub later_again : (us : List (Update T)) (n : ℕ) → filter (is_later_at times t us) (later_below times s us n) ≡ later_below times t us n
     later_again us n =
-        filter_again (is_later_at below t us) (is_later_at below s us)
-        (λ k. any_weaker (λ u. not (below u.time t)) (λ u. not (below u.time s)) still (update_at us k)) (numbers_below n)
+        filter_again (is_later_at times t us) (is_later_at times s us)
+        (λ k. any_weaker (λ u. not (times.below u.time t)) (λ u. not (times.below u.time s)) still (update_at us k)) (numbers_below n)
 
     abbrev arrived : List (Update T) → List (Update T)
-    arrived us = filter (λ u. below u.time t) us
+    arrived us = filter (λ u. times.below u.time t) us
 
     abbrev unknown : List (Update T) → List (Update T)
-    unknown us = filter (λ u. not (below u.time s)) us
+    unknown us = filter (λ u. not (times.below u.time s)) us
 
     -- the update that comes in from one position
-    come_in : (us : List (Update T)) (n : ℕ) → flat_map (λ k. arrived (update_at us k)) (cond (is_later_at below s us n) (n ∷ []) []) ≡ arrived (unknown (update_at us n))
+    come_in : (us : List (Update T)) (n : ℕ) → flat_map (λ k. arrived (update_at us k)) (cond (is_later_at times s us n) (n ∷ []) []) ≡ arrived (unknown (update_at us n))
     come_in us n = ⊎_elim
         (λ e. rw e refl)
-        (λ one. step one.0 one.1 (not (below one.0.time s)) refl)
+        (λ one. step one.0 one.1 (not (times.below one.0.time s)) refl)
         (one_or_none us n)
       where
-        step : (u : Update T) → update_at us n ≡ u ∷ [] → (b : Bool) → not (below u.time s) ≡ b → flat_map (λ k. arrived (update_at us k)) (cond (is_later_at below s us n) (n ∷ []) []) ≡ arrived (unknown (update_at us n))
+        step : (u : Update T) → update_at us n ≡ u ∷ [] → (b : Bool) → not (times.below u.time s) ≡ b → flat_map (λ k. arrived (update_at us k)) (cond (is_later_at times s us n) (n ∷ []) []) ≡ arrived (unknown (update_at us n))
         step u e true h =
-            ap (λ b. flat_map (λ k. arrived (update_at us k)) (cond b (n ∷ []) [])) (ap (list_any (λ v. not (below v.time s))) e ∙ or_none (not (below u.time s)) ∙ h)
+            ap (λ b. flat_map (λ k. arrived (update_at us k)) (cond b (n ∷ []) [])) (ap (list_any (λ v. not (times.below v.time s))) e ∙ or_none (not (times.below u.time s)) ∙ h)
             ∙ append-nil (arrived (update_at us n))
             ∙ ap arrived e
             ∙ ap (λ b. arrived (cond b (u ∷ []) [])) (sym h)
             ∙ ap (λ vs. arrived (unknown vs)) (sym e)
         step u e false h =
-            ap (λ b. flat_map (λ k. arrived (update_at us k)) (cond b (n ∷ []) [])) (ap (list_any (λ v. not (below v.time s))) e ∙ or_none (not (below u.time s)) ∙ h)
+            ap (λ b. flat_map (λ k. arrived (update_at us k)) (cond b (n ∷ []) [])) (ap (list_any (λ v. not (times.below v.time s))) e ∙ or_none (not (times.below u.time s)) ∙ h)
             ∙ ap (λ b. arrived (cond b (u ∷ []) [])) (sym h)
             ∙ ap (λ vs. arrived (unknown vs)) (sym e)
 
     -- the updates that come in from the positions of a read
-    pub all_come_in : (us : List (Update T)) (n : ℕ) → flat_map (λ k. arrived (update_at us k)) (later_below below s us n) ≡ arrived (unknown (take n us))
+    pub all_come_in : (us : List (Update T)) (n : ℕ) → flat_map (λ k. arrived (update_at us k)) (later_below times s us n) ≡ arrived (unknown (take n us))
     all_come_in us zero = refl
     all_come_in us (suc n) =
-        ap (flat_map (λ k. arrived (update_at us k))) (filter-append (is_later_at below s us) (numbers_below n) (n ∷ []))
-        ∙ flat_map-append (λ k. arrived (update_at us k)) (later_below below s us n) (cond (is_later_at below s us n) (n ∷ []) [])
+        ap (flat_map (λ k. arrived (update_at us k))) (filter-append (is_later_at times s us) (numbers_below n) (n ∷ []))
+        ∙ flat_map-append (λ k. arrived (update_at us k)) (later_below times s us n) (cond (is_later_at times s us n) (n ∷ []) [])
         ∙ ap₂ (λ xs ys. xs ++ ys) (all_come_in us n) (come_in us n)
-        ∙ sym (filter-append (λ u. below u.time t) (unknown (take n us)) (unknown (update_at us n)))
-        ∙ ap arrived (sym (filter-append (λ u. not (below u.time s)) (take n us) (update_at us n)))
+        ∙ sym (filter-append (λ u. times.below u.time t) (unknown (take n us)) (unknown (update_at us n)))
+        ∙ ap arrived (sym (filter-append (λ u. not (times.below u.time s)) (take n us) (update_at us n)))
         ∙ ap (λ vs. arrived (unknown vs)) (sym (take_position us n))
 
     -- the sum at the earlier time, and what comes in, are the sum at the later time
-    both_parts : (us : List (Update T)) (row : List ℤ) → count_of (as_of below s us) row +ℤ count_of (map entry (arrived (unknown us))) row ≡ count_of (as_of below t us) row
+    both_parts : (us : List (Update T)) (row : List ℤ) → count_of (as_of times s us) row +ℤ count_of (map entry (arrived (unknown us))) row ≡ count_of (as_of times t us) row
     both_parts [] row = refl
-    both_parts (u ∷ us) row = step (below u.time s) refl (below u.time t) refl (both_parts us row)
+    both_parts (u ∷ us) row = step (times.below u.time s) refl (times.below u.time t) refl (both_parts us row)
       where
-        step : (a : Bool) → below u.time s ≡ a → (b : Bool) → below u.time t ≡ b
-            → count_of (as_of below s us) row +ℤ count_of (map entry (arrived (unknown us))) row ≡ count_of (as_of below t us) row
-            → count_of (map entry (cond a (u ∷ filter (λ v. below v.time s) us) (filter (λ v. below v.time s) us))) row +ℤ count_of (map entry (arrived (cond (not a) (u ∷ unknown us) (unknown us)))) row
+        step : (a : Bool) → times.below u.time s ≡ a → (b : Bool) → times.below u.time t ≡ b
+            → count_of (as_of times s us) row +ℤ count_of (map entry (arrived (unknown us))) row ≡ count_of (as_of times t us) row
+            → count_of (map entry (cond a (u ∷ filter (λ v. times.below v.time s) us) (filter (λ v. times.below v.time s) us))) row +ℤ count_of (map entry (arrived (cond (not a) (u ∷ unknown us) (unknown us)))) row
             ≡ count_of (map entry (cond b (u ∷ arrived us) (arrived us))) row
         step true e true f ih = omega (arith, ints, ih)
         step true e false f ih = absurd (true≢false (sym (o.transitive u.time s t e onward) ∙ f))
         step false e true f ih = rw f (omega (arith, ints, ih))
         step false e false f ih = rw f ih
 
-    each_sum : (us : List (Update T)) (ks : List ℕ) → flat_map (λ k. as_of below t (update_at us k)) ks ≡ map entry (flat_map (λ k. arrived (update_at us k)) ks)
+    each_sum : (us : List (Update T)) (ks : List ℕ) → flat_map (λ k. as_of times t (update_at us k)) ks ≡ map entry (flat_map (λ k. arrived (update_at us k)) ks)
     each_sum us [] = refl
-    each_sum us (k ∷ ks) = ap (λ es. as_of below t (update_at us k) ++ es) (each_sum us ks) ∙ sym (map-append entry (arrived (update_at us k)) (flat_map (λ j. arrived (update_at us j)) ks))
+    each_sum us (k ∷ ks) = ap (λ es. as_of times t (update_at us k) ++ es) (each_sum us ks) ∙ sym (map-append entry (arrived (update_at us k)) (flat_map (λ j. arrived (update_at us j)) ks))
 
     -- the bag of the earlier read, with all that came in, is the sum at the later time
-    pub read_onward : (us : List (Update T)) (came bag : List Entry) (n : ℕ) (ks : List ℕ) → IsReadOf below us s bag n ks
-        → Alike came (flat_map (λ k. as_of below t (update_at us k)) ks ++ as_of below t (drop n us)) → Alike (bag ++ came) (as_of below t us)
+    pub read_onward : (us : List (Update T)) (came bag : List Entry) (n : ℕ) (ks : List ℕ) → IsReadOf times us s bag n ks
+        → Alike came (flat_map (λ k. as_of times t (update_at us k)) ks ++ as_of times t (drop n us)) → Alike (bag ++ came) (as_of times t us)
     read_onward us came bag n ks r e row =
         let known = each_sum us ks ∙ ap (map entry) (ap (flat_map (λ k. arrived (update_at us k))) r.rest ∙ all_come_in us n) in
         let split = count_of-append bag came row in
-        let parts = e row ∙ ap (λ es. count_of (es ++ as_of below t (drop n us)) row) known ∙ count_of-append (map entry (arrived (unknown (take n us)))) (as_of below t (drop n us)) row in
+        let parts = e row ∙ ap (λ es. count_of (es ++ as_of times t (drop n us)) row) known ∙ count_of-append (map entry (arrived (unknown (take n us)))) (as_of times t (drop n us)) row in
         let first = both_parts (take n us) row in
         let same = r.sum row in
-        let whole = ap (λ vs. count_of (as_of below t vs) row) (sym (take-append-drop n us)) ∙ sum_at-append below t (take n us) (drop n us) row in
+        let whole = ap (λ vs. count_of (as_of times t vs) row) (sym (take-append-drop n us)) ∙ sum_at-append times t (take n us) (drop n us) row in
         omega (arith, ints, split, parts, first, same, whole)

@@ -7,6 +7,7 @@ use Rattle.update.specs.declared.change.Update.{Update}
 use Rattle.update.specs.declared.refusal.Refusal.{Refusal}
 use Rattle.plan.specs.Ancestors.{numbers_below}
 use Rattle.update.specs.Refusals.{IsMemoryOrOverflow}
+use Rattle.lattice.specs.Times.{Times}
 
 -- a view: the frontier beyond which it may be read, and what it captured
 pub record ViewState (T : Type 0) : Type 0 where
@@ -17,10 +18,10 @@ pub record ViewState (T : Type 0) : Type 0 where
 abbrev pub update_at : {T : Type 0} → List (Update T) → ℕ → List (Update T)
 update_at us k = take 1 (drop k us)
 
-module _ {T : Type 0} (below : T → T → Bool) where
+module _ {T : Type 0} (times : Times T) where
   -- summed to a time, some row of the updates has a count that does not fit in 64 bits
   abbrev pub HasLargeSum : List (Update T) → T → Type 0
-  HasLargeSum us t = HasLargeCount (as_of below t us)
+  HasLargeSum us t = HasLargeCount (as_of times t us)
 
   -- how the sum of updates at a time may be refused
   abbrev pub IsSumRefusal : List (Update T) → T → Refusal → Type 0
@@ -28,7 +29,7 @@ module _ {T : Type 0} (below : T → T → Bool) where
 
   -- the update at a position is not at or before t
   abbrev pub is_later_at : T → List (Update T) → ℕ → Bool
-  is_later_at t us k = list_any (λ u. not (below u.time t)) (update_at us k)
+  is_later_at t us k = list_any (λ u. not (times.below u.time t)) (update_at us k)
 
   -- the positions below n of the updates that are not at or before t
   abbrev pub later_below : T → List (Update T) → ℕ → List ℕ
@@ -38,5 +39,5 @@ module _ {T : Type 0} (below : T → T → Bool) where
   -- `later` are the positions of those of them that are not at or before it
   pub record IsReadOf (captured : List (Update T)) (time : T) (bag : List Entry) (known : ℕ) (later : List ℕ) : Type 0 where
     pub within : known ≤ length captured
-    pub sum : Alike bag (as_of below time (take known captured))
+    pub sum : Alike bag (as_of times time (take known captured))
     pub rest : later ≡ later_below time captured known

@@ -12,6 +12,7 @@
 //! was captured. A read at any other time sums anew. Each read becomes the last one.
 ghost use Rattle.std.specs.Prelude.{◌≡◌, ◌≤◌, ◌<◌, ◌⊎◌, ◌-◌, ◌++◌, ◌∷◌, List, [], Some, IfErr, IfOk, OnErr, OnOk, IfSome, IsSomeAnd, IsTrue, false, length, map, take, drop, slice_get};
 ghost use Rattle.std.specs.List.{All, filter, flat_map};
+ghost use Rattle.update.specs.Refusals.{OnlyMemory};
 ghost use Rattle.update.specs.Bags.{Alike, IsBag, entry_of};
 ghost use Rattle.update.specs.Updates.{as_of, entry};
 ghost use Rattle.update.specs.declared.change.Update.{Update};
@@ -52,10 +53,10 @@ pub(crate) fn read_anew<T: Minimum>(
     t: T,
 ) -> Result<LastRead<T>, Refusal>
     ensures read { IfOk result (λ r.
-        IsReadOf T.below captured.now r.time r.bag r.known r.later.items) }
+        IsReadOf T.times captured.now r.time r.bag r.known r.later.items) }
     ensures bag { IfOk result (λ r. IsBag r.bag) }
-    ensures sum { IfOk result (λ r. Alike r.bag (as_of T.below t captured.now)) }
-    ensures refused { IfErr result (IsSumRefusal T.below captured.now t) }
+    ensures sum { IfOk result (λ r. Alike r.bag (as_of T.times t captured.now)) }
+    ensures refused { IfErr result (IsSumRefusal T.times captured.now t) }
 {
     match read_in_parts(alloc, captured, t) {
         Err(Refusal::Overflow) => read_at_once(alloc, captured, t),
@@ -72,9 +73,9 @@ fn read_in_parts<T: Minimum>(
     t: T,
 ) -> Result<LastRead<T>, Refusal>
     ensures read { IfOk result (λ r.
-        IsReadOf T.below captured.now r.time r.bag r.known r.later.items) }
+        IsReadOf T.times captured.now r.time r.bag r.known r.later.items) }
     ensures bag { IfOk result (λ r. IsBag r.bag) }
-    ensures sum { IfOk result (λ r. Alike r.bag (as_of T.below t captured.now)) }
+    ensures sum { IfOk result (λ r. Alike r.bag (as_of T.times t captured.now)) }
     ensures refused { IfErr result (λ refusal. (refusal ≡ OutOfMemory) ⊎ (refusal ≡ Overflow)) }
 {
     let mut read = nothing_read(alloc, t)?;
@@ -88,7 +89,7 @@ fn read_in_parts<T: Minimum>(
 // A read of no updates.
 fn nothing_read<T: Minimum>(alloc: Global, t: T) -> Result<LastRead<T>, Refusal>
     ensures read { IfOk result (λ r. (us : List (Update T))
-        → IsReadOf T.below us r.time r.bag r.known r.later.items) }
+        → IsReadOf T.times us r.time r.bag r.known r.later.items) }
     ensures bag { IfOk result (λ r. IsBag r.bag) }
     ensures time { IfOk result (λ r. r.time ≡ t) }
     ensures refused { IfErr result (λ refusal. (refusal ≡ OutOfMemory) ⊎ (refusal ≡ Overflow)) }
@@ -118,11 +119,11 @@ fn read_part<T: Minimum>(
     read: &mut LastRead<T>,
     until: usize,
 ) -> Result<(), Refusal>
-    requires read { IsReadOf T.below captured.now
+    requires read { IsReadOf T.times captured.now
         read.old.time read.old.bag read.old.known read.old.later.items }
     requires onward { read.old.known ≤ until }
     requires within { until ≤ length captured.now }
-    ensures read { OnOk result (IsReadOf T.below captured.now
+    ensures read { OnOk result (IsReadOf T.times captured.now
         read.new.time read.new.bag read.new.known read.new.later.items) }
     ensures bag { OnOk result (IsBag read.new.bag) }
     ensures time { read.new.time ≡ read.old.time }
@@ -144,10 +145,10 @@ fn read_at_once<T: Minimum>(
     t: T,
 ) -> Result<LastRead<T>, Refusal>
     ensures read { IfOk result (λ r.
-        IsReadOf T.below captured.now r.time r.bag r.known r.later.items) }
+        IsReadOf T.times captured.now r.time r.bag r.known r.later.items) }
     ensures bag { IfOk result (λ r. IsBag r.bag) }
-    ensures sum { IfOk result (λ r. Alike r.bag (as_of T.below t captured.now)) }
-    ensures refused { IfErr result (IsSumRefusal T.below captured.now t) }
+    ensures sum { IfOk result (λ r. Alike r.bag (as_of T.times t captured.now)) }
+    ensures refused { IfErr result (IsSumRefusal T.times captured.now t) }
 {
     let mut later = Vec::new(alloc);
     push_later(&mut later, captured, 0..captured.len(), &t)?;
@@ -169,8 +170,8 @@ fn sum_captured<T: Minimum>(
     t: T,
 ) -> Result<Bag, Refusal>
     ensures bag { IfOk result IsBag }
-    ensures sum { IfOk result (λ bag. Alike bag (as_of T.below t captured.now)) }
-    ensures refused { IfErr result (IsSumRefusal T.below captured.now t) }
+    ensures sum { IfOk result (λ bag. Alike bag (as_of T.times t captured.now)) }
+    ensures refused { IfErr result (IsSumRefusal T.times captured.now t) }
 {
     let mut arrived = Vec::with_capacity(alloc, room)?;
     push_arrived(&mut arrived, captured, 0..captured.len(), &t)?;
@@ -186,14 +187,14 @@ pub(crate) fn read_on<T: Minimum>(
     last: &LastRead<T>,
     t: T,
 ) -> Result<LastRead<T>, Refusal>
-    requires last { IsReadOf T.below captured.now
+    requires last { IsReadOf T.times captured.now
         last.now.time last.now.bag last.now.known last.now.later.items }
-    requires onward { IsTrue (T.below last.now.time t) }
+    requires onward { IsTrue (T.times.below last.now.time t) }
     ensures read { IfOk result (λ r.
-        IsReadOf T.below captured.now r.time r.bag r.known r.later.items) }
+        IsReadOf T.times captured.now r.time r.bag r.known r.later.items) }
     ensures bag { IfOk result (λ r. IsBag r.bag) }
-    ensures sum { IfOk result (λ r. Alike r.bag (as_of T.below t captured.now)) }
-    ensures refused { IfErr result (IsSumRefusal T.below captured.now t) }
+    ensures sum { IfOk result (λ r. Alike r.bag (as_of T.times t captured.now)) }
+    ensures refused { IfErr result (IsSumRefusal T.times captured.now t) }
 {
     let arrived = arrived_since(alloc, captured, last, &t)?;
     let later = later_since(alloc, captured, last, &t)?;
@@ -214,12 +215,12 @@ fn arrived_since<T: Minimum>(
     last: &LastRead<T>,
     t: &T,
 ) -> Result<Vec<Update<T>>, Refusal>
-    requires { IsReadOf T.below captured.now
+    requires { IsReadOf T.times captured.now
         last.now.time last.now.bag last.now.known last.now.later.items }
     ensures arrived { IfOk result (λ arrived. Alike (map entry arrived.items)
-        (flat_map (λ k. as_of T.below t.now (update_at captured.now k)) last.now.later.items
-        ++ as_of T.below t.now (drop last.now.known captured.now))) }
-    ensures refused { IfErr result (λ refusal. refusal ≡ OutOfMemory) }
+        (flat_map (λ k. as_of T.times t.now (update_at captured.now k)) last.now.later.items
+        ++ as_of T.times t.now (drop last.now.known captured.now))) }
+    ensures refused { OnlyMemory result }
 {
     let mut arrived = arrived_at(alloc, captured, &last.later, t)?;
     arrived.reserve(PART.min(captured.len().saturating_sub(last.known)))?;
@@ -235,12 +236,12 @@ fn later_since<T: Minimum>(
     last: &LastRead<T>,
     t: &T,
 ) -> Result<Vec<usize>, Refusal>
-    requires last { IsReadOf T.below captured.now
+    requires last { IsReadOf T.times captured.now
         last.now.time last.now.bag last.now.known last.now.later.items }
-    requires onward { IsTrue (T.below last.now.time t.now) }
+    requires onward { IsTrue (T.times.below last.now.time t.now) }
     ensures later { IfOk result (λ later. later.items
-        ≡ later_below T.below t.now captured.now (length captured.now)) }
-    ensures refused { IfErr result (λ refusal. refusal ≡ OutOfMemory) }
+        ≡ later_below T.times t.now captured.now (length captured.now)) }
+    ensures refused { OnlyMemory result }
 {
     let mut later = still_later(alloc, captured, &last.later, t)?;
     push_later(&mut later, captured, last.known..captured.len(), t)?;
@@ -257,8 +258,8 @@ fn arrived_at<T: Minimum>(
 ) -> Result<Vec<Update<T>>, Refusal>
     requires { All (λ k. k < length captured.now) positions.now }
     ensures arrived { IfOk result (λ arrived. Alike (map entry arrived.items)
-        (flat_map (λ k. as_of T.below t.now (update_at captured.now k)) positions.now)) }
-    ensures refused { IfErr result (λ refusal. refusal ≡ OutOfMemory) }
+        (flat_map (λ k. as_of T.times t.now (update_at captured.now k)) positions.now)) }
+    ensures refused { OnlyMemory result }
 {
     let mut arrived = Vec::new(alloc);
     let mut run = 0;
@@ -279,8 +280,8 @@ fn push_arrived<T: Minimum>(
     requires ordered { part.start ≤ part.end }
     requires within { part.end ≤ length captured.now }
     ensures more { OnOk result (Alike (map entry arrived.new.items) (map entry arrived.old.items
-        ++ as_of T.below t.now (drop part.start (take part.end captured.now)))) }
-    ensures refused { IfErr result (λ refusal. refusal ≡ OutOfMemory) }
+        ++ as_of T.times t.now (drop part.start (take part.end captured.now)))) }
+    ensures refused { OnlyMemory result }
 {
     let mut run = 0;
     for position in part.start..part.end {
@@ -301,8 +302,8 @@ fn push_if_arrived<T: Minimum>(
 ) -> Result<usize, Refusal>
     requires { position < length captured.now }
     ensures more { OnOk result (Alike (map entry arrived.new.items) (map entry arrived.old.items
-        ++ as_of T.below t.now (update_at captured.now position))) }
-    ensures refused { IfErr result (λ refusal. refusal ≡ OutOfMemory) }
+        ++ as_of T.times t.now (update_at captured.now position))) }
+    ensures refused { OnlyMemory result }
 {
     if !captured.time(position).less_equal(t) {
         return Ok(near);
@@ -380,7 +381,7 @@ fn add_at<T: Minimum>(arrived: &mut Vec<Update<T>>, place: usize, diff: i64) -> 
 // Whether the update at a position is not at or before a time.
 fn is_later_at<T: Minimum>(captured: &Columns<T>, position: usize, t: &T) -> bool
     requires { position < length captured.now }
-    ensures { result ≡ is_later_at T.below t.now captured.now position }
+    ensures { result ≡ is_later_at T.times t.now captured.now position }
 {
     !captured.time(position).less_equal(t)
 }
@@ -394,8 +395,8 @@ fn still_later<T: Minimum>(
 ) -> Result<Vec<usize>, Refusal>
     requires { All (λ k. k < length captured.now) positions.now }
     ensures later { IfOk result (λ later. later.items
-        ≡ filter (is_later_at T.below t.now captured.now) positions.now) }
-    ensures refused { IfErr result (λ refusal. refusal ≡ OutOfMemory) }
+        ≡ filter (is_later_at T.times t.now captured.now) positions.now) }
+    ensures refused { OnlyMemory result }
 {
     let mut later = Vec::new(alloc);
     for position in positions {
@@ -415,10 +416,10 @@ fn push_later<T: Minimum>(
 ) -> Result<(), Refusal>
     requires ordered { part.start ≤ part.end }
     requires within { part.end ≤ length captured.now }
-    requires before { later.old.items ≡ later_below T.below t.now captured.now part.start }
+    requires before { later.old.items ≡ later_below T.times t.now captured.now part.start }
     ensures later { OnOk result (later.new.items
-        ≡ later_below T.below t.now captured.now part.end) }
-    ensures refused { IfErr result (λ refusal. refusal ≡ OutOfMemory) }
+        ≡ later_below T.times t.now captured.now part.end) }
+    ensures refused { OnlyMemory result }
 {
     for position in part.start..part.end {
         if is_later_at(captured, position, t) {

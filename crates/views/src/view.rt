@@ -1,9 +1,9 @@
 //! What is kept of one view: what it captured, the frontier beyond which it may be read, and its
 //! last read.
 ghost use Rattle.std.specs.Prelude.{◌≡◌, ◌++◌, [], IfErr, IfOk, OnErr, OnOk};
+ghost use Rattle.update.specs.Refusals.{OnlyMemory};
 ghost use Rattle.update.specs.Bags.{Alike, IsBag};
 ghost use Rattle.update.specs.Updates.{as_of};
-ghost use Rattle.update.specs.declared.refusal.Refusal.TheVariants.{OutOfMemory};
 ghost use Rattle.views.specs.Views.{IsReadOf, IsSumRefusal};
 
 use crate::last_read::{LastRead, read_anew, read_on};
@@ -35,7 +35,7 @@ impl<T: Minimum> Model for View<T> {
     ghost view = { λ v. record { since = v.since; captured = v.captured } };
 
     ghost invariant = { λ v. IfSome v.last (λ r.
-        IsReadOf T.below v.captured r.time r.bag r.known r.later.items) };
+        IsReadOf T.times v.captured r.time r.bag r.known r.later.items) };
 }
 
 impl<T: Minimum> View<T> {
@@ -84,7 +84,7 @@ impl<T: Minimum> View<T> {
     pub fn capture(&mut self, updates: &mut UpdateList<T>) -> Result<(), Refusal>
         ensures more { OnOk result
             (self.new ≡ record self.old { captured = self.old.captured ++ updates.old }) }
-        ensures refused { IfErr result (λ refusal. refusal ≡ OutOfMemory) }
+        ensures refused { OnlyMemory result }
         ensures unchanged { OnErr result (self.new ≡ self.old) }
         ensures kept { OnErr result (updates.new ≡ updates.old) }
     {
@@ -97,7 +97,7 @@ impl<T: Minimum> View<T> {
     pub fn append(&mut self, updates: &UpdateList<T>) -> Result<(), Refusal>
         ensures more { OnOk result
             (self.new ≡ record self.old { captured = self.old.captured ++ updates.now }) }
-        ensures refused { IfErr result (λ refusal. refusal ≡ OutOfMemory) }
+        ensures refused { OnlyMemory result }
         ensures unchanged { OnErr result (self.new ≡ self.old) }
     {
         updates.append_to(&mut self.captured)
@@ -115,8 +115,8 @@ impl<T: Minimum> View<T> {
     pub fn sum_at(&mut self, alloc: Global, t: T) -> Result<Bag, Refusal>
         ensures kept { self.new ≡ self.old }
         ensures bag { IfOk result IsBag }
-        ensures sum { IfOk result (λ bag. Alike bag (as_of T.below t self.old.captured)) }
-        ensures refused { IfErr result (IsSumRefusal T.below self.old.captured t) }
+        ensures sum { IfOk result (λ bag. Alike bag (as_of T.times t self.old.captured)) }
+        ensures refused { IfErr result (IsSumRefusal T.times self.old.captured t) }
     {
         let read = self.read_at(alloc, t)?;
         let bag = read.bag.clone()?;
@@ -128,10 +128,10 @@ impl<T: Minimum> View<T> {
     // time.
     fn read_at(&self, alloc: Global, t: T) -> Result<LastRead<T>, Refusal>
         ensures read { IfOk result (λ r.
-            IsReadOf T.below self.now.captured r.time r.bag r.known r.later.items) }
+            IsReadOf T.times self.now.captured r.time r.bag r.known r.later.items) }
         ensures bag { IfOk result (λ r. IsBag r.bag) }
-        ensures sum { IfOk result (λ r. Alike r.bag (as_of T.below t self.now.captured)) }
-        ensures refused { IfErr result (IsSumRefusal T.below self.now.captured t) }
+        ensures sum { IfOk result (λ r. Alike r.bag (as_of T.times t self.now.captured)) }
+        ensures refused { IfErr result (IsSumRefusal T.times self.now.captured t) }
     {
         let captured = &self.captured;
         match &self.last {

@@ -10,8 +10,8 @@ ghost use Rattle.columns.specs.Keys.{by_row_then_time, begins_with, is_left_behi
 ghost use Rattle.columns.specs.Runs.{row_starts, run_place};
 
 use crate::Columns;
+use crate::key_search::{first_kept, gallop};
 use crate::runs::place_of;
-use crate::seeking::{first_kept, gallop};
 use lattice::Lattice;
 use row::Row;
 use std::ops::Range;

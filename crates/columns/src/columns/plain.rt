@@ -1,13 +1,13 @@
 //! Lists of plain updates, such as an operator gives them: appending one as a whole, and copying
 //! single updates out.
 //!
-//! An append that is refused takes back the updates that it has pushed so far. It cuts off the times
-//! and the differences where the first of them stands, and keeps the runs that begin before that
-//! place.
-ghost use Rattle.std.specs.Prelude.{◌≡◌, ◌<◌, ◌≤◌, ◌++◌, take, length, slice_get, IsSomeAnd, IfErr, IfOk, OnOk, OnErr};
+//! An append that is refused takes back the updates that it has pushed so far. It cuts off the
+//! times and the differences where the first of them stands, and keeps the runs that begin before
+//! that place.
+ghost use Rattle.std.specs.Prelude.{◌≡◌, ◌<◌, ◌≤◌, ◌++◌, take, length, slice_get, IsSomeAnd, IfOk, OnOk, OnErr};
 ghost use Rattle.std.specs.List.{AllPairs};
 ghost use Rattle.std.specs.List.Sorted.{IsPartitionPoint};
-ghost use Rattle.update.specs.declared.refusal.Refusal.TheVariants.{OutOfMemory};
+ghost use Rattle.update.specs.Refusals.{OnlyMemory};
 ghost use Rattle.columns.specs.Runs.{run_number, row_starts};
 
 use crate::columns::Columns;
@@ -47,7 +47,7 @@ impl<T: Lattice> Columns<T> {
     pub fn append(&mut self, more: &[Update<T>]) -> Result<(), Refusal>
         ensures more { OnOk result (self.new ≡ self.old ++ more.now) }
         ensures same { OnErr result (self.new ≡ self.old) }
-        ensures refused { IfErr result (λ refusal. refusal ≡ OutOfMemory) }
+        ensures refused { OnlyMemory result }
     {
         let before = self.len();
         match self.push_all(more) {
@@ -64,7 +64,7 @@ impl<T: Lattice> Columns<T> {
     fn push_all(&mut self, more: &[Update<T>]) -> Result<(), Refusal>
         ensures more { OnOk result (self.new ≡ self.old ++ more.now) }
         ensures kept { take (length self.old) self.new ≡ self.old }
-        ensures refused { IfErr result (λ refusal. refusal ≡ OutOfMemory) }
+        ensures refused { OnlyMemory result }
     {
         self.times.reserve(more.len())?;
         self.diffs.reserve(more.len())?;
@@ -81,7 +81,7 @@ impl<T: Lattice> Columns<T> {
     pub fn append_columns(&mut self, more: &Columns<T>) -> Result<(), Refusal>
         ensures more { OnOk result (self.new ≡ self.old ++ more.now) }
         ensures same { OnErr result (self.new ≡ self.old) }
-        ensures refused { IfErr result (λ refusal. refusal ≡ OutOfMemory) }
+        ensures refused { OnlyMemory result }
     {
         let len = self.len();
         match self.push_columns(more) {
@@ -102,7 +102,7 @@ impl<T: Lattice> Columns<T> {
         ensures more { OnOk result (self.new ≡ self.old ++ more.old) }
         ensures same { OnErr result (self.new ≡ self.old) }
         ensures left { OnErr result (more.new ≡ more.old) }
-        ensures refused { IfErr result (λ refusal. refusal ≡ OutOfMemory) }
+        ensures refused { OnlyMemory result }
     {
         if self.len() == 0 {
             mem::swap(self, more);
@@ -116,7 +116,7 @@ impl<T: Lattice> Columns<T> {
     fn push_columns(&mut self, more: &Columns<T>) -> Result<(), Refusal>
         ensures more { OnOk result (self.new ≡ self.old ++ more.now) }
         ensures kept { take (length self.old) self.new ≡ self.old }
-        ensures refused { IfErr result (λ refusal. refusal ≡ OutOfMemory) }
+        ensures refused { OnlyMemory result }
     {
         self.times.reserve(more.len())?;
         self.diffs.reserve(more.len())?;
@@ -128,13 +128,13 @@ impl<T: Lattice> Columns<T> {
         Ok(())
     }
 
-    /// A copy of all updates, column by column, with no more memory than they need. Refused only with
-    /// `OutOfMemory`.
+    /// A copy of all updates, column by column, with no more memory than they need. Refused only
+    /// with `OutOfMemory`.
     ///
     /// Cost: the columns are copied as they stand. No row is made, and none is compared.
     pub fn to_columns(&self, alloc: Global) -> Result<Columns<T>, Refusal>
         ensures copied { IfOk result (λ copy. copy ≡ self.now) }
-        ensures refused { IfErr result (λ refusal. refusal ≡ OutOfMemory) }
+        ensures refused { OnlyMemory result }
     {
         let times = Vec::from_slice(alloc, self.times.as_slice())?;
         let diffs = Vec::from_slice(alloc, self.diffs.as_slice())?;
@@ -153,7 +153,7 @@ impl<T: Lattice> Columns<T> {
     /// Cost: one step for each column of each row. So many updates take 104 bytes each.
     pub fn to_vec(&self, alloc: Global) -> Result<Vec<Update<T>>, Refusal>
         ensures copied { IfOk result (λ list. list.items ≡ self.now) }
-        ensures refused { IfErr result (λ refusal. refusal ≡ OutOfMemory) }
+        ensures refused { OnlyMemory result }
     {
         let mut list = Vec::with_capacity(alloc, self.len())?;
         let mut run = 0;
@@ -193,7 +193,7 @@ impl<T: Lattice> Columns<T> {
             (λ width. IsSomeAnd (slice_get self.now i) (λ u. width ≡ length u.row)) }
         ensures some { IfOk result (λ width. 1 ≤ width) }
         ensures few { IfOk result (λ width. width ≤ 8) }
-        ensures refused { IfErr result (λ refusal. refusal ≡ OutOfMemory) }
+        ensures refused { OnlyMemory result }
     {
         let before = list.len();
         match self.rows.append_row(run, list) {

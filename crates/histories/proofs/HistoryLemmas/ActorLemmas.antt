@@ -12,6 +12,7 @@ use Rattle.histories.specs.Histories.States.{State, held_at}
 use Rattle.histories.specs.Histories.{held_entries, next_state, actor_of, IsAllowed}
 use Rattle.histories.specs.Histories.Actors.{IsSameOfWorker, IsSameOfClients}
 use Rattle.histories.proofs.HistoryLemmas.KeptLemmas.{held_unmarked, held_kept}
+use Rattle.lattice.specs.Times.{Times}
 
 another : (a k : ℕ) → a ≢ k → eqb a k ≡ false
 another a k ne = step (eqb a k) refl
@@ -28,7 +29,7 @@ not_there : (a b : Bool) → (a && (b && false)) ≡ false
 not_there true b = not_both b
 not_there false b = refl
 
-module _ {T : Type 0} (leq : T → T → Bool) (p : Dataflow) (w : State T) where
+module _ {T : Type 0} (times : Times T) (p : Dataflow) (w : State T) where
   -- the times that another worker comes to hold do not change what this worker holds
   held_before : (n k m a : ℕ) (ts : List T) (ms : List (HeldTime T)) → eqb a k ≡ false → held_at n k (held_entries m a ts ++ ms) ≡ held_at n k ms
   held_before n k m a ts ms e =
@@ -41,7 +42,7 @@ module _ {T : Type 0} (leq : T → T → Bool) (p : Dataflow) (w : State T) wher
       ∙ (ap (λ z. held_at n k ms ++ z) (held_unmarked n k m a ts (rw e (not_both (eqb m n)))) ∙ append-nil (held_at n k ms))
 
   -- an event leaves every worker except its actor as it was
-  pub worker_apart : (k : ℕ) (e : Event T) → actor_of e ≢ k → IsSameOfWorker k w (next_state leq p w e)
+  pub worker_apart : (k : ℕ) (e : Event T) → actor_of e ≢ k → IsSameOfWorker k w (next_state times p w e)
   worker_apart k (Feed c f) ne = record { received = λ n port. refl; emitted = λ n. refl; held = λ n. refl; hand = refl; observed = refl }
   worker_apart k (Advance c i ts) ne = record { received = λ n port. refl; emitted = λ n. refl; held = λ n. refl; hand = refl; observed = refl }
   worker_apart k (Allow c v ts) ne = record { received = λ n port. refl; emitted = λ n. refl; held = λ n. refl; hand = refl; observed = refl }
@@ -69,7 +70,7 @@ module _ {T : Type 0} (leq : T → T → Bool) (p : Dataflow) (w : State T) wher
   }
 
   -- an event of a worker changes nothing that clients fed, opened or allowed
-  pub clients_apart : (e : Event T) → IsAllowed leq p w e → actor_of e < p.workers → IsSameOfClients w (next_state leq p w e)
+  pub clients_apart : (e : Event T) → IsAllowed times p w e → actor_of e < p.workers → IsSameOfClients w (next_state times p w e)
   clients_apart (Feed c f) a l = let m = a.client in absurd (omega arith)
   clients_apart (Advance c i ts) a l = let m = a.client in absurd (omega arith)
   clients_apart (Allow c v ts) a l = let m = a.client in absurd (omega arith)

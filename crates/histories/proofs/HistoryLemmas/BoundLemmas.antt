@@ -10,6 +10,7 @@ use Rattle.std.proofs.lemmas.Int.{ints}
 use Rattle.std.proofs.lemmas.List.Folds.{list_any-append}
 use Rattle.std.proofs.Math.IntN.{ℤ, pos, ◌+ℤ◌}
 use Rattle.std.proofs.lemmas.Option.{slice_get_within}
+use Rattle.lattice.specs.Times.{Times}
 use Rattle.lattice.specs.Order.{PartialOrderLaws}
 use Rattle.lattice.specs.Frontiers.{is_beyond}
 use Rattle.antichain.proofs.Lists.{Among, contains_among}
@@ -73,7 +74,7 @@ all-one (suc n) f k l =
 some_port : (xs : List ℕ) (port s : ℕ) → slice_get xs port ≡ Some s → port < length xs
 some_port xs port s e = slice_get_within xs port s e
 
-module _ {T : Type 0} (leq : T → T → Bool) (o : PartialOrderLaws leq) (p : Dataflow) (q : IsDataflow p) (w : State T) (kept : IsKept leq p w) where
+module _ {T : Type 0} (times : Times T) (o : PartialOrderLaws times) (p : Dataflow) (q : IsDataflow p) (w : State T) (kept : IsKept times p w) where
   abbrev got : ℕ → ℕ → ℕ → ℕ
   got n port k = summed_size (received_at w n k port)
 
@@ -123,21 +124,21 @@ module _ {T : Type 0} (leq : T → T → Bool) (o : PartialOrderLaws leq) (p : D
               omega arith
 
   -- a reduction: no list with the same sums has fewer absolute diffs than each worker's updates
-  module _ (loaded : IsLoaded leq o p q w) (cmp : T → T → Ordering) (own : ℕ → ℕ) (differences : AreOwn leq cmp p.nodes (changes_in w) own) where
+  module _ (loaded : IsLoaded times o p q w) (cmp : T → T → Ordering) (own : ℕ → ℕ) (differences : AreOwn times cmp p.nodes (changes_in w) own) where
     abbrev by : ℕ → ℕ → Update T → Bool
     by n k u = eqb (route p (take (key_width p.nodes (node_of p n)) u.row)) k
 
-    module _ (n : ℕ) (parts : (k : ℕ) → (t : T) → is_beyond leq (input_frontier leq p w n) t ≡ false → is_beyond leq (held_at n k w.held) t ≡ false → (r : List ℤ)
-        → count_of (as_of leq t (emitted_by n k w.emitted)) r ≡ cond (eqb (route p (take (key_width p.nodes (node_of p n)) r)) k) (count_of (query_at leq p.nodes (changes_in w) n t) r) (pos 0)) where
-      passed_both : (k : ℕ) (us : List (Update T)) → AllPassed leq (held_at n k w.held) us → AllWere leq n k w.observed us → AllPassed leq (input_frontier leq p w n ++ held_at n k w.held) us
+    module _ (n : ℕ) (parts : (k : ℕ) → (t : T) → is_beyond times (input_frontier times p w n) t ≡ false → is_beyond times (held_at n k w.held) t ≡ false → (r : List ℤ)
+        → count_of (as_of times t (emitted_by n k w.emitted)) r ≡ cond (eqb (route p (take (key_width p.nodes (node_of p n)) r)) k) (count_of (query_at times p.nodes (changes_in w) n t) r) (pos 0)) where
+      passed_both : (k : ℕ) (us : List (Update T)) → AllPassed times (held_at n k w.held) us → AllWere times n k w.observed us → AllPassed times (input_frontier times p w n ++ held_at n k w.held) us
       passed_both k [] a b = tt
       passed_both k (u ∷ us) a b = (
-        list_any-append (λ f. leq f u.time) (input_frontier leq p w n) (held_at n k w.held) ∙ or_from (is_beyond leq (input_frontier leq p w n) u.time) (is_beyond leq (held_at n k w.held) u.time) (loaded.observed n k u.time b.0) a.0,
+        list_any-append (λ f. times.below f u.time) (input_frontier times p w n) (held_at n k w.held) ∙ or_from (is_beyond times (input_frontier times p w n) u.time) (is_beyond times (held_at n k w.held) u.time) (loaded.observed n k u.time b.0) a.0,
         passed_both k us a.1 b.1,
       )
 
-      each_passed_by : (k : ℕ) (t : T) → is_beyond leq (input_frontier leq p w n ++ held_at n k w.held) t ≡ false → (is_beyond leq (input_frontier leq p w n) t ≡ false) × (is_beyond leq (held_at n k w.held) t ≡ false)
-      each_passed_by k t h = or_parts (is_beyond leq (input_frontier leq p w n) t) (is_beyond leq (held_at n k w.held) t) (sym (list_any-append (λ f. leq f t) (input_frontier leq p w n) (held_at n k w.held)) ∙ h)
+      each_passed_by : (k : ℕ) (t : T) → is_beyond times (input_frontier times p w n ++ held_at n k w.held) t ≡ false → (is_beyond times (input_frontier times p w n) t ≡ false) × (is_beyond times (held_at n k w.held) t ≡ false)
+      each_passed_by k t h = or_parts (is_beyond times (input_frontier times p w n) t) (is_beyond times (held_at n k w.held) t) (sym (list_any-append (λ f. times.below f t) (input_frontier times p w n) (held_at n k w.held)) ∙ h)
 
       reduced : (kind : Kind) (source : ℕ) → node_of p n ≡ Reduce kind source → all p.workers (λ k. summed_size (emitted_by n k w.emitted)) ≤ own n
       reduced kind source e =
@@ -148,15 +149,15 @@ module _ {T : Type 0} (leq : T → T → Bool) (o : PartialOrderLaws leq) (p : D
           let g = summed_size_is d.0 in
           omega arith
         where
-          one : (k : ℕ) (us : List (Update T)) → AreDifferences leq cmp p.nodes (changes_in w) [] n us → summed_size (emitted_by n k w.emitted) ≤ summed_size (filter (by n k) us)
+          one : (k : ℕ) (us : List (Update T)) → AreDifferences times cmp p.nodes (changes_in w) [] n us → summed_size (emitted_by n k w.emitted) ≤ summed_size (filter (by n k) us)
           one k us d =
               let s = (loaded.rule n k).final (ap is_reduction e) in
-              fewest leq o (input_frontier leq p w n ++ held_at n k w.held) (emitted_by n k w.emitted) (filter (by n k) us)
-              s.apart (passed_both k (emitted_by n k w.emitted) (each_passed leq (held_at n k w.held) (emitted_by n k w.emitted) s.held) (each_was leq n k w.observed (emitted_by n k w.emitted) s.observed))
+              fewest times o (input_frontier times p w n ++ held_at n k w.held) (emitted_by n k w.emitted) (filter (by n k) us)
+              s.apart (passed_both k (emitted_by n k w.emitted) (each_passed times (held_at n k w.held) (emitted_by n k w.emitted) s.held) (each_was times n k w.observed (emitted_by n k w.emitted) s.observed))
               (λ t h r. let f = each_passed_by k t h in
               parts k t f.0 f.1 r
               ∙ (ap (λ z. cond (eqb (route p (take (key_width p.nodes (node_of p n)) r)) k) z (pos 0)) (sym (d.sums t refl r))
-              ∙ sym (sum_at-filter leq t (λ x. eqb (route p (take (key_width p.nodes (node_of p n)) x)) k) us r)))
+              ∙ sym (sum_at-filter times t (λ x. eqb (route p (take (key_width p.nodes (node_of p n)) x)) k) us r)))
 
     abbrev ins : ℕ → ℕ
     ins i = size (changes_in w i)
@@ -189,7 +190,7 @@ module _ {T : Type 0} (leq : T → T → Bool) (o : PartialOrderLaws leq) (p : D
               let f = ap (λ z. output_bound z (own n) above) found.2 in
               omega arith
           step false e =
-              let a = all-le p.workers (λ k. summed_size (emitted_by n k w.emitted)) (λ k. output_bound (node_of p n) 0 (λ port. got n port k)) (λ k. to_size leq p w n k ((loaded.rule n k).within e)) in
+              let a = all-le p.workers (λ k. summed_size (emitted_by n k w.emitted)) (λ k. output_bound (node_of p n) 0 (λ port. got n port k)) (λ k. to_size times p w n k ((loaded.rule n k).within e)) in
               let b = output_bound-sum (all p.workers) (all-sum p.workers) (all-product p.workers) (node_of p n) (own n) (λ k port. got n port k) e in
               let c = output_bound-le (node_of p n) (own n) (λ port. all p.workers (got n port)) above port_le in
               omega arith
@@ -227,13 +228,13 @@ module _ {T : Type 0} (leq : T → T → Bool) (o : PartialOrderLaws leq) (p : D
 
     -- a reduction's updates up to some step of its computation
     partly : (n : ℕ) (kind : Kind) (source : ℕ) → node_of p n ≡ Reduce kind source → (k : ℕ)
-        → ((t : T) → is_beyond leq (input_frontier leq p w n) t ≡ false → (r : List ℤ) → count_of (node_output p n (λ port. as_of leq t (received_at w n k port))) r ≡ cond (eqb (route p (take (key_width p.nodes (node_of p n)) r)) k) (count_of (query_at leq p.nodes (changes_in w) n t) r) (pos 0))
-        → (test : List ℤ → Bool) (us : List (Update T)) → AreOwed leq p w n test k us → summed_size us ≤ own n
+        → ((t : T) → is_beyond times (input_frontier times p w n) t ≡ false → (r : List ℤ) → count_of (node_output p n (λ port. as_of times t (received_at w n k port))) r ≡ cond (eqb (route p (take (key_width p.nodes (node_of p n)) r)) k) (count_of (query_at times p.nodes (changes_in w) n t) r) (pos 0))
+        → (test : List ℤ → Bool) (us : List (Update T)) → AreOwed times p w n test k us → summed_size us ≤ own n
     partly n kind source e k due test us a =
         let d = differences n source kind e in
         let f = d.2 in
         let g = summed_size_is d.0 in
-        let x = fewest_below leq o us (filter (λ u. test u.row) (filter (by n k) d.0)) a.apart (agree d.0 d.1 us (each_passed leq (input_frontier leq p w n) us a.passed) (λ u m. m)) in
+        let x = fewest_below times o us (filter (λ u. test u.row) (filter (by n k) d.0)) a.apart (agree d.0 d.1 us (each_passed times (input_frontier times p w n) us a.passed) (λ u m. m)) in
         let y = fewer (by n k) d.0 in
         let z = fewer (λ u. test u.row) (filter (by n k) d.0) in
         omega arith
@@ -246,45 +247,45 @@ module _ {T : Type 0} (leq : T → T → Bool) (o : PartialOrderLaws leq) (p : D
             step true h = omega arith
             step false h = omega arith
 
-        agree : (ds : List (Update T)) → AreDifferences leq cmp p.nodes (changes_in w) [] n ds → (xs : List (Update T)) → AllPassed leq (input_frontier leq p w n) xs → ((u : Update T) → Among u xs → Among u us) → AgreeBelow leq o us (filter (λ u. test u.row) (filter (by n k) ds)) xs
+        agree : (ds : List (Update T)) → AreDifferences times cmp p.nodes (changes_in w) [] n ds → (xs : List (Update T)) → AllPassed times (input_frontier times p w n) xs → ((u : Update T) → Among u xs → Among u us) → AgreeBelow times o us (filter (λ u. test u.row) (filter (by n k) ds)) xs
         agree ds d [] b m = tt
         agree ds d (x ∷ xs) b m = (
           (λ s l r.
               a.sums x (contains_among x us (m x (inl refl))) s l r
-              ∙ (count_of-filter test (node_output p n (λ port. as_of leq s (received_at w n k port))) r
-              ∙ (ap (λ z. cond (test r) z (pos 0)) (due s (passed_down leq o (input_frontier leq p w n) s x.time l b.0) r ∙ (ap (λ z. cond (eqb (route p (take (key_width p.nodes (node_of p n)) r)) k) z (pos 0)) (sym (d.sums s refl r)) ∙ sym (sum_at-filter leq s (λ y. eqb (route p (take (key_width p.nodes (node_of p n)) y)) k) ds r)))
-              ∙ sym (sum_at-filter leq s test (filter (by n k) ds) r)))),
+              ∙ (count_of-filter test (node_output p n (λ port. as_of times s (received_at w n k port))) r
+              ∙ (ap (λ z. cond (test r) z (pos 0)) (due s (passed_down times o (input_frontier times p w n) s x.time l b.0) r ∙ (ap (λ z. cond (eqb (route p (take (key_width p.nodes (node_of p n)) r)) k) z (pos 0)) (sym (d.sums s refl r)) ∙ sym (sum_at-filter times s (λ y. eqb (route p (take (key_width p.nodes (node_of p n)) y)) k) ds r)))
+              ∙ sym (sum_at-filter times s test (filter (by n k) ds) r)))),
           agree ds d xs b.1 (λ u i. m u (inr i)),
         )
 
-module _ {T : Type 0} (leq : T → T → Bool) (minimum : T) (o : PartialOrderLaws leq) (p : Dataflow) (q : IsDataflow p) (cmp : T → T → Ordering) (h : List (Event T)) (l-h : IsLegal leq minimum p h) (n : ℕ) where
+module _ {T : Type 0} (times : Times T) (o : PartialOrderLaws times) (p : Dataflow) (q : IsDataflow p) (cmp : T → T → Ordering) (h : List (Event T)) (l-h : IsLegal times p h) (n : ℕ) where
   abbrev w : State T
-  w = state_after leq minimum p h
+  w = state_after times p h
 
-  reduced_at : (kept : IsKept leq p w) (loaded : IsLoaded leq o p q w) (own : ℕ → ℕ) (d : AreOwn leq cmp p.nodes (changes_in w) own) (m : ℕ) (kind : Kind) (source : ℕ) → node_of p m ≡ Reduce kind source → all p.workers (λ k. summed_size (emitted_by m k w.emitted)) ≤ own m
+  reduced_at : (kept : IsKept times p w) (loaded : IsLoaded times o p q w) (own : ℕ → ℕ) (d : AreOwn times cmp p.nodes (changes_in w) own) (m : ℕ) (kind : Kind) (source : ℕ) → node_of p m ≡ Reduce kind source → all p.workers (λ k. summed_size (emitted_by m k w.emitted)) ≤ own m
   reduced_at kept loaded own d m kind source e =
-      reduced leq o p q w kept loaded cmp own d m
-      (λ k t f g r. part_lem leq minimum o p q h l-h m k (ap is_linear e) t (is_passed _ f) (is_passed _ g) r
-      ∙ count_of-filter (λ x. eqb (route p (take (key_width p.nodes (node_of p m)) x)) k) (query_at leq p.nodes (changes_in w) m t) r)
+      reduced times o p q w kept loaded cmp own d m
+      (λ k t f g r. part_lem times o p q h l-h m k (ap is_linear e) t (is_passed _ f) (is_passed _ g) r
+      ∙ count_of-filter (λ x. eqb (route p (take (key_width p.nodes (node_of p m)) x)) k) (query_at times p.nodes (changes_in w) m t) r)
       kind source e
 
   -- what a node gave is within its bound, so a number is too large only if a bound is
-  pub bound_lem : KeepsBound leq p w n cmp
+  pub bound_lem : KeepsBound times p w n cmp
   bound_lem limit is =
-      let kept = kept_state leq o p minimum h l-h in
-      let loaded = loaded_state leq o p q minimum h l-h in
-      let x = bound leq o p q w kept loaded cmp is.0 is.1 (reduced_at kept loaded is.0 is.1) n in
+      let kept = kept_state times o p h l-h in
+      let loaded = loaded_state times o p q h l-h in
+      let x = bound times o p q w kept loaded cmp is.0 is.1 (reduced_at kept loaded is.0 is.1) n in
       let e = summed_size_is (emitted_at n w.emitted) in
       let f = is.2 in
       omega arith
 
   -- what a reduction is about to give is within its bound
-  pub owed_lem : OwesWithinBound leq p w n cmp
+  pub owed_lem : OwesWithinBound times p w n cmp
   owed_lem source kind e test k us a limit is =
-      let kept = kept_state leq o p minimum h l-h in
-      let loaded = loaded_state leq o p q minimum h l-h in
+      let kept = kept_state times o p h l-h in
+      let loaded = loaded_state times o p q h l-h in
       let lin = ap is_linear e in
-      let x = partly leq o p q w kept loaded cmp is.0 is.1 n kind source e k (λ t f r. due_lem leq minimum o p q h l-h n lin k t f r) test us a in
+      let x = partly times o p q w kept loaded cmp is.0 is.1 n kind source e k (λ t f r. due_lem times o p q h l-h n lin k t f r) test us a in
       let y = bound_by_sources p.nodes q.plan is.0 (λ i. size (changes_in w i)) n in
       let z = ap (λ node. output_bound node (is.0 n) (λ port. source_value (size (changes_in w n)) (bound_by p.nodes is.0 (λ i. size (changes_in w i))) (source_of p n port))) e in
       let v = summed_size_is us in
@@ -292,21 +293,21 @@ module _ {T : Type 0} (leq : T → T → Bool) (minimum : T) (o : PartialOrderLa
       omega arith
 
   -- what a worker received is within the bound of the source
-  pub takes_lem : TakesWithinBound leq p w n cmp
+  pub takes_lem : TakesWithinBound times p w n cmp
   takes_lem port source e k l limit is =
-      let kept = kept_state leq o p minimum h l-h in
-      let loaded = loaded_state leq o p q minimum h l-h in
-      let x = from_source leq o p q w kept loaded cmp is.0 is.1 (reduced_at kept loaded is.0 is.1) n port source k l e in
+      let kept = kept_state times o p h l-h in
+      let loaded = loaded_state times o p q h l-h in
+      let x = from_source times o p q w kept loaded cmp is.0 is.1 (reduced_at kept loaded is.0 is.1) n port source k l e in
       let v = summed_size_is (received_at w n k port) in
       let f = is.2 in
       omega (arith, x, v, f)
 
   -- what a node that is no reduction may give is within its bound
-  pub loads_lem : LoadsWithinBound leq p w n cmp
+  pub loads_lem : LoadsWithinBound times p w n cmp
   loads_lem e k l limit is =
-      let kept = kept_state leq o p minimum h l-h in
-      let loaded = loaded_state leq o p q minimum h l-h in
-      let x = loads leq o p q w kept loaded cmp is.0 is.1 (reduced_at kept loaded is.0 is.1) n k l e in
+      let kept = kept_state times o p h l-h in
+      let loaded = loaded_state times o p q h l-h in
+      let x = loads times o p q w kept loaded cmp is.0 is.1 (reduced_at kept loaded is.0 is.1) n k l e in
       let c = output_bound-le (node_of p n) 0 (λ port. size (received_at w n k port)) (λ port. summed_size (received_at w n k port)) (λ port m. let v = summed_size_is (received_at w n k port) in omega (arith, v)) in
       let f = is.2 in
       omega (arith, x, c, f)

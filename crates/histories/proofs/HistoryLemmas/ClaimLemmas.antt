@@ -6,6 +6,7 @@ use Rattle.std.proofs.lemmas.Bool.{true≢false}
 use Rattle.std.proofs.lemmas.Int.{ints}
 use Rattle.std.proofs.lemmas.Option.{same_Some}
 use Rattle.std.proofs.Math.IntN.{ℤ, pos, ◌+ℤ◌, +ℤ_idr}
+use Rattle.lattice.specs.Times.{Times}
 use Rattle.lattice.specs.Frontiers.{is_beyond}
 use Rattle.row.specs.Routing.{column_sum}
 use Rattle.std.specs.Int.{int_rem_euclid}
@@ -59,51 +60,51 @@ op-gather k node e (suc n) b r =
 
 -- what a node gave, summed to t, is this bag: on all workers together; and if the node is arranged,
 -- on each worker the part with its keys
-pub record IsClaim {T : Type 0} (leq : T → T → Bool) (p : Dataflow) (w : State T) (t : T) (bag : List Entry) (n : ℕ) : Type 0 where
-  pub all : (r : List ℤ) → sum_at leq t (emitted_at n w.emitted) r ≡ count_of bag r
-  pub parts : (c k : ℕ) → arranged_by (node_of p n) ≡ Some c → (r : List ℤ) → sum_at leq t (emitted_by n k w.emitted) r ≡ cond (eqb (route p (take c r)) k) (count_of bag r) (pos 0)
+pub record IsClaim {T : Type 0} (times : Times T) (p : Dataflow) (w : State T) (t : T) (bag : List Entry) (n : ℕ) : Type 0 where
+  pub all : (r : List ℤ) → sum_at times t (emitted_at n w.emitted) r ≡ count_of bag r
+  pub parts : (c k : ℕ) → arranged_by (node_of p n) ≡ Some c → (r : List ℤ) → sum_at times t (emitted_by n k w.emitted) r ≡ cond (eqb (route p (take c r)) k) (count_of bag r) (pos 0)
 
-module _ {T : Type 0} (leq : T → T → Bool) (p : Dataflow) (q : IsDataflow p) (w : State T) (kept : IsKept leq p w) (t : T) where
+module _ {T : Type 0} (times : Times T) (p : Dataflow) (q : IsDataflow p) (w : State T) (kept : IsKept times p w) (t : T) where
   abbrev ins : ℕ → List Entry
-  ins i = as_of leq t (fed_to i w.fed)
+  ins i = as_of times t (fed_to i w.fed)
 
   abbrev recv : ℕ → ℕ → ℕ → List Entry
-  recv n k port = as_of leq t (updates_at (place n port k) w.received)
+  recv n k port = as_of times t (updates_at (place n port k) w.received)
 
   abbrev bag : ℕ → List Entry
   bag n = query p.nodes ins n
 
   -- at a node to which everything has arrived, what was received is all that came
-  came : (n port k : ℕ) (r : List ℤ) → IsArrived leq w t n → count_of (recv n k port) r ≡ sum_at leq t (coming p (place n port k) w.emitted w.fed) r
+  came : (n port k : ℕ) (r : List ℤ) → IsArrived times w t n → count_of (recv n k port) r ≡ sum_at times t (coming p (place n port k) w.emitted w.fed) r
   came n port k r c =
-      let v : Update T → ℤ = λ u. cond (leq u.time t) (value r u) (pos 0) in
+      let v : Update T → ℤ = λ u. cond (times.below u.time t) (value r u) (pos 0) in
       let a = updates_at (place n port k) w.received in
       let b = updates_at (place n port k) w.in_flight in
-      let none : count_of (as_of leq t b) r ≡ pos 0 = ap (λ z. count_of z r) (c.flight port k) in
-      through_is leq r t a ∙ (sym (+ℤ_idr (total_by v a)) ∙ (ap (λ z. total_by v a +ℤ z) (sym none ∙ through_is leq r t b) ∙ (kept.conserved (place n port k) v ∙ sym (through_is leq r t (coming p (place n port k) w.emitted w.fed)))))
+      let none : count_of (as_of times t b) r ≡ pos 0 = ap (λ z. count_of z r) (c.flight port k) in
+      through_is times r t a ∙ (sym (+ℤ_idr (total_by v a)) ∙ (ap (λ z. total_by v a +ℤ z) (sym none ∙ through_is times r t b) ∙ (kept.conserved (place n port k) v ∙ sym (through_is times r t (coming p (place n port k) w.emitted w.fed)))))
 
-  came_from : (n port s k : ℕ) (r : List ℤ) → IsArrived leq w t n → source_of p n port ≡ Some s → count_of (recv n k port) r ≡ sum_at leq t (flat_map (share_from p (Some s) (arranged_by (node_of p n)) k) w.emitted) r
+  came_from : (n port s k : ℕ) (r : List ℤ) → IsArrived times w t n → source_of p n port ≡ Some s → count_of (recv n k port) r ≡ sum_at times t (flat_map (share_from p (Some s) (arranged_by (node_of p n)) k) w.emitted) r
   came_from n port s k r c e =
       came n port k r c
-      ∙ (sum_at-append leq t (flat_map (share p (place n port k)) w.emitted) (flat_map (share_fed p (place n port k)) w.fed) r
-      ∙ (ap (λ z. sum_at leq t (flat_map (share p (place n port k)) w.emitted) r +ℤ sum_at leq t z r) (fed_none leq t p (place n port k) w.fed kept.inputs (no_source (node_of p n) port s e))
-      ∙ (+ℤ_idr (sum_at leq t (flat_map (share p (place n port k)) w.emitted) r)
-      ∙ ap (λ z. sum_at leq t (flat_map (share_from p z (arranged_by (node_of p n)) k) w.emitted) r) e)))
+      ∙ (sum_at-append times t (flat_map (share p (place n port k)) w.emitted) (flat_map (share_fed p (place n port k)) w.fed) r
+      ∙ (ap (λ z. sum_at times t (flat_map (share p (place n port k)) w.emitted) r +ℤ sum_at times t z r) (fed_none times t p (place n port k) w.fed kept.inputs (no_source (node_of p n) port s e))
+      ∙ (+ℤ_idr (sum_at times t (flat_map (share p (place n port k)) w.emitted) r)
+      ∙ ap (λ z. sum_at times t (flat_map (share_from p z (arranged_by (node_of p n)) k) w.emitted) r) e)))
 
-  came_along : (n port s k : ℕ) (r : List ℤ) → IsArrived leq w t n → source_of p n port ≡ Some s → arranged_by (node_of p n) ≡ None → count_of (recv n k port) r ≡ sum_at leq t (emitted_by s k w.emitted) r
+  came_along : (n port s k : ℕ) (r : List ℤ) → IsArrived times w t n → source_of p n port ≡ Some s → arranged_by (node_of p n) ≡ None → count_of (recv n k port) r ≡ sum_at times t (emitted_by s k w.emitted) r
   came_along n port s k r c e h =
-      came_from n port s k r c e ∙ (ap (λ z. sum_at leq t (flat_map (share_from p (Some s) z k) w.emitted) r) h ∙ ap (λ z. sum_at leq t z r) (shared_along leq t p s k w.emitted))
+      came_from n port s k r c e ∙ (ap (λ z. sum_at times t (flat_map (share_from p (Some s) z k) w.emitted) r) h ∙ ap (λ z. sum_at times t z r) (shared_along times t p s k w.emitted))
 
-  came_by_key : (n port s k x : ℕ) (r : List ℤ) → IsArrived leq w t n → source_of p n port ≡ Some s → arranged_by (node_of p n) ≡ Some x → count_of (recv n k port) r ≡ cond (eqb (route p (take x r)) k) (sum_at leq t (emitted_at s w.emitted) r) (pos 0)
+  came_by_key : (n port s k x : ℕ) (r : List ℤ) → IsArrived times w t n → source_of p n port ≡ Some s → arranged_by (node_of p n) ≡ Some x → count_of (recv n k port) r ≡ cond (eqb (route p (take x r)) k) (sum_at times t (emitted_at s w.emitted) r) (pos 0)
   came_by_key n port s k x r c e h =
-      came_from n port s k r c e ∙ (ap (λ z. sum_at leq t (flat_map (share_from p (Some s) z k) w.emitted) r) h ∙ shared_by_key leq t p s k x w.emitted r)
+      came_from n port s k r c e ∙ (ap (λ z. sum_at times t (flat_map (share_from p (Some s) z k) w.emitted) r) h ∙ shared_by_key times t p s k x w.emitted r)
 
-  came_fed : (n k : ℕ) (r : List ℤ) → IsArrived leq w t n → source_of p n 0 ≡ None → count_of (recv n k 0) r ≡ sum_at leq t (flat_map (share_fed p (place n 0 k)) w.fed) r
+  came_fed : (n k : ℕ) (r : List ℤ) → IsArrived times w t n → source_of p n 0 ≡ None → count_of (recv n k 0) r ≡ sum_at times t (flat_map (share_fed p (place n 0 k)) w.fed) r
   came_fed n k r c e =
-      came n 0 k r c ∙ ap (λ z. sum_at leq t (z ++ flat_map (share_fed p (place n 0 k)) w.fed) r)
-      (ap (λ z. flat_map (share_from p z (arranged_by (node_of p n)) k) w.emitted) e ∙ shared_none leq t p (arranged_by (node_of p n)) k w.emitted)
+      came n 0 k r c ∙ ap (λ z. sum_at times t (z ++ flat_map (share_fed p (place n 0 k)) w.fed) r)
+      (ap (λ z. flat_map (share_from p z (arranged_by (node_of p n)) k) w.emitted) e ∙ shared_none times t p (arranged_by (node_of p n)) k w.emitted)
 
-  module _ (n : ℕ) (arrived : IsArrived leq w t n) (below : (port s : ℕ) → source_of p n port ≡ Some s → IsClaim leq p w t (bag s) s) where
+  module _ (n : ℕ) (arrived : IsArrived times w t n) (below : (port s : ℕ) → source_of p n port ≡ Some s → IsClaim times p w t (bag s) s) where
     abbrev key : ℕ
     key = key_width p.nodes (node_of p n)
 
@@ -136,26 +137,26 @@ module _ {T : Type 0} (leq : T → T → Bool) (p : Dataflow) (q : IsDataflow p)
 
     -- so is what the worker gave, if it holds nothing at or before the time, whatever the other
     -- workers hold
-    pub each_keyed : is_linear (node_of p n) ≡ false → (k : ℕ) → is_beyond leq (held_at n k w.held) t ≡ false → (r : List ℤ)
-        → sum_at leq t (emitted_by n k w.emitted) r ≡ cond (eqb (route p (take key r)) k) (count_of (bag n) r) (pos 0)
+    pub each_keyed : is_linear (node_of p n) ≡ false → (k : ℕ) → is_beyond times (held_at n k w.held) t ≡ false → (r : List ℤ)
+        → sum_at times t (emitted_by n k w.emitted) r ≡ cond (eqb (route p (take key r)) k) (count_of (bag n) r) (pos 0)
     each_keyed e k held r = kept.law n k t (is_passed _ held) r ∙ due e k r
 
     -- the claim for all workers, from what each worker gave
-    all_from_parts : (c : ℕ) → ((k : ℕ) (r : List ℤ) → sum_at leq t (emitted_by n k w.emitted) r ≡ cond (eqb (route p (take c r)) k) (count_of (bag n) r) (pos 0)) → (r : List ℤ) → sum_at leq t (emitted_at n w.emitted) r ≡ count_of (bag n) r
+    all_from_parts : (c : ℕ) → ((k : ℕ) (r : List ℤ) → sum_at times t (emitted_by n k w.emitted) r ≡ cond (eqb (route p (take c r)) k) (count_of (bag n) r) (pos 0)) → (r : List ℤ) → sum_at times t (emitted_at n w.emitted) r ≡ count_of (bag n) r
     all_from_parts c h r =
-        sym (over-emitted leq t n p.workers w.emitted r kept.workers)
-        ∙ (over-same p.workers (λ k. sum_at leq t (emitted_by n k w.emitted) r) (λ k. cond (eqb (route p (take c r)) k) (count_of (bag n) r) (pos 0)) (λ k l. h k r)
+        sym (over-emitted times t n p.workers w.emitted r kept.workers)
+        ∙ (over-same p.workers (λ k. sum_at times t (emitted_by n k w.emitted) r) (λ k. cond (eqb (route p (take c r)) k) (count_of (bag n) r) (pos 0)) (λ k l. h k r)
         ∙ over-one p.workers (route p (take c r)) (count_of (bag n) r) (routed p q (take c r)))
 
-    module _ (held : (k : ℕ) → is_beyond leq (held_at n k w.held) t ≡ false) where
-      keyed : is_linear (node_of p n) ≡ false → IsClaim leq p w t (bag n) n
+    module _ (held : (k : ℕ) → is_beyond times (held_at n k w.held) t ≡ false) where
+      keyed : is_linear (node_of p n) ≡ false → IsClaim times p w t (bag n) n
       keyed e = record { all = all_from_parts key (λ k r. each_keyed e k (held k) r); parts = λ x k s. absurd (two (keyed_not_arranged (node_of p n) e) s) }
         where
           two : {x : ℕ} → arranged_by (node_of p n) ≡ None → arranged_by (node_of p n) ≡ Some x → ⊥
           two a b = cc
 
-      sent : (c : ℕ) → arranged_by (node_of p n) ≡ Some c → IsClaim leq p w t (bag n) n
-      sent c e = record { all = all_from_parts c each; parts = λ x k s r. subst (λ y. sum_at leq t (emitted_by n k w.emitted) r ≡ cond (eqb (route p (take y r)) k) (count_of (bag n) r) (pos 0)) (same_Some c x (sym e ∙ s)) (each k r) }
+      sent : (c : ℕ) → arranged_by (node_of p n) ≡ Some c → IsClaim times p w t (bag n) n
+      sent c e = record { all = all_from_parts c each; parts = λ x k s r. subst (λ y. sum_at times t (emitted_by n k w.emitted) r ≡ cond (eqb (route p (take y r)) k) (count_of (bag n) r) (pos 0)) (same_Some c x (sym e ∙ s)) (each k r) }
         where
           found : (s : ℕ) × (node_of p n ≡ Arrange s c)
           found = arranged_is (node_of p n) c e
@@ -166,7 +167,7 @@ module _ {T : Type 0} (leq : T → T → Bool) (p : Dataflow) (q : IsDataflow p)
           identity : (b : ℕ → List Entry) → node_output p n b ≡ b 0
           identity b = ap (λ z. operator_output key z b) found.1
 
-          each : (k : ℕ) (r : List ℤ) → sum_at leq t (emitted_by n k w.emitted) r ≡ cond (eqb (route p (take c r)) k) (count_of (bag n) r) (pos 0)
+          each : (k : ℕ) (r : List ℤ) → sum_at times t (emitted_by n k w.emitted) r ≡ cond (eqb (route p (take c r)) k) (count_of (bag n) r) (pos 0)
           each k r =
               kept.law n k t (is_passed _ (held k)) r
               ∙ (ap (λ z. count_of z r) (identity (recv n k))
@@ -174,7 +175,7 @@ module _ {T : Type 0} (leq : T → T → Bool) (p : Dataflow) (q : IsDataflow p)
               ∙ ap (λ z. cond (eqb (route p (take c r)) k) z (pos 0))
               ((below 0 found.0 source).all r ∙ sym (ap (λ z. count_of z r) (bag_is ∙ (identity source_bags ∙ ap (source_value (ins n) bag) source))))))
 
-      along : is_linear (node_of p n) ≡ true → arranged_by (node_of p n) ≡ None → IsClaim leq p w t (bag n) n
+      along : is_linear (node_of p n) ≡ true → arranged_by (node_of p n) ≡ None → IsClaim times p w t (bag n) n
       along e f = record { all = all; parts = λ c k s. absurd (two s) }
         where
           two : {x : ℕ} → arranged_by (node_of p n) ≡ Some x → ⊥
@@ -183,48 +184,48 @@ module _ {T : Type 0} (leq : T → T → Bool) (p : Dataflow) (q : IsDataflow p)
           from_outside : source_of p n 0 ≡ None → (r : List ℤ) → count_of (gather p.workers (λ k. recv n k 0)) r ≡ count_of (ins n) r
           from_outside h r =
               total-gather p.workers (λ k. recv n k 0) r
-              ∙ (over-same p.workers (λ k. count_of (recv n k 0) r) (λ k. sum_at leq t (flat_map (share_fed p (place n 0 k)) w.fed) r) (λ k l. came_fed n k r arrived h)
-              ∙ over-fed leq t p (routed p q) n w.fed r)
+              ∙ (over-same p.workers (λ k. count_of (recv n k 0) r) (λ k. sum_at times t (flat_map (share_fed p (place n 0 k)) w.fed) r) (λ k l. came_fed n k r arrived h)
+              ∙ over-fed times t p (routed p q) n w.fed r)
 
           port_alike : (port : ℕ) → (port ≡ 0) ⊎ (port < length (sources (node_of p n))) → (x : Option ℕ) → source_of p n port ≡ x → Alike (gather p.workers (λ k. recv n k port)) (source_value (ins n) bag x)
           port_alike port (inl z) None h = λ r. subst (λ x. source_of p n x ≡ None → count_of (gather p.workers (λ k. recv n k x)) r ≡ count_of (ins n) r) (sym z) (λ g. from_outside g r) h
           port_alike port (inr l) None h = absurd (some_within (sources (node_of p n)) port l h)
           port_alike port l (Some s) h = λ r.
               total-gather p.workers (λ k. recv n k port) r
-              ∙ (over-same p.workers (λ k. count_of (recv n k port) r) (λ k. sum_at leq t (emitted_by s k w.emitted) r) (λ k m. came_along n port s k r arrived h f)
-              ∙ (over-emitted leq t s p.workers w.emitted r kept.workers
+              ∙ (over-same p.workers (λ k. count_of (recv n k port) r) (λ k. sum_at times t (emitted_by s k w.emitted) r) (λ k m. came_along n port s k r arrived h f)
+              ∙ (over-emitted times t s p.workers w.emitted r kept.workers
               ∙ (below port s h).all r))
 
-          all : (r : List ℤ) → sum_at leq t (emitted_at n w.emitted) r ≡ count_of (bag n) r
+          all : (r : List ℤ) → sum_at times t (emitted_at n w.emitted) r ≡ count_of (bag n) r
           all r =
-              sym (over-emitted leq t n p.workers w.emitted r kept.workers)
-              ∙ (over-same p.workers (λ k. sum_at leq t (emitted_by n k w.emitted) r) (λ k. count_of (node_output p n (recv n k)) r) (λ k l. kept.law n k t (is_passed _ (held k)) r)
+              sym (over-emitted times t n p.workers w.emitted r kept.workers)
+              ∙ (over-same p.workers (λ k. sum_at times t (emitted_by n k w.emitted) r) (λ k. count_of (node_output p n (recv n k)) r) (λ k l. kept.law n k t (is_passed _ (held k)) r)
               ∙ (op-gather key (node_of p n) e p.workers (λ k port. recv n k port) r
               ∙ (given_alike key (node_of p n) (λ port. gather p.workers (λ k. recv n k port)) source_bags (λ port l. port_alike port l (source_of p n port) refl) r
               ∙ ap (λ z. count_of z r) (sym bag_is))))
 
       -- the claim for a node whose sources have theirs
-      pub claim_step : (x : Bool) (y : Option ℕ) → is_linear (node_of p n) ≡ x → arranged_by (node_of p n) ≡ y → IsClaim leq p w t (bag n) n
+      pub claim_step : (x : Bool) (y : Option ℕ) → is_linear (node_of p n) ≡ x → arranged_by (node_of p n) ≡ y → IsClaim times p w t (bag n) n
       claim_step false y e f = keyed e
       claim_step true (Some c) e f = sent c f
       claim_step true None e f = along e f
 
   -- the claim holds of a node if the node and all nodes above it are clear
-  pub claim : (n : ℕ) → ((m : ℕ) → upstream p n m ≡ true → IsClear leq w t m) → IsClaim leq p w t (bag n) n
-  claim = by_smaller (λ n. ((m : ℕ) → upstream p n m ≡ true → IsClear leq w t m) → IsClaim leq p w t (bag n) n) (λ n rest c.
+  pub claim : (n : ℕ) → ((m : ℕ) → upstream p n m ≡ true → IsClear times w t m) → IsClaim times p w t (bag n) n
+  claim = by_smaller (λ n. ((m : ℕ) → upstream p n m ≡ true → IsClear times w t m) → IsClaim times p w t (bag n) n) (λ n rest c.
       let here = c n (above_itself p.nodes q.plan n) in
       claim_step n here.arrived (λ port s e. rest s (source_smaller p.nodes q.plan n port s e) (λ m a. c m (above_from_source p.nodes q.plan m n port s e a)))
       here.held (is_linear (node_of p n)) (arranged_by (node_of p n)) refl refl)
 
-  module _ (n : ℕ) (arrived : IsArrived leq w t n) (others : (m : ℕ) → upstream p n m ≡ true → m < n → IsClear leq w t m) where
-    sources_claim : (port s : ℕ) → source_of p n port ≡ Some s → IsClaim leq p w t (bag s) s
+  module _ (n : ℕ) (arrived : IsArrived times w t n) (others : (m : ℕ) → upstream p n m ≡ true → m < n → IsClear times w t m) where
+    sources_claim : (port s : ℕ) → source_of p n port ≡ Some s → IsClaim times p w t (bag s) s
     sources_claim port s e =
         let smaller = source_smaller p.nodes q.plan n port s e in
         claim s (λ m a. let le = above_earlier p.nodes q.plan m s a in others m (above_from_source p.nodes q.plan m n port s e a) (omega arith))
 
     -- at a join or reduction, what a worker gave is its part of the query, if the input frontier
     -- and what the worker holds there have passed the time
-    pub part_claim : is_linear (node_of p n) ≡ false → (k : ℕ) → is_beyond leq (held_at n k w.held) t ≡ false → (r : List ℤ) → sum_at leq t (emitted_by n k w.emitted) r ≡ cond (eqb (route p (take (key_width p.nodes (node_of p n)) r)) k) (count_of (bag n) r) (pos 0)
+    pub part_claim : is_linear (node_of p n) ≡ false → (k : ℕ) → is_beyond times (held_at n k w.held) t ≡ false → (r : List ℤ) → sum_at times t (emitted_by n k w.emitted) r ≡ cond (eqb (route p (take (key_width p.nodes (node_of p n)) r)) k) (count_of (bag n) r) (pos 0)
     part_claim e k held r = each_keyed n arrived sources_claim e k held r
 
     -- at a join or reduction, what a worker owes is its part of the query, if the input frontier

@@ -21,17 +21,17 @@ use Rattle.histories.specs.declared.event.Emission.{Emission}
 use Rattle.histories.specs.declared.event.Event.{Event}
 use Rattle.histories.specs.declared.event.Event.TheVariants.{Feed, Advance, Allow, Look, Take, TakeHeld, Give}
 use Rattle.histories.specs.Histories.Dataflows.{Dataflow, IsDataflow, node_of}
-use Rattle.histories.specs.Histories.States.{State, times, queue, held_at}
+use Rattle.histories.specs.Histories.States.{State, update_times, queue, held_at}
 use Rattle.histories.specs.Histories.NodeLaws.{NodeLaw, LoadRule, IsWithinLoad}
 use Rattle.plan.specs.Nodes.{is_reduction}
 use Rattle.lattice.specs.Frontiers.{is_beyond, all_beyond}
-use Rattle.lattice.specs.Naturals.{nat_order}
+use Rattle.lattice.specs.Naturals.{nat_times, nat_order}
 use Rattle.std.specs.List.{slice_get}
 use Rattle.histories.specs.Histories.{state_after, give_state, IsAllowed, IsLegal}
 use Rattle.histories.specs.Histories.Cuts.{cut}
 use Rattle.histories.specs.Histories.Examples.{IsExample}
 use Rattle.histories.specs.Histories.Outstanding.{stamp}
-use Rattle.histories.proofs.HistoryLemmas.CuttingLemmas.{cut_whole, cut_filled, cut_stamped}
+use Rattle.histories.proofs.HistoryLemmas.CutLemmas.{cut_whole, cut_filled, cut_stamped}
 
 abbrev nodes : List Node
 nodes = Input 1 ∷ Arrange 0 1 ∷ Join 1 1 ∷ Reduce Count 1 ∷ Output 2 ∷ Output 3 ∷ []
@@ -73,7 +73,7 @@ abbrev by : ℕ → List (Update ℕ) → Emission ℕ
 by n us = record { node = n; worker = 1; updates = us }
 
 abbrev give : ℕ → List (Update ℕ) → List ℕ → Event ℕ
-give n us ts = Give (by n us) ts (cut nat_le p (by n us))
+give n us ts = Give (by n us) ts (cut nat_times p (by n us))
 
 abbrev fed : List (Event ℕ)
 fed = Look 0 ∷ Feed 2 (record { input = 0; update = five }) ∷ []
@@ -111,91 +111,91 @@ all = Allow 2 5 (0 ∷ []) ∷ seen
 from_start : (t : ℕ) → nat_le 0 t ≡ true
 from_start t = grind (arith, nat_tests)
 
-allowed_feed : IsAllowed nat_le p (state_after nat_le 0 p []) (Feed 2 (record { input = 0; update = five }))
+allowed_feed : IsAllowed nat_times p (state_after nat_times p []) (Feed 2 (record { input = 0; update = five }))
 unfolding width_of
 allowed_feed = record { client = omega (arith); input = (omega (arith), refl); width = refl; some = λ e. false≢true ((Decides-int_eq (pos 1) (pos 0)).1 e); small = at_most refl; not_passed = refl; room = omega (arith) }
 
 -- each take of a waiting bundle is allowed
-allowed_take : (n port : ℕ) (us : List (Update ℕ)) (h : List (Event ℕ)) → (state_after nat_le 0 p h).hand 1 ≡ None → slice_get (queue (site n port) (state_after nat_le 0 p h).in_flight) 0 ≡ Some (parcel n port us) → IsAllowed nat_le p (state_after nat_le 0 p h) (Take 0 (parcel n port us))
+allowed_take : (n port : ℕ) (us : List (Update ℕ)) (h : List (Event ℕ)) → (state_after nat_times p h).hand 1 ≡ None → slice_get (queue (site n port) (state_after nat_times p h).in_flight) 0 ≡ Some (parcel n port us) → IsAllowed nat_times p (state_after nat_times p h) (Take 0 (parcel n port us))
 allowed_take n port us h free waits = record { worker = omega (arith); free = free; waits = waits; turn = λ _. refl }
 
 abbrev held : List (Event ℕ) → ℕ → List ℕ
-held h n = held_at n 1 (state_after nat_le 0 p h).held
+held h n = held_at n 1 (state_after nat_times p h).held
 
 -- each give is allowed
-allowed_give : (n : ℕ) (us : List (Update ℕ)) (ts : List ℕ) (h : List (Event ℕ)) → (state_after nat_le 0 p h).hand 1 ≡ Some n
-    → IsTrue (all_beyond nat_le (held_at n 1 (state_after nat_le 0 p h).held) (times us ++ ts))
-    → NodeLaw nat_le p (give_state nat_le p (state_after nat_le 0 p h) (by n us) ts (cut nat_le p (by n us))) n 1 → LoadRule nat_le p (give_state nat_le p (state_after nat_le 0 p h) (by n us) ts (cut nat_le p (by n us))) n 1
-    → IsAllowed nat_le p (state_after nat_le 0 p h) (give n us ts)
+allowed_give : (n : ℕ) (us : List (Update ℕ)) (ts : List ℕ) (h : List (Event ℕ)) → (state_after nat_times p h).hand 1 ≡ Some n
+    → IsTrue (all_beyond nat_times (held_at n 1 (state_after nat_times p h).held) (update_times us ++ ts))
+    → NodeLaw nat_times p (give_state nat_times p (state_after nat_times p h) (by n us) ts (cut nat_times p (by n us))) n 1 → LoadRule nat_times p (give_state nat_times p (state_after nat_times p h) (by n us) ts (cut nat_times p (by n us))) n 1
+    → IsAllowed nat_times p (state_after nat_times p h) (give n us ts)
 allowed_give n us ts h hand onward law load = record {
   worker = omega (arith);
   in_hand = hand;
   onward = onward;
   law = law;
   load = load;
-  whole = λ s f. ap (total_by f) (cut_whole nat_le p (by n us) is_dataflow (omega (arith)) s);
-  filled = cut_filled nat_le p (by n us);
-  stamped = cut_stamped nat_le p (by n us) nat_order (held h n) (and_parts (all_beyond nat_le (held h n) (times us)) (all_beyond nat_le (held h n) ts) (sym (list_all-append (is_beyond nat_le (held h n)) (times us) ts) ∙ onward)).0;
+  whole = λ s f. ap (total_by f) (cut_whole nat_times p (by n us) is_dataflow (omega (arith)) s);
+  filled = cut_filled nat_times p (by n us);
+  stamped = cut_stamped nat_times p (by n us) nat_order (held h n) (and_parts (all_beyond nat_times (held h n) (update_times us)) (all_beyond nat_times (held h n) ts) (sym (list_all-append (is_beyond nat_times (held h n)) (update_times us) ts) ∙ onward)).0;
 }
 
-light : (n : ℕ) (w : State ℕ) → is_reduction (node_of p n) ≡ false → IsWithinLoad nat_le p w n 1 → LoadRule nat_le p w n 1
+light : (n : ℕ) (w : State ℕ) → is_reduction (node_of p n) ≡ false → IsWithinLoad nat_times p w n 1 → LoadRule nat_times p w n 1
 light n w e l = record { within = λ _. l; final = λ f. absurd (false≢true (sym e ∙ f)) }
 
-first_give : IsAllowed nat_le p (state_after nat_le 0 p arranged_next) (give 0 (five ∷ []) [])
+first_give : IsAllowed nat_times p (state_after nat_times p arranged_next) (give 0 (five ∷ []) [])
 unfolding stamp least
 first_give = allowed_give 0 (five ∷ []) [] arranged_next refl refl (λ t e row. rw (from_start t) refl) (light 0 _ refl (at_most refl))
 
-arranged_give : IsAllowed nat_le p (state_after nat_le 0 p arranged) (give 1 (five ∷ []) [])
+arranged_give : IsAllowed nat_times p (state_after nat_times p arranged) (give 1 (five ∷ []) [])
 unfolding stamp least
 arranged_give = allowed_give 1 (five ∷ []) [] arranged refl refl (λ t e row. rw (from_start t) refl) (light 1 _ refl (at_most refl))
 
 -- the join gives nothing while nothing has come to the other side
-joined_give : IsAllowed nat_le p (state_after nat_le 0 p joined_next) (give 2 [] [])
+joined_give : IsAllowed nat_times p (state_after nat_times p joined_next) (give 2 [] [])
 unfolding stamp least
 joined_give = allowed_give 2 [] [] joined_next refl refl (λ t e row. rw (from_start t) refl) (light 2 _ refl (at_most refl))
 
-joined_again_give : IsAllowed nat_le p (state_after nat_le 0 p joined_again) (give 2 (five ∷ []) [])
+joined_again_give : IsAllowed nat_times p (state_after nat_times p joined_again) (give 2 (five ∷ []) [])
 unfolding stamp least
 joined_again_give = allowed_give 2 (five ∷ []) [] joined_again refl refl (λ t e row. rw (from_start t) refl) (light 2 _ refl (at_most refl))
 
 -- the count holds its time until no more input can come at or before it
-count_give : IsAllowed nat_le p (state_after nat_le 0 p count_next) (give 3 [] (0 ∷ []))
+count_give : IsAllowed nat_times p (state_after nat_times p count_next) (give 3 [] (0 ∷ []))
 unfolding stamp least
 count_give = allowed_give 3 [] (0 ∷ []) count_next refl refl (λ t e row. absurd (false≢true (ap (λ b. not (b || false)) (sym (from_start t)) ∙ e)))
     (record { within = λ f. absurd (true≢false f); final = λ _. record { apart = tt; held = refl; observed = refl } })
 
-allowed_advance : IsAllowed nat_le p (state_after nat_le 0 p (give 3 [] (0 ∷ []) ∷ count_next)) (Advance 2 0 (1 ∷ []))
+allowed_advance : IsAllowed nat_times p (state_after nat_times p (give 3 [] (0 ∷ []) ∷ count_next)) (Advance 2 0 (1 ∷ []))
 allowed_advance = record { client = omega (arith); input = (omega (arith), refl); onward = refl }
 
-allowed_turn : IsAllowed nat_le p (state_after nat_le 0 p waiting) (TakeHeld 1 3)
+allowed_turn : IsAllowed nat_times p (state_after nat_times p waiting) (TakeHeld 1 3)
 unfolding stamp least reaches
 allowed_turn = record { worker = omega (arith); within = omega (arith); free = refl; held = 0; holds = contains_among 0 (0 ∷ []) (inl refl); passed = refl }
 
-counted_give : IsAllowed nat_le p (state_after nat_le 0 p turned) (give 3 (counted ∷ []) [])
+counted_give : IsAllowed nat_times p (state_after nat_times p turned) (give 3 (counted ∷ []) [])
 unfolding stamp least reaches
 counted_give = allowed_give 3 (counted ∷ []) [] turned refl refl (λ t e row. rw (from_start t) refl)
     (record { within = λ f. absurd (true≢false f); final = λ _. record { apart = (refl, tt); held = refl; observed = refl } })
 
-seen_give : IsAllowed nat_le p (state_after nat_le 0 p counted_next) (give 5 (counted ∷ []) [])
+seen_give : IsAllowed nat_times p (state_after nat_times p counted_next) (give 5 (counted ∷ []) [])
 unfolding stamp least
 seen_give = allowed_give 5 (counted ∷ []) [] counted_next refl refl (λ t e row. rw (from_start t) refl) (light 5 _ refl (at_most refl))
 
-fed_legal : IsLegal nat_le 0 p fed
+fed_legal : IsLegal nat_times p fed
 fed_legal = (tt, (allowed_feed, tt))
 
-arranged_legal : IsLegal nat_le 0 p arranged
+arranged_legal : IsLegal nat_times p arranged
 unfolding stamp
 arranged_legal = (allowed_take 1 0 (five ∷ []) (give 0 (five ∷ []) [] ∷ arranged_next) refl refl, (first_give, (allowed_take 0 0 (five ∷ []) fed refl refl, fed_legal)))
 
-joined_legal : IsLegal nat_le 0 p joined_again
+joined_legal : IsLegal nat_times p joined_again
 unfolding stamp
 joined_legal = (allowed_take 2 1 (five ∷ []) (give 2 [] [] ∷ joined_next) refl refl, (joined_give, (allowed_take 2 0 (five ∷ []) (give 1 (five ∷ []) [] ∷ arranged) refl refl, (arranged_give, arranged_legal))))
 
-waiting_legal : IsLegal nat_le 0 p waiting
+waiting_legal : IsLegal nat_times p waiting
 unfolding stamp
 waiting_legal = (allowed_advance, (count_give, (allowed_take 3 0 (five ∷ []) (give 2 (five ∷ []) [] ∷ joined_again) refl refl, (joined_again_give, joined_legal))))
 
-all_legal : IsLegal nat_le 0 p all
+all_legal : IsLegal nat_times p all
 unfolding stamp
 all_legal = (record { client = omega (arith); within = omega (arith); view = refl; onward = refl }, (seen_give, (allowed_take 5 0 (counted ∷ []) (give 3 (counted ∷ []) [] ∷ turned) refl refl, (counted_give, (allowed_turn, waiting_legal)))))
 

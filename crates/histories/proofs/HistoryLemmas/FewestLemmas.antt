@@ -7,6 +7,7 @@ use Rattle.std.specs.List.{list_any}
 use Rattle.std.proofs.lemmas.Int.{ints}
 use Rattle.std.proofs.lemmas.Bool.{and_parts, and_from, or_parts, false≢true}
 use Rattle.std.proofs.Math.IntN.{ℤ, pos, ◌+ℤ◌, +ℤ_idl, +ℤ_idr}
+use Rattle.lattice.specs.Times.{Times}
 use Rattle.lattice.specs.Order.{PartialOrderLaws}
 use Rattle.lattice.specs.Frontiers.{is_beyond}
 use Rattle.update.specs.Bags.{count_of, same_row}
@@ -38,39 +39,39 @@ sum_of-zero (x ∷ xs) = let h = sum_of-zero xs in omega arith
 triangle : (a b : ℤ) → unsigned_abs (a +ℤ b) ≤ unsigned_abs a + unsigned_abs b
 triangle a b = omega (arith, ints)
 
-module _ {T : Type 0} (leq : T → T → Bool) (o : PartialOrderLaws leq) where
+module _ {T : Type 0} (times : Times T) (o : PartialOrderLaws times) where
   -- the two updates have the same row and time
   abbrev pub meets : Update T → Update T → Bool
-  meets u v = (leq u.time v.time && leq v.time u.time) && same_row u.row v.row
+  meets u v = (times.below u.time v.time && times.below v.time u.time) && same_row u.row v.row
 
   abbrev counted : List (Update T) → Update T → ℕ
-  counted us u = unsigned_abs (total_at leq u.row u.time us)
+  counted us u = unsigned_abs (total_at times u.row u.time us)
 
   -- updates that meet have one time
   pub meets_time : (u v : Update T) → meets u v ≡ true → u.time ≡ v.time
   meets_time u v h =
-      let a = and_parts (leq u.time v.time && leq v.time u.time) (same_row u.row v.row) h in
-      let b = and_parts (leq u.time v.time) (leq v.time u.time) a.0 in
+      let a = and_parts (times.below u.time v.time && times.below v.time u.time) (same_row u.row v.row) h in
+      let b = and_parts (times.below u.time v.time) (times.below v.time u.time) a.0 in
       o.antisymmetric u.time v.time b.0 b.1
 
   -- updates that meet have one row
   pub meets_row : (u v : Update T) → meets u v ≡ true → u.row ≡ v.row
-  meets_row u v h = row_same u.row v.row (and_parts (leq u.time v.time && leq v.time u.time) (same_row u.row v.row) h).1
+  meets_row u v h = row_same u.row v.row (and_parts (times.below u.time v.time && times.below v.time u.time) (same_row u.row v.row) h).1
 
   turned : (u v : Update T) → meets u v ≡ true → meets v u ≡ true
   turned u v h =
       let t = meets_time u v h in
-      let l = and_from (leq u.time u.time) (leq u.time u.time) (o.reflexive u.time) (o.reflexive u.time) in
-      let both = and_from (leq u.time u.time && leq u.time u.time) (same_row u.row u.row) l (row_itself u.row) in
-      subst (λ (x : T). ((leq x u.time && leq u.time x) && same_row v.row u.row) ≡ true) t (subst (λ (r : List ℤ). ((leq u.time u.time && leq u.time u.time) && same_row r u.row) ≡ true) (meets_row u v h) both)
+      let l = and_from (times.below u.time u.time) (times.below u.time u.time) (o.reflexive u.time) (o.reflexive u.time) in
+      let both = and_from (times.below u.time u.time && times.below u.time u.time) (same_row u.row u.row) l (row_itself u.row) in
+      subst (λ (x : T). ((times.below x u.time && times.below u.time x) && same_row v.row u.row) ≡ true) t (subst (λ (r : List ℤ). ((times.below u.time u.time && times.below u.time u.time) && same_row r u.row) ≡ true) (meets_row u v h) both)
 
   through_other : (u v x : Update T) → meets u v ≡ true → meets u x ≡ true → meets v x ≡ true
   through_other u v x h k =
-      subst (λ (t : T). ((leq t x.time && leq x.time t) && same_row v.row x.row) ≡ true) (meets_time u v h) (subst (λ (r : List ℤ). ((leq u.time x.time && leq x.time u.time) && same_row r x.row) ≡ true) (meets_row u v h) k)
+      subst (λ (t : T). ((times.below t x.time && times.below x.time t) && same_row v.row x.row) ≡ true) (meets_time u v h) (subst (λ (r : List ℤ). ((times.below u.time x.time && times.below x.time u.time) && same_row r x.row) ≡ true) (meets_row u v h) k)
 
   -- what an update adds to the total of a row at a time
-  shown : (v u : Update T) → cond (same_row v.row u.row && (leq v.time u.time && leq u.time v.time)) v.diff (pos 0) ≡ cond (meets v u) v.diff (pos 0)
-  shown v u = step (leq v.time u.time && leq u.time v.time) (same_row v.row u.row)
+  shown : (v u : Update T) → cond (same_row v.row u.row && (times.below v.time u.time && times.below u.time v.time)) v.diff (pos 0) ≡ cond (meets v u) v.diff (pos 0)
+  shown v u = step (times.below v.time u.time && times.below u.time v.time) (same_row v.row u.row)
     where
       step : (b c : Bool) → cond (c && b) v.diff (pos 0) ≡ cond (b && c) v.diff (pos 0)
       step true true = refl
@@ -93,7 +94,7 @@ module _ {T : Type 0} (leq : T → T → Bool) (o : PartialOrderLaws leq) where
       step false e f ih = ih
 
   -- at most one of some updates that are apart has the row and time of v
-  once : (v : Update T) (d : ℕ) (us : List (Update T)) → AreApart leq us → sum_of (λ u. cond (meets v u) d 0) us ≤ d
+  once : (v : Update T) (d : ℕ) (us : List (Update T)) → AreApart times us → sum_of (λ u. cond (meets v u) d 0) us ≤ d
   once v d [] a = omega arith
   once v d (u ∷ us) a = step (meets v u) refl (once v d us a.1)
     where
@@ -103,7 +104,7 @@ module _ {T : Type 0} (leq : T → T → Bool) (o : PartialOrderLaws leq) where
 
   -- the totals of another list, at the rows and times of updates that are apart, add up to no more
   -- than its size
-  cover : (us : List (Update T)) → AreApart leq us → (vs : List (Update T)) → sum_of (counted vs) us ≤ summed_size vs
+  cover : (us : List (Update T)) → AreApart times us → (vs : List (Update T)) → sum_of (counted vs) us ≤ summed_size vs
   cover us a [] = let z = sum_of-zero us in omega arith
   cover us a (v ∷ vs) =
       let x = sum_of-le (counted (v ∷ vs)) (λ u. cond (meets v u) (unsigned_abs v.diff) 0 + counted vs u) each us in
@@ -118,10 +119,10 @@ module _ {T : Type 0} (leq : T → T → Bool) (o : PartialOrderLaws leq) where
 
       each : (u : Update T) → counted (v ∷ vs) u ≤ cond (meets v u) (unsigned_abs v.diff) 0 + counted vs u
       each u =
-          let c = total_at leq u.row u.time vs in
+          let c = total_at times u.row u.time vs in
           rw (shown v u) (let t = triangle (cond (meets v u) v.diff (pos 0)) c in let e = absolute_of (meets v u) in omega arith)
 
-  count_none : (u : Update T) (us : List (Update T)) → list_any (meets u) us ≡ false → total_at leq u.row u.time us ≡ pos 0
+  count_none : (u : Update T) (us : List (Update T)) → list_any (meets u) us ≡ false → total_at times u.row u.time us ≡ pos 0
   count_none u [] h = refl
   count_none u (v ∷ us) h =
       let g = or_parts (meets u v) (list_any (meets u) us) h in
@@ -132,7 +133,7 @@ module _ {T : Type 0} (leq : T → T → Bool) (o : PartialOrderLaws leq) where
       not_met false e f = refl
 
   -- the totals of updates that are apart, at their own rows and times, add up to their size
-  own_counts : (us : List (Update T)) → AreApart leq us → sum_of (counted us) us ≡ summed_size us
+  own_counts : (us : List (Update T)) → AreApart times us → sum_of (counted us) us ≡ summed_size us
   own_counts [] a = refl
   own_counts (u ∷ us) a =
       let h = own_counts us a.1 in
@@ -141,7 +142,7 @@ module _ {T : Type 0} (leq : T → T → Bool) (o : PartialOrderLaws leq) where
       omega arith
     where
       self : meets u u ≡ true
-      self = and_from (leq u.time u.time && leq u.time u.time) (same_row u.row u.row) (and_from (leq u.time u.time) (leq u.time u.time) (o.reflexive u.time) (o.reflexive u.time)) (row_itself u.row)
+      self = and_from (times.below u.time u.time && times.below u.time u.time) (same_row u.row u.row) (and_from (times.below u.time u.time) (times.below u.time u.time) (o.reflexive u.time) (o.reflexive u.time)) (row_itself u.row)
 
       first : counted (u ∷ us) u ≡ unsigned_abs u.diff
       first = rw (shown u u, self, count_none u us a.0, +ℤ_idr u.diff) refl
@@ -150,30 +151,30 @@ module _ {T : Type 0} (leq : T → T → Bool) (o : PartialOrderLaws leq) where
       rest [] k = refl
       rest (x ∷ xs) k =
           let g = or_parts (meets u x) (list_any (meets u) xs) k in
-          rw (shown u x, g.0, +ℤ_idl (total_at leq x.row x.time us), rest xs g.1) refl
+          rw (shown u x, g.0, +ℤ_idl (total_at times x.row x.time us), rest xs g.1) refl
 
   -- updates that are apart, at passed times, are no larger than any list with the same sums at
   -- passed times
-  pub fewest : (front : List T) (us vs : List (Update T)) → AreApart leq us → AllPassed leq front us → ((t : T) → is_beyond leq front t ≡ false → (r : List ℤ) → count_of (as_of leq t us) r ≡ count_of (as_of leq t vs) r) → summed_size us ≤ summed_size vs
+  pub fewest : (front : List T) (us vs : List (Update T)) → AreApart times us → AllPassed times front us → ((t : T) → is_beyond times front t ≡ false → (r : List ℤ) → count_of (as_of times t us) r ≡ count_of (as_of times t vs) r) → summed_size us ≤ summed_size vs
   fewest front us vs a b h =
       let x = own_counts us a in
       let y = same us b in
       let z = cover us a vs in
       omega arith
     where
-      same : (xs : List (Update T)) → AllPassed leq front xs → sum_of (counted us) xs ≡ sum_of (counted vs) xs
+      same : (xs : List (Update T)) → AllPassed times front xs → sum_of (counted us) xs ≡ sum_of (counted vs) xs
       same [] c = refl
-      same (x ∷ xs) c = rw (same_totals o (λ t. has_passed leq front t) us vs (λ s t l a. is_passed _ (passed_down leq o front s t l (not_beyond _ a))) (λ t k. h t (not_beyond _ k)) x.row x.time (is_passed _ c.0), same xs c.1) refl
+      same (x ∷ xs) c = rw (same_totals o (λ t. has_passed times front t) us vs (λ s t l a. is_passed _ (passed_down times o front s t l (not_beyond _ a))) (λ t k. h t (not_beyond _ k)) x.row x.time (is_passed _ c.0), same xs c.1) refl
 
   -- at the time of each of these updates, and at every time before it, the two lists have the same
   -- sums
   abbrev pub AgreeBelow : List (Update T) → List (Update T) → List (Update T) → Type 0
   AgreeBelow us vs [] = Unit {0}
-  AgreeBelow us vs (x ∷ xs) = ((s : T) → leq s x.time ≡ true → (r : List ℤ) → count_of (as_of leq s us) r ≡ count_of (as_of leq s vs) r) × AgreeBelow us vs xs
+  AgreeBelow us vs (x ∷ xs) = ((s : T) → times.below s x.time ≡ true → (r : List ℤ) → count_of (as_of times s us) r ≡ count_of (as_of times s vs) r) × AgreeBelow us vs xs
 
   -- updates that are apart are no larger than a list that agrees with them at and before each of
   -- their times
-  pub fewest_below : (us vs : List (Update T)) → AreApart leq us → AgreeBelow us vs us → summed_size us ≤ summed_size vs
+  pub fewest_below : (us vs : List (Update T)) → AreApart times us → AgreeBelow us vs us → summed_size us ≤ summed_size vs
   fewest_below us vs a b =
       let x = own_counts us a in
       let y = same us b in
@@ -183,4 +184,4 @@ module _ {T : Type 0} (leq : T → T → Bool) (o : PartialOrderLaws leq) where
       same : (xs : List (Update T)) → AgreeBelow us vs xs → sum_of (counted us) xs ≡ sum_of (counted vs) xs
       same [] c = refl
       same (x ∷ xs) c =
-          rw (same_totals o (λ s. leq s x.time) us vs (λ s t l p. o.transitive s t x.time l p) (λ t k. c.0 t k) x.row x.time (o.reflexive x.time), same xs c.1) refl
+          rw (same_totals o (λ s. times.below s x.time) us vs (λ s t l p. o.transitive s t x.time l p) (λ t k. c.0 t k) x.row x.time (o.reflexive x.time), same xs c.1) refl

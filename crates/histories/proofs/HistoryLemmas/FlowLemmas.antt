@@ -17,6 +17,7 @@ use Rattle.histories.specs.Histories.States.{same_place, updates_at, queue}
 use Rattle.histories.specs.Histories.{without}
 use Rattle.update.proofs.SumLemmas.{total_by-append}
 use Rattle.plan.proofs.CountLemmas.{count_of-append}
+use Rattle.lattice.specs.Times.{Times}
 
 -- places that the test calls the same are equal
 pub place_same : (a b : Site) → same_place a b ≡ true → a ≡ b
@@ -28,39 +29,39 @@ place_same a b h =
     made : a.node ≡ b.node → a.port ≡ b.port → a.worker ≡ b.worker → a ≡ b
     made x y z = λ i. record { node = x i; port = y i; worker = z i }
 
-module _ {T : Type 0} (leq : T → T → Bool) (t : T) where
+module _ {T : Type 0} (times : Times T) (t : T) where
   -- how often a row is in the sum at t
   abbrev pub sum_at : List (Update T) → List ℤ → ℤ
-  sum_at us r = count_of (as_of leq t us) r
+  sum_at us r = count_of (as_of times t us) r
 
   abbrev counts : Update T → Bool
-  counts u = leq u.time t
+  counts u = times.below u.time t
 
   -- the sum of two lists at a time is the sum of each
-  pub as_of-append : (xs ys : List (Update T)) → as_of leq t (xs ++ ys) ≡ as_of leq t xs ++ as_of leq t ys
+  pub as_of-append : (xs ys : List (Update T)) → as_of times t (xs ++ ys) ≡ as_of times t xs ++ as_of times t ys
   as_of-append [] ys = refl
-  as_of-append (u ∷ xs) ys = step (leq u.time t) (as_of-append xs ys)
+  as_of-append (u ∷ xs) ys = step (times.below u.time t) (as_of-append xs ys)
     where
-      step : (b : Bool) → as_of leq t (xs ++ ys) ≡ as_of leq t xs ++ as_of leq t ys → map entry (cond b (u ∷ filter counts (xs ++ ys)) (filter counts (xs ++ ys))) ≡ map entry (cond b (u ∷ filter counts xs) (filter counts xs)) ++ as_of leq t ys
+      step : (b : Bool) → as_of times t (xs ++ ys) ≡ as_of times t xs ++ as_of times t ys → map entry (cond b (u ∷ filter counts (xs ++ ys)) (filter counts (xs ++ ys))) ≡ map entry (cond b (u ∷ filter counts xs) (filter counts xs)) ++ as_of times t ys
       step true h = ap (λ z. entry u ∷ z) h
       step false h = h
 
   -- the count of a row in two lists is the sum of its counts in each
   pub sum_at-append : (xs ys : List (Update T)) (r : List ℤ) → sum_at (xs ++ ys) r ≡ sum_at xs r +ℤ sum_at ys r
-  sum_at-append xs ys r = rw (as_of-append xs ys) (count_of-append (as_of leq t xs) (as_of leq t ys) r)
+  sum_at-append xs ys r = rw (as_of-append xs ys) (count_of-append (as_of times t xs) (as_of times t ys) r)
 
 -- what an update adds to a row
 abbrev pub value : {T : Type 0} → List ℤ → Update T → ℤ
 value r u = cond (same_row u.row r) u.diff (pos 0)
 
 -- a sum at a time as a total over the updates, so that lemmas of totals serve it
-pub through_is : {T : Type 0} (leq : T → T → Bool) (r : List ℤ) (t : T) (us : List (Update T)) → count_of (as_of leq t us) r ≡ total_by (λ u. cond (leq u.time t) (value r u) (pos 0)) us
-through_is leq r t [] = refl
-through_is {T} leq r t (u ∷ us) = step (leq u.time t) (through_is leq r t us)
+pub through_is : {T : Type 0} (times : Times T) (r : List ℤ) (t : T) (us : List (Update T)) → count_of (as_of times t us) r ≡ total_by (λ u. cond (times.below u.time t) (value r u) (pos 0)) us
+through_is times r t [] = refl
+through_is {T} times r t (u ∷ us) = step (times.below u.time t) (through_is times r t us)
   where
-    step : (b : Bool) → count_of (as_of leq t us) r ≡ total_by (λ u. cond (leq u.time t) (value r u) (pos 0)) us → count_of (map entry (cond b (u ∷ filter (λ (u : Update T). leq u.time t) us) (filter (λ (u : Update T). leq u.time t) us))) r ≡ cond b (value r u) (pos 0) +ℤ total_by (λ u. cond (leq u.time t) (value r u) (pos 0)) us
+    step : (b : Bool) → count_of (as_of times t us) r ≡ total_by (λ u. cond (times.below u.time t) (value r u) (pos 0)) us → count_of (map entry (cond b (u ∷ filter (λ (u : Update T). times.below u.time t) us) (filter (λ (u : Update T). times.below u.time t) us))) r ≡ cond b (value r u) (pos 0) +ℤ total_by (λ u. cond (times.below u.time t) (value r u) (pos 0)) us
     step true h = ap (λ z. value r u +ℤ z) h
-    step false h = h ∙ sym (+ℤ_idl (total_by (λ u. cond (leq u.time t) (value r u) (pos 0)) us))
+    step false h = h ∙ sym (+ℤ_idl (total_by (λ u. cond (times.below u.time t) (value r u) (pos 0)) us))
 
 module _ {T : Type 0} (f : Update T → ℤ) where
   -- the total at a place over two lists of bundles is the sum over each

@@ -9,6 +9,7 @@ use Rattle.std.proofs.lemmas.List.Concat.{flat_map-append}
 use Rattle.std.proofs.lemmas.List.Folds.{list_any-append, list_all-append}
 use Rattle.std.proofs.Math.IntN.{ℤ, pos, ◌+ℤ◌}
 use mathlib.Core.Path.{fun_ext}
+use Rattle.lattice.specs.Times.{Times}
 use Rattle.lattice.specs.Order.{PartialOrderLaws}
 use Rattle.lattice.specs.Frontiers.{is_beyond, all_beyond}
 use Rattle.lattice.proofs.FrontierLemmas.{beyond_itself}
@@ -25,7 +26,7 @@ use Rattle.histories.specs.declared.event.HeldTime.{HeldTime}
 use Rattle.histories.specs.declared.event.Event.{Event}
 use Rattle.histories.specs.declared.event.Event.TheVariants.{Feed, Advance, Allow, Look, Take, TakeHeld, Give}
 use Rattle.histories.specs.Histories.Dataflows.{Dataflow, node_of, node_output}
-use Rattle.histories.specs.Histories.States.{State, place, same_place, times, updates_at, queue, emitted_by, held_at}
+use Rattle.histories.specs.Histories.States.{State, place, same_place, update_times, updates_at, queue, emitted_by, held_at}
 use Rattle.histories.specs.Histories.Shares.{share, share_fed}
 use Rattle.histories.specs.Histories.NodeLaws.{NodeLaw}
 use Rattle.histories.specs.Histories.{alone, without, held_entries, initial_state, take_state, give_state, next_state, IsGive, IsAllowed, state_after, IsLegal}
@@ -76,25 +77,25 @@ AreInputs p [] = Unit {0}
 AreInputs p (f ∷ fs) = IsTrue (is_input (node_of p f.input)) × AreInputs p fs
 
 -- each update of the bundle is beyond its stamp
-abbrev pub is_stamped : {T : Type 0} → (T → T → Bool) → Bundle T → Bool
-is_stamped leq b = all_beyond leq b.stamp (times b.updates)
+abbrev pub is_stamped : {T : Type 0} → Times T → Bundle T → Bool
+is_stamped times b = all_beyond times b.stamp (update_times b.updates)
 
 -- the invariant of legal histories
-pub record IsKept {T : Type 0} (leq : T → T → Bool) (p : Dataflow) (w : State T) : Type 0 where
+pub record IsKept {T : Type 0} (times : Times T) (p : Dataflow) (w : State T) : Type 0 where
   -- what was received at a place, and what is in flight there, are together what came
   pub conserved : (site : Site) (f : Update T → ℤ) → total_by f (updates_at site w.received) +ℤ total_by f (updates_at site w.in_flight) ≡ total_by f (coming p site w.emitted w.fed)
-  pub law : (n k : ℕ) → NodeLaw leq p w n k
+  pub law : (n k : ℕ) → NodeLaw times p w n k
   pub workers : AreWorkers p.workers w.emitted
   pub inputs : AreInputs p w.fed
   -- each update in flight is beyond its bundle's stamp
-  pub stamped : IsTrue (list_all (is_stamped leq) w.in_flight)
+  pub stamped : IsTrue (list_all (is_stamped times) w.in_flight)
 
 -- at a time that a list has passed, no update of it counts
-pub as_of-passed : {T : Type 0} (leq : T → T → Bool) (t : T) (us : List (Update T)) → is_beyond leq (times us) t ≡ false → as_of leq t us ≡ []
-as_of-passed leq t [] h = refl
-as_of-passed leq t (u ∷ us) h =
-    let b = or_parts (leq u.time t) (is_beyond leq (times us) t) h in
-    rw b.0 (as_of-passed leq t us b.1)
+pub as_of-passed : {T : Type 0} (times : Times T) (t : T) (us : List (Update T)) → is_beyond times (update_times us) t ≡ false → as_of times t us ≡ []
+as_of-passed times t [] h = refl
+as_of-passed times t (u ∷ us) h =
+    let b = or_parts (times.below u.time t) (is_beyond times (update_times us) t) h in
+    rw b.0 (as_of-passed times t us b.1)
 
 -- the times that are noted for a worker and a node are those that it holds there
 pub held_marked : {T : Type 0} (n k a b : ℕ) (ts : List T) → (eqb a n && eqb b k) ≡ true → held_at n k (held_entries a b ts) ≡ ts
@@ -119,7 +120,7 @@ held_kept {T} n k a b (m ∷ ms) h = step (eqb m.node a && eqb m.worker b) refl 
         rw (eqb-true m.node a q.0, eqb-true m.worker b q.1, h) ih
     step false e ih = ap (λ z. cond (eqb m.node n && eqb m.worker k) (m.time ∷ []) [] ++ z) ih
 
-module _ {T : Type 0} (leq : T → T → Bool) (o : PartialOrderLaws leq) (p : Dataflow) where
+module _ {T : Type 0} (times : Times T) (o : PartialOrderLaws times) (p : Dataflow) where
   feed_sum : (r f s e d : ℤ) → r +ℤ f ≡ e +ℤ d → r +ℤ (f +ℤ (s +ℤ pos 0)) ≡ e +ℤ (s +ℤ d)
   feed_sum r f s e d h = omega (arith, ints)
 
@@ -129,34 +130,34 @@ module _ {T : Type 0} (leq : T → T → Bool) (o : PartialOrderLaws leq) (p : D
   give_sum : (r f s e d : ℤ) → r +ℤ f ≡ e +ℤ d → r +ℤ (f +ℤ s) ≡ (s +ℤ e) +ℤ d
   give_sum r f s e d h = omega (arith, ints)
 
-  held_parts : (n k : ℕ) (xs ys : List (HeldTime T)) (t : T) → is_beyond leq (held_at n k (xs ++ ys)) t ≡ false → (is_beyond leq (held_at n k xs) t ≡ false) × (is_beyond leq (held_at n k ys) t ≡ false)
+  held_parts : (n k : ℕ) (xs ys : List (HeldTime T)) (t : T) → is_beyond times (held_at n k (xs ++ ys)) t ≡ false → (is_beyond times (held_at n k xs) t ≡ false) × (is_beyond times (held_at n k ys) t ≡ false)
   held_parts n k xs ys t h =
-      or_parts (is_beyond leq (held_at n k xs) t) (is_beyond leq (held_at n k ys) t)
-      (sym (list_any-append (λ f. leq f t) (held_at n k xs) (held_at n k ys)) ∙ (ap (λ z. is_beyond leq z t) (sym (flat_map-append (λ (m : HeldTime T). cond (eqb m.node n && eqb m.worker k) (m.time ∷ []) []) xs ys)) ∙ h))
+      or_parts (is_beyond times (held_at n k xs) t) (is_beyond times (held_at n k ys) t)
+      (sym (list_any-append (λ f. times.below f t) (held_at n k xs) (held_at n k ys)) ∙ (ap (λ z. is_beyond times z t) (sym (flat_map-append (λ (m : HeldTime T). cond (eqb m.node n && eqb m.worker k) (m.time ∷ []) []) xs ys)) ∙ h))
 
   -- at a time that a bundle's stamp has passed, the bundle adds nothing at any place
-  not_there : (b : Bundle T) → is_stamped leq b ≡ true → (n m port : ℕ) (t : T) → is_beyond leq (held_at n m (held_entries b.place.node b.place.worker b.stamp)) t ≡ false → as_of leq t (cond (same_place b.place (place n port m)) b.updates []) ≡ []
+  not_there : (b : Bundle T) → is_stamped times b ≡ true → (n m port : ℕ) (t : T) → is_beyond times (held_at n m (held_entries b.place.node b.place.worker b.stamp)) t ≡ false → as_of times t (cond (same_place b.place (place n port m)) b.updates []) ≡ []
   not_there b a n m port t h = step (same_place b.place (place n port m)) refl
     where
-      step : (c : Bool) → same_place b.place (place n port m) ≡ c → as_of leq t (cond c b.updates []) ≡ []
+      step : (c : Bool) → same_place b.place (place n port m) ≡ c → as_of times t (cond c b.updates []) ≡ []
       step false e = refl
       step true e =
           let q = and_parts (eqb b.place.node n) (eqb b.place.port port && eqb b.place.worker m) e in
           let q1 = and_parts (eqb b.place.port port) (eqb b.place.worker m) q.1 in
           let there = held_marked n m b.place.node b.place.worker b.stamp (and_from (eqb b.place.node n) (eqb b.place.worker m) q.0 q1.1) in
-          as_of-passed leq t b.updates (beyond_passed leq o b.stamp (times b.updates) t a (subst (λ z. is_beyond leq z t ≡ false) there h))
+          as_of-passed times t b.updates (beyond_passed times o b.stamp (update_times b.updates) t a (subst (λ z. is_beyond times z t ≡ false) there h))
 
   -- if bundles in flight are stamped and those added are too, all are
-  stamped_more : (xs ys : List (Bundle T)) → list_all (is_stamped leq) xs ≡ true → list_all (is_stamped leq) ys ≡ true → list_all (is_stamped leq) (xs ++ ys) ≡ true
-  stamped_more xs ys a b = list_all-append (is_stamped leq) xs ys ∙ and_from (list_all (is_stamped leq) xs) (list_all (is_stamped leq) ys) a b
+  stamped_more : (xs ys : List (Bundle T)) → list_all (is_stamped times) xs ≡ true → list_all (is_stamped times) ys ≡ true → list_all (is_stamped times) (xs ++ ys) ≡ true
+  stamped_more xs ys a b = list_all-append (is_stamped times) xs ys ∙ and_from (list_all (is_stamped times) xs) (list_all (is_stamped times) ys) a b
 
-  stamped_alone : (f : Fed T) → list_all (is_stamped leq) (alone p f ∷ []) ≡ true
-  stamped_alone f = and_from (all_beyond leq (f.update.time ∷ []) (f.update.time ∷ [])) true (beyond_itself o (f.update.time ∷ [])) refl
+  stamped_alone : (f : Fed T) → list_all (is_stamped times) (alone p f ∷ []) ≡ true
+  stamped_alone f = and_from (all_beyond times (f.update.time ∷ []) (f.update.time ∷ [])) true (beyond_itself o (f.update.time ∷ [])) refl
 
-  stamped_sent : (F : List T) (sent : List (Bundle T)) → list_all (λ b. all_beyond leq F b.stamp && all_beyond leq b.stamp (times b.updates)) sent ≡ true → list_all (is_stamped leq) sent ≡ true
-  stamped_sent F sent a = all_from (is_stamped leq) sent (λ b m. (and_parts (all_beyond leq F b.stamp) (is_stamped leq b) (all_at (λ b. all_beyond leq F b.stamp && all_beyond leq b.stamp (times b.updates)) sent b a m)).1)
+  stamped_sent : (F : List T) (sent : List (Bundle T)) → list_all (λ b. all_beyond times F b.stamp && all_beyond times b.stamp (update_times b.updates)) sent ≡ true → list_all (is_stamped times) sent ≡ true
+  stamped_sent F sent a = all_from (is_stamped times) sent (λ b m. (and_parts (all_beyond times F b.stamp) (is_stamped times b) (all_at (λ b. all_beyond times F b.stamp && all_beyond times b.stamp (update_times b.updates)) sent b a m)).1)
 
-  kept_feed : (w : State T) (c : ℕ) (f : Fed T) → IsTrue (is_input (node_of p f.input)) → IsKept leq p w → IsKept leq p (next_state leq p w (Feed c f))
+  kept_feed : (w : State T) (c : ℕ) (f : Fed T) → IsTrue (is_input (node_of p f.input)) → IsKept times p w → IsKept times p (next_state times p w (Feed c f))
   kept_feed w c f i k = record { conserved = conserved; law = k.law; workers = k.workers; inputs = (i, k.inputs); stamped = stamped_more w.in_flight (alone p f ∷ []) k.stamped (stamped_alone f) }
     where
       conserved : (site : Site) (v : Update T → ℤ) → total_by v (updates_at site w.received) +ℤ total_by v (updates_at site (w.in_flight ++ alone p f ∷ [])) ≡ total_by v (coming p site w.emitted (f ∷ w.fed))
@@ -172,8 +173,8 @@ module _ {T : Type 0} (leq : T → T → Bool) (o : PartialOrderLaws leq) (p : D
           )
           (feed_sum (total_by v (updates_at site w.received)) (total_by v (updates_at site w.in_flight)) (total_by v (share_fed p site f)) (total_by v es) (total_by v fs) before)
 
-  kept_took : (w : State T) (j : ℕ) (b : Bundle T) → slice_get (queue b.place w.in_flight) j ≡ Some b → IsKept leq p w → IsKept leq p (take_state leq p w j b)
-  kept_took w j b e k = record { conserved = conserved; law = law; workers = k.workers; inputs = k.inputs; stamped = all_from (is_stamped leq) (without b.place w.in_flight j) (λ x m. all_at (is_stamped leq) w.in_flight x k.stamped (among_left b.place w.in_flight j x m)) }
+  kept_took : (w : State T) (j : ℕ) (b : Bundle T) → slice_get (queue b.place w.in_flight) j ≡ Some b → IsKept times p w → IsKept times p (take_state times p w j b)
+  kept_took w j b e k = record { conserved = conserved; law = law; workers = k.workers; inputs = k.inputs; stamped = all_from (is_stamped times) (without b.place w.in_flight j) (λ x m. all_at (is_stamped times) w.in_flight x k.stamped (among_left b.place w.in_flight j x m)) }
     where
       conserved : (other : Site) (v : Update T → ℤ) → total_by v (updates_at other (b ∷ w.received)) +ℤ total_by v (updates_at other (without b.place w.in_flight j)) ≡ total_by v (coming p other w.emitted w.fed)
       conserved other v =
@@ -181,17 +182,17 @@ module _ {T : Type 0} (leq : T → T → Bool) (o : PartialOrderLaws leq) (p : D
           (take_sum (total_by v (updates_at other w.received)) (total_by v (updates_at other w.in_flight)) (total_by v (cond (same_place b.place other) b.updates [])) (total_by v (updates_at other (without b.place w.in_flight j))) (total_by v (coming p other w.emitted w.fed))
           (k.conserved other v) (taken v b.place w.in_flight j b e other))
 
-      stamped : is_stamped leq b ≡ true
-      stamped = all_at (is_stamped leq) w.in_flight b k.stamped (queued b.place w.in_flight j b e).0
+      stamped : is_stamped times b ≡ true
+      stamped = all_at (is_stamped times) w.in_flight b k.stamped (queued b.place w.in_flight j b e).0
 
-      law : (n m : ℕ) → NodeLaw leq p (take_state leq p w j b) n m
+      law : (n m : ℕ) → NodeLaw times p (take_state times p w j b) n m
       law n m t h r =
           let hp = held_parts n m w.held (held_entries b.place.node b.place.worker b.stamp) t (not_beyond _ h) in
-          let same : (port : ℕ) → as_of leq t (updates_at (place n port m) w.received) ≡ as_of leq t (updates_at (place n port m) (b ∷ w.received)) =
-          λ port. sym (as_of-append leq t (cond (same_place b.place (place n port m)) b.updates []) (updates_at (place n port m) w.received) ∙ ap (λ z. z ++ as_of leq t (updates_at (place n port m) w.received)) (not_there b stamped n m port t hp.1)) in
+          let same : (port : ℕ) → as_of times t (updates_at (place n port m) w.received) ≡ as_of times t (updates_at (place n port m) (b ∷ w.received)) =
+          λ port. sym (as_of-append times t (cond (same_place b.place (place n port m)) b.updates []) (updates_at (place n port m) w.received) ∙ ap (λ z. z ++ as_of times t (updates_at (place n port m) w.received)) (not_there b stamped n m port t hp.1)) in
           k.law n m t (is_passed _ hp.0) r ∙ ap (λ z. count_of (node_output p n z) r) (fun_ext same)
 
-  kept_gave : (w : State T) (g : Emission T) (held : List T) (sent : List (Bundle T)) → IsGive leq p w g held sent → IsKept leq p w → IsKept leq p (give_state leq p w g held sent)
+  kept_gave : (w : State T) (g : Emission T) (held : List T) (sent : List (Bundle T)) → IsGive times p w g held sent → IsKept times p w → IsKept times p (give_state times p w g held sent)
   kept_gave w g held sent a k = record { conserved = conserved; law = law; workers = (a.worker, k.workers); inputs = k.inputs; stamped = stamped_more w.in_flight sent k.stamped (stamped_sent (held_at g.node g.worker w.held) sent a.stamped) }
     where
       conserved : (site : Site) (v : Update T → ℤ) → total_by v (updates_at site w.received) +ℤ total_by v (updates_at site (w.in_flight ++ sent)) ≡ total_by v (coming p site (g ∷ w.emitted) w.fed)
@@ -207,20 +208,20 @@ module _ {T : Type 0} (leq : T → T → Bool) (o : PartialOrderLaws leq) (p : D
           )
           (give_sum (total_by v (updates_at site w.received)) (total_by v (updates_at site w.in_flight)) (total_by v (share p site g)) (total_by v es) (total_by v fs) before)
 
-      law : (n m : ℕ) → NodeLaw leq p (give_state leq p w g held sent) n m
+      law : (n m : ℕ) → NodeLaw times p (give_state times p w g held sent) n m
       law n m = step (eqb g.node n && eqb g.worker m) refl
         where
-          step : (b : Bool) → (eqb g.node n && eqb g.worker m) ≡ b → NodeLaw leq p (give_state leq p w g held sent) n m
+          step : (b : Bool) → (eqb g.node n && eqb g.worker m) ≡ b → NodeLaw times p (give_state times p w g held sent) n m
           step true e =
               let q = and_parts (eqb g.node n) (eqb g.worker m) e in
-              subst (λ x. NodeLaw leq p (give_state leq p w g held sent) x m) (eqb-true g.node n q.0) (subst (λ y. NodeLaw leq p (give_state leq p w g held sent) g.node y) (eqb-true g.worker m q.1) a.law)
+              subst (λ x. NodeLaw times p (give_state times p w g held sent) x m) (eqb-true g.node n q.0) (subst (λ y. NodeLaw times p (give_state times p w g held sent) g.node y) (eqb-true g.worker m q.1) a.law)
           step false e = λ t h r.
               let hp = held_parts n m (held_entries g.node g.worker held) (filter (λ x. not (eqb x.node g.node && eqb x.worker g.worker)) w.held) t (not_beyond _ h) in
-              let old : is_beyond leq (held_at n m w.held) t ≡ false = subst (λ z. is_beyond leq z t ≡ false) (held_kept n m g.node g.worker w.held e) hp.1 in
-              ap (λ b. count_of (as_of leq t (cond b g.updates [] ++ emitted_by n m w.emitted)) r) e ∙ k.law n m t (is_passed _ old) r
+              let old : is_beyond times (held_at n m w.held) t ≡ false = subst (λ z. is_beyond times z t ≡ false) (held_kept n m g.node g.worker w.held e) hp.1 in
+              ap (λ b. count_of (as_of times t (cond b g.updates [] ++ emitted_by n m w.emitted)) r) e ∙ k.law n m t (is_passed _ old) r
 
   -- each allowed event keeps the invariant
-  pub kept_after : (w : State T) (e : Event T) → IsAllowed leq p w e → IsKept leq p w → IsKept leq p (next_state leq p w e)
+  pub kept_after : (w : State T) (e : Event T) → IsAllowed times p w e → IsKept times p w → IsKept times p (next_state times p w e)
   kept_after w (Feed c f) a k = kept_feed w c f a.input.1 k
   kept_after w (Advance c i ts) a k = record { conserved = k.conserved; law = k.law; workers = k.workers; inputs = k.inputs; stamped = k.stamped }
   kept_after w (Allow c v ts) a k = record { conserved = k.conserved; law = k.law; workers = k.workers; inputs = k.inputs; stamped = k.stamped }
@@ -230,10 +231,10 @@ module _ {T : Type 0} (leq : T → T → Bool) (o : PartialOrderLaws leq) (p : D
   kept_after w (Give g held sent) a k = kept_gave w g held sent a k
 
   -- the invariant holds before the first event
-  pub kept_first : (minimum : T) → IsKept leq p (initial_state leq minimum p)
-  kept_first minimum = record { conserved = λ site v. refl; law = λ n k t h r. sym (given_nothing (key_width p.nodes (node_of p n)) (node_of p n) r); workers = tt; inputs = tt; stamped = refl }
+  pub kept_first : IsKept times p (initial_state times p)
+  kept_first = record { conserved = λ site v. refl; law = λ n k t h r. sym (given_nothing (key_width p.nodes (node_of p n)) (node_of p n) r); workers = tt; inputs = tt; stamped = refl }
 
   -- the invariant holds in every legal history; all promises start from it
-  pub kept_state : (minimum : T) (h : List (Event T)) → IsLegal leq minimum p h → IsKept leq p (state_after leq minimum p h)
-  kept_state minimum [] l = kept_first minimum
-  kept_state minimum (e ∷ h) l = kept_after (state_after leq minimum p h) e l.0 (kept_state minimum h l.1)
+  pub kept_state : (h : List (Event T)) → IsLegal times p h → IsKept times p (state_after times p h)
+  kept_state [] l = kept_first
+  kept_state (e ∷ h) l = kept_after (state_after times p h) e l.0 (kept_state h l.1)

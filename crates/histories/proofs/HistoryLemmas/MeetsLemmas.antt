@@ -1,5 +1,6 @@
 -- What holds of a reading follows from the headline.
-use Rattle.std.proofs.Common.{Bool, not, List, ap, sym, ◌∙◌}
+use Rattle.std.proofs.Common.{not, List, ap, sym, ◌∙◌}
+use Rattle.lattice.specs.Times.{Times}
 use Rattle.lattice.specs.Order.{PartialOrderLaws}
 use Rattle.histories.specs.declared.event.Event.{Event}
 use Rattle.histories.specs.Histories.Dataflows.{Dataflow, IsDataflow}
@@ -11,7 +12,7 @@ use Rattle.histories.proofs.HistoryLemmas.QuietLemmas.{beyond_elements}
 
 -- in every legal history, any reading of a view is the query at times that are passed and still
 -- held
-pub reads_lem : {T : Type 0} (leq : T → T → Bool) (minimum : T) → PartialOrderLaws leq → (p : Dataflow) → IsDataflow p → (h : List (Event T)) → IsLegal leq minimum p h → ReadsQuery leq p (state_after leq minimum p h)
-reads_lem leq minimum o p q h l view us front since r t passed held row =
+pub reads_lem : {T : Type 0} (times : Times T) → PartialOrderLaws times → (p : Dataflow) → IsDataflow p → (h : List (Event T)) → IsLegal times p h → ReadsQuery times p (state_after times p h)
+reads_lem times o p q h l view us front since r t passed held row =
     r.sums t held row
-    ∙ headline_lem leq minimum o p q h l view t (ap not (sym (beyond_elements leq front (frontier leq p (state_after leq minimum p h) view) r.stands t)) ∙ passed) row
+    ∙ headline_lem times o p q h l view t (ap not (sym (beyond_elements times front (frontier times p (state_after times p h) view) r.stands t)) ∙ passed) row

@@ -6,6 +6,7 @@ use Rattle.std.specs.List.{flat_map, filter, slice_get}
 use Rattle.std.proofs.lemmas.Bool.{and_parts, and_from, or_parts, or_from, or_right, or_cases, eqb-true, ne_eqb, false≢true}
 use Rattle.std.proofs.lemmas.List.Concat.{flat_map-append}
 use Rattle.std.proofs.lemmas.List.Folds.{list_any-append}
+use Rattle.lattice.specs.Times.{Times}
 use Rattle.lattice.specs.Order.{PartialOrderLaws}
 use Rattle.lattice.specs.Frontiers.{is_beyond, all_beyond}
 use Rattle.plan.specs.Nodes.{is_input}
@@ -22,7 +23,7 @@ use Rattle.histories.specs.declared.event.OpenTime.{OpenTime}
 use Rattle.histories.specs.declared.event.Event.{Event}
 use Rattle.histories.specs.declared.event.Event.TheVariants.{Feed, Advance, Allow, Look, Take, TakeHeld, Give}
 use Rattle.histories.specs.Histories.Dataflows.{Dataflow, IsDataflow, node_of, source_of, upstream, route}
-use Rattle.histories.specs.Histories.States.{State, place, times, queue, held_at, open_at}
+use Rattle.histories.specs.Histories.States.{State, place, update_times, queue, held_at, open_at}
 use Rattle.histories.specs.Histories.Shares.{home}
 use Rattle.histories.specs.Histories.Outstanding.{stamps, frontier, strictly_upstream, input_frontier, port_frontier}
 use Rattle.histories.specs.Histories.{alone, without, is_held_by, held_entries, open_entries, take_state, give_state, next_state, IsFeed, IsGive, IsAllowed}
@@ -34,21 +35,21 @@ use Rattle.histories.proofs.HistoryLemmas.PlaceLemmas.{sent_from}
 use Rattle.plan.proofs.PlanLemmas.{source_smaller}
 use Rattle.plan.proofs.StandLemmas.{above_itself, above_from_source, above_earlier, above_transitive}
 
-module _ {T : Type 0} (leq : T → T → Bool) (o : PartialOrderLaws leq) (t : T) where
+module _ {T : Type 0} (times : Times T) (o : PartialOrderLaws times) (t : T) where
   -- the fixed time of this module is not beyond these times
   abbrev pub IsPassed : List T → Type 0
-  IsPassed F = is_beyond leq F t ≡ false
+  IsPassed F = is_beyond times F t ≡ false
 
   -- if two lists together have passed the time, each has
   pub passed_parts : (F G : List T) → IsPassed (F ++ G) → IsPassed F × IsPassed G
-  passed_parts F G h = or_parts (is_beyond leq F t) (is_beyond leq G t) (sym (list_any-append (λ f. leq f t) F G) ∙ h)
+  passed_parts F G h = or_parts (is_beyond times F t) (is_beyond times G t) (sym (list_any-append (λ f. times.below f t) F G) ∙ h)
 
   -- if each of two lists has passed the time, both together have
   pub passed_both : (F G : List T) → IsPassed F → IsPassed G → IsPassed (F ++ G)
-  passed_both F G f g = list_any-append (λ x. leq x t) F G ∙ or_from (is_beyond leq F t) (is_beyond leq G t) f g
+  passed_both F G f g = list_any-append (λ x. times.below x t) F G ∙ or_from (is_beyond times F t) (is_beyond times G t) f g
 
-  passed_onward : (F G : List T) → all_beyond leq F G ≡ true → IsPassed F → IsPassed G
-  passed_onward F G a f = beyond_passed leq o F G t a f
+  passed_onward : (F G : List T) → all_beyond times F G ≡ true → IsPassed F → IsPassed G
+  passed_onward F G a f = beyond_passed times o F G t a f
 
   -- if all parts of a list have passed the time, so have those that a test keeps
   passed_some : {X : Type 0} (part : X → List T) (keep : X → Bool) (xs : List X) → IsPassed (flat_map part xs) → IsPassed (flat_map part (filter keep xs))
@@ -151,14 +152,14 @@ module _ {T : Type 0} (leq : T → T → Bool) (o : PartialOrderLaws leq) (t : T
     abbrev pub IsCountPassed : State T → Type 0
     IsCountPassed w = IsPassed (stamps there w.in_flight) × IsPassed (held_where holds w.held) × IsPassed (open_where opens w.open_times)
 
-    onward_feed : (w : State T) (c : ℕ) (f : Fed T) → IsFeed leq p w c f → IsCountPassed w → IsPassed (stamps there (alone p f ∷ []))
+    onward_feed : (w : State T) (c : ℕ) (f : Fed T) → IsFeed times p w c f → IsCountPassed w → IsPassed (stamps there (alone p f ∷ []))
     onward_feed w c f a h = passed_both (cond (there (home p f)) (f.update.time ∷ []) []) [] (step (there (home p f)) refl) refl
       where
         step : (b : Bool) → there (home p f) ≡ b → IsPassed (cond b (f.update.time ∷ []) [])
         step false e = refl
-        step true e = passed_onward (open_at f.input w.open_times) (f.update.time ∷ []) (and_from (is_beyond leq (open_at f.input w.open_times) f.update.time) true a.not_passed refl) (passed_edge opens f.input (of_inputs f.input (route p f.update.row) a.input.1 e) w.open_times h.2)
+        step true e = passed_onward (open_at f.input w.open_times) (f.update.time ∷ []) (and_from (is_beyond times (open_at f.input w.open_times) f.update.time) true a.not_passed refl) (passed_edge opens f.input (of_inputs f.input (route p f.update.row) a.input.1 e) w.open_times h.2)
 
-    onward_took : (w : State T) (j : ℕ) (b : Bundle T) → slice_get (queue b.place w.in_flight) j ≡ Some b → IsCountPassed w → IsCountPassed (take_state leq p w j b)
+    onward_took : (w : State T) (j : ℕ) (b : Bundle T) → slice_get (queue b.place w.in_flight) j ≡ Some b → IsCountPassed w → IsCountPassed (take_state times p w j b)
     onward_took w j b e h = (
       passed_without there b.place w.in_flight j h.0,
       subst IsPassed (sym (flat_map-append (λ (m : HeldTime T). cond (holds m.node) (m.time ∷ []) []) w.held (held_entries b.place.node b.place.worker b.stamp)))
@@ -167,13 +168,13 @@ module _ {T : Type 0} (leq : T → T → Bool) (o : PartialOrderLaws leq) (t : T
     )
 
     -- what is sent comes from the sources of its places, and is beyond what was held there
-    onward_sent : (w : State T) (g : Emission T) (held : List T) (sent : List (Bundle T)) → IsGive leq p w g held sent → IsCountPassed w → IsPassed (stamps there sent)
+    onward_sent : (w : State T) (g : Emission T) (held : List T) (sent : List (Bundle T)) → IsGive times p w g held sent → IsCountPassed w → IsPassed (stamps there sent)
     onward_sent w g held sent a h = passed_all (λ b. there b.place) (λ b. b.stamp) sent (λ b m e.
         let before = held_at g.node g.worker w.held in
-        let s = and_parts (all_beyond leq before b.stamp) (all_beyond leq b.stamp (times b.updates)) (all_at (λ b. all_beyond leq before b.stamp && all_beyond leq b.stamp (times b.updates)) sent b a.stamped m) in
+        let s = and_parts (all_beyond times before b.stamp) (all_beyond times b.stamp (update_times b.updates)) (all_at (λ b. all_beyond times before b.stamp && all_beyond times b.stamp (update_times b.updates)) sent b a.stamped m) in
         passed_onward before b.stamp s.0 (passed_held holds g.node g.worker (of_sources b.place e g.node (sent_from p q g sent a.whole a.filled b m)) w.held h.1))
 
-    onward_gave : (w : State T) (g : Emission T) (held : List T) (sent : List (Bundle T)) → IsGive leq p w g held sent → IsCountPassed w → IsCountPassed (give_state leq p w g held sent)
+    onward_gave : (w : State T) (g : Emission T) (held : List T) (sent : List (Bundle T)) → IsGive times p w g held sent → IsCountPassed w → IsCountPassed (give_state times p w g held sent)
     onward_gave w g held sent a h = (
       subst IsPassed (sym (flat_map-append (λ (q : Bundle T). cond (there q.place) q.stamp []) w.in_flight sent)) (passed_both (stamps there w.in_flight) (stamps there sent) h.0 (onward_sent w g held sent a h)),
       subst IsPassed (sym (flat_map-append (λ (m : HeldTime T). cond (holds m.node) (m.time ∷ []) []) (held_entries g.node g.worker held) (filter (λ m. not (is_held_by g.node g.worker m)) w.held)))
@@ -182,11 +183,11 @@ module _ {T : Type 0} (leq : T → T → Bool) (o : PartialOrderLaws leq) (t : T
     )
       where
         later : holds g.node ≡ true → IsPassed held
-        later f = (passed_parts (times g.updates) held (passed_onward (held_at g.node g.worker w.held) (times g.updates ++ held) a.onward (passed_held holds g.node g.worker f w.held h.1))).1
+        later f = (passed_parts (update_times g.updates) held (passed_onward (held_at g.node g.worker w.held) (update_times g.updates ++ held) a.onward (passed_held holds g.node g.worker f w.held h.1))).1
 
     -- after each event, what counts has passed the time if it had before; every lemma of frontiers
     -- uses this
-    pub onward : (w : State T) (e : Event T) → IsAllowed leq p w e → IsCountPassed w → IsCountPassed (next_state leq p w e)
+    pub onward : (w : State T) (e : Event T) → IsAllowed times p w e → IsCountPassed w → IsCountPassed (next_state times p w e)
     onward w (Feed c f) a h = (
       subst IsPassed (sym (flat_map-append (λ (q : Bundle T). cond (there q.place) q.stamp []) w.in_flight (alone p f ∷ []))) (passed_both (stamps there w.in_flight) (stamps there (alone p f ∷ [])) h.0 (onward_feed w c f a h)),
       h.1,
@@ -231,26 +232,26 @@ module _ {T : Type 0} (leq : T → T → Bool) (o : PartialOrderLaws leq) (t : T
     site_above site = upstream p n site.node
 
     -- a frontier has passed after each event what it had passed before
-    pub frontier_onward : (w : State T) (e : Event T) → IsAllowed leq p w e → IsPassed (frontier leq p w n) → IsPassed (frontier leq p (next_state leq p w e) n)
+    pub frontier_onward : (w : State T) (e : Event T) → IsAllowed times p w e → IsPassed (frontier times p w n) → IsPassed (frontier times p (next_state times p w e) n)
     frontier_onward w e a h =
-        beyond_frontier p (next_state leq p w e) n leq o t
-        ∙ logs_passed site_above (upstream p n) (upstream p n) (next_state leq p w e)
+        beyond_frontier p (next_state times p w e) n times o t
+        ∙ logs_passed site_above (upstream p n) (upstream p n) (next_state times p w e)
         (onward p q site_above (upstream p n) (upstream p n) upward (λ i k b x. x) (λ site x. x) w e a
-        (passed_logs site_above (upstream p n) (upstream p n) w (sym (beyond_frontier p w n leq o t) ∙ h)))
+        (passed_logs site_above (upstream p n) (upstream p n) w (sym (beyond_frontier p w n times o t) ∙ h)))
 
     -- if an input frontier has passed the time, each of the three logs has
-    in_passed : (w : State T) → IsPassed (input_frontier leq p w n) → IsPassed (stamps site_above w.in_flight) × IsPassed (held_where (strictly_upstream p n) w.held) × IsPassed (open_where (upstream p n) w.open_times)
-    in_passed w h = passed_logs site_above (strictly_upstream p n) (upstream p n) w (sym (beyond_input_frontier p w n leq o t) ∙ h)
+    in_passed : (w : State T) → IsPassed (input_frontier times p w n) → IsPassed (stamps site_above w.in_flight) × IsPassed (held_where (strictly_upstream p n) w.held) × IsPassed (open_where (upstream p n) w.open_times)
+    in_passed w h = passed_logs site_above (strictly_upstream p n) (upstream p n) w (sym (beyond_input_frontier p w n times o t) ∙ h)
 
     -- an input frontier has passed after each event what it had passed before
-    pub input_onward : (w : State T) (e : Event T) → IsAllowed leq p w e → IsPassed (input_frontier leq p w n) → IsPassed (input_frontier leq p (next_state leq p w e) n)
+    pub input_onward : (w : State T) (e : Event T) → IsAllowed times p w e → IsPassed (input_frontier times p w n) → IsPassed (input_frontier times p (next_state times p w e) n)
     input_onward w e a h =
-        beyond_input_frontier p (next_state leq p w e) n leq o t
-        ∙ logs_passed site_above (strictly_upstream p n) (upstream p n) (next_state leq p w e)
+        beyond_input_frontier p (next_state times p w e) n times o t
+        ∙ logs_passed site_above (strictly_upstream p n) (upstream p n) (next_state times p w e)
         (onward p q site_above (strictly_upstream p n) (upstream p n) source_strict (λ i k b x. x) (λ site x. (and_parts (upstream p n site.node) (not (eqb site.node n)) x).0) w e a (in_passed w h))
 
     -- a bundle that is taken at a node is beyond what the node's input frontier had passed
-    pub taken_later : (w : State T) (j : ℕ) (b : Bundle T) → slice_get (queue b.place w.in_flight) j ≡ Some b → b.place.node ≡ n → IsPassed (input_frontier leq p w n) → IsPassed b.stamp
+    pub taken_later : (w : State T) (j : ℕ) (b : Bundle T) → slice_get (queue b.place w.in_flight) j ≡ Some b → b.place.node ≡ n → IsPassed (input_frontier times p w n) → IsPassed b.stamp
     taken_later w j b e i h = passed_taken site_above w.in_flight j b e (ap (upstream p n) i ∙ above_itself p.nodes q.plan n) (in_passed w h).0
 
   module _ (p : Dataflow) (q : IsDataflow p) (n port : ℕ) where
@@ -294,9 +295,9 @@ module _ {T : Type 0} (leq : T → T → Bool) (o : PartialOrderLaws leq) (t : T
         step (Some s) y = y
 
     -- the frontier of a port has passed after each event what it had passed before
-    pub port_onward : (w : State T) (e : Event T) → IsAllowed leq p w e → IsPassed (port_frontier leq p w n port) → IsPassed (port_frontier leq p (next_state leq p w e) n port)
+    pub port_onward : (w : State T) (e : Event T) → IsAllowed times p w e → IsPassed (port_frontier times p w n port) → IsPassed (port_frontier times p (next_state times p w e) n port)
     port_onward w e a h =
-        beyond_port_frontier p (next_state leq p w e) n leq o t port
-        ∙ logs_passed (at_site counts) (at_held counts) (at_input counts) (next_state leq p w e)
+        beyond_port_frontier p (next_state times p w e) n times o t port
+        ∙ logs_passed (at_site counts) (at_held counts) (at_input counts) (next_state times p w e)
         (onward p q (at_site counts) (at_held counts) (at_input counts) port_sources port_inputs port_places w e a
-        (passed_logs (at_site counts) (at_held counts) (at_input counts) w (sym (beyond_port_frontier p w n leq o t port) ∙ h)))
+        (passed_logs (at_site counts) (at_held counts) (at_input counts) w (sym (beyond_port_frontier p w n times o t port) ∙ h)))

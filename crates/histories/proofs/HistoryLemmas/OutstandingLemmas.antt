@@ -4,6 +4,7 @@
 use Rattle.std.proofs.Common.{◌≡◌, ℕ, Bool, true, false, cond, ◌&&◌, List, [], ◌∷◌, ◌++◌, map, refl, ap, ◌∙◌}
 use Rattle.std.specs.List.{flat_map}
 use Rattle.std.proofs.lemmas.List.Concat.{flat_map-append}
+use Rattle.lattice.specs.Times.{Times}
 use Rattle.lattice.specs.Order.{PartialOrderLaws}
 use Rattle.lattice.specs.Frontiers.{is_beyond}
 use Rattle.antichain.proofs.InsertionLemmas.{least_beyond}
@@ -105,14 +106,14 @@ module _ {T : Type 0} (p : Dataflow) (w : State T) (n : ℕ) where
       times_of (is_input_upstream p.nodes n) w
       ∙ (λ i. logged_times w (λ site. and_true (upstream p n site.node) i) (strictly_upstream p n) (λ m. and_true (upstream p n m) i))
 
-  module _ (below : T → T → Bool) (o : PartialOrderLaws below) (t : T) where
+  module _ (times : Times T) (o : PartialOrderLaws times) (t : T) where
     -- the same times are beyond a frontier and beyond all that it counts
-    pub beyond_frontier : is_beyond below (frontier below p w n) t ≡ is_beyond below (outstanding p w n) t
-    beyond_frontier = least_beyond o (times_where (is_upstream p.nodes n) (items_of w)) t ∙ ap (λ ts. is_beyond below ts t) outstanding_is
+    pub beyond_frontier : is_beyond times (frontier times p w n) t ≡ is_beyond times (outstanding p w n) t
+    beyond_frontier = least_beyond o (times_where (is_upstream p.nodes n) (items_of w)) t ∙ ap (λ ts. is_beyond times ts t) outstanding_is
 
-    pub beyond_input_frontier : is_beyond below (input_frontier below p w n) t ≡ is_beyond below (counted_times w (upstream p n) (strictly_upstream p n)) t
-    beyond_input_frontier = least_beyond o (times_where (is_input_upstream p.nodes n) (items_of w)) t ∙ ap (λ ts. is_beyond below ts t) input_outstanding_is
+    pub beyond_input_frontier : is_beyond times (input_frontier times p w n) t ≡ is_beyond times (counted_times w (upstream p n) (strictly_upstream p n)) t
+    beyond_input_frontier = least_beyond o (times_where (is_input_upstream p.nodes n) (items_of w)) t ∙ ap (λ ts. is_beyond times ts t) input_outstanding_is
 
-    pub beyond_port_frontier : (port : ℕ) → is_beyond below (port_frontier below p w n port) t
-        ≡ is_beyond below (logged_times w (at_site (is_port_upstream p.nodes n port)) (at_held (is_port_upstream p.nodes n port)) (at_input (is_port_upstream p.nodes n port))) t
-    beyond_port_frontier port = least_beyond o (times_where (is_port_upstream p.nodes n port) (items_of w)) t ∙ ap (λ ts. is_beyond below ts t) (times_of (is_port_upstream p.nodes n port) w)
+    pub beyond_port_frontier : (port : ℕ) → is_beyond times (port_frontier times p w n port) t
+        ≡ is_beyond times (logged_times w (at_site (is_port_upstream p.nodes n port)) (at_held (is_port_upstream p.nodes n port)) (at_input (is_port_upstream p.nodes n port))) t
+    beyond_port_frontier port = least_beyond o (times_where (is_port_upstream p.nodes n port) (items_of w)) t ∙ ap (λ ts. is_beyond times ts t) (times_of (is_port_upstream p.nodes n port) w)

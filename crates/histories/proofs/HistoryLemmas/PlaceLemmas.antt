@@ -32,6 +32,7 @@ use Rattle.histories.specs.Histories.Promises.{IsPlace, IsInPlace}
 use Rattle.histories.proofs.HistoryLemmas.ClaimLemmas.{routed}
 use Rattle.histories.proofs.HistoryLemmas.FlowLemmas.{queued, among_left}
 use Rattle.histories.proofs.HistoryLemmas.KeptLemmas.{no_totals}
+use Rattle.lattice.specs.Times.{Times}
 
 -- a property holds of each element
 abbrev Each : {X : Type 0} → (X → Type 0) → List X → Type 0
@@ -162,8 +163,8 @@ module _ {T : Type 0} (p : Dataflow) (q : IsDataflow p) where
     inputs : Each IsOpen w.open_times
     hand : (k n : ℕ) → w.hand k ≡ Some n → (n < length p.nodes) × (k < p.workers)
 
-  module _ (leq : T → T → Bool) where
-    sited_gave : (w : State T) (g : Emission T) (ts : List T) (sent : List (Bundle T)) → IsGive leq p w g ts sent → IsSited w → IsSited (give_state leq p w g ts sent)
+  module _ (times : Times T) where
+    sited_gave : (w : State T) (g : Emission T) (ts : List T) (sent : List (Bundle T)) → IsGive times p w g ts sent → IsSited w → IsSited (give_state times p w g ts sent)
     sited_gave w g ts sent a s =
         let here = s.hand g.worker g.node a.in_hand in
         let some = filled_some sent a.filled in
@@ -174,7 +175,7 @@ module _ {T : Type 0} (p : Dataflow) (q : IsDataflow p) where
           hand = hand_with p w.hand g.worker None s.hand (λ n e. cc);
         }
 
-    sited_after : (w : State T) (e : Event T) → IsAllowed leq p w e → IsSited w → IsSited (next_state leq p w e)
+    sited_after : (w : State T) (e : Event T) → IsAllowed times p w e → IsSited w → IsSited (next_state times p w e)
     sited_after w (Feed c f) a s = record {
       bundles = each_both IsBundle w.in_flight (alone p f ∷ []) s.bundles
           (each_one IsBundle (alone p f) (record { node = a.input.0; port = inl refl; worker = routed p q f.update.row }, λ e. cc));
@@ -201,23 +202,23 @@ module _ {T : Type 0} (p : Dataflow) (q : IsDataflow p) where
     sited_after w (TakeHeld k n) a s = record { bundles = s.bundles; held = s.held; inputs = s.inputs; hand = hand_with p w.hand k (Some n) s.hand (λ m e. (subst (λ z. z < length p.nodes) (same_Some n m e) a.within, a.worker)) }
     sited_after w (Give g ts sent) a s = sited_gave w g ts sent a s
 
-    sited_first : (minimum : T) → IsSited (initial_state leq minimum p)
-    sited_first minimum = record {
+    sited_first : IsSited (initial_state times p)
+    sited_first = record {
       bundles = λ b m. absurd m;
       held = λ x m. absurd m;
-      inputs = each_flat IsOpen (λ i. open_entries i (minimum ∷ [])) (numbers_where is_input p.nodes) (λ i m. each_one IsOpen (record { input = i; time = minimum }) (let r = filter_has (λ n. is_input (node_at p.nodes n)) (numbers_below (length p.nodes)) i m in (number_below (length p.nodes) i r.0, r.1)));
+      inputs = each_flat IsOpen (λ i. open_entries i (times.least ∷ [])) (numbers_where is_input p.nodes) (λ i m. each_one IsOpen (record { input = i; time = times.least }) (let r = filter_has (λ n. is_input (node_at p.nodes n)) (numbers_below (length p.nodes)) i m in (number_below (length p.nodes) i r.0, r.1)));
       hand = λ k n e. cc;
     }
 
-    sited_state : (minimum : T) (h : List (Event T)) → IsLegal leq minimum p h → IsSited (state_after leq minimum p h)
-    sited_state minimum [] l = sited_first minimum
-    sited_state minimum (e ∷ h) l = sited_after (state_after leq minimum p h) e l.0 (sited_state minimum h l.1)
+    sited_state : (h : List (Event T)) → IsLegal times p h → IsSited (state_after times p h)
+    sited_state [] l = sited_first
+    sited_state (e ∷ h) l = sited_after (state_after times p h) e l.0 (sited_state h l.1)
 
     -- in every legal history, everything that waits is at a place that exists
-    pub in_place_lem : (minimum : T) (h : List (Event T)) → IsLegal leq minimum p h → IsInPlace p (state_after leq minimum p h)
-    in_place_lem minimum h l =
-        let w = state_after leq minimum p h in
-        let s = sited_state minimum h l in
+    pub in_place_lem : (h : List (Event T)) → IsLegal times p h → IsInPlace p (state_after times p h)
+    in_place_lem h l =
+        let w = state_after times p h in
+        let s = sited_state h l in
         record {
           bundles = λ b c. s.bundles b (among_contains b w.in_flight c);
           held = λ m c. s.held m (among_contains m w.held c);

@@ -30,8 +30,8 @@ use Rattle.histories.specs.Histories.{give_state, IsAllowed, IsLegal}
 use Rattle.histories.specs.Histories.Readings.{IsQuiet}
 use Rattle.histories.specs.Histories.Cuts.{cut}
 use Rattle.histories.specs.Histories.Witnesses.{seven_comes, seven_goes, bundle_of, given_at_node, counting, listing, copying, changes_of_listing, came_twice, came_at_input, waits_at_count, held_at_count, open_from, HasFrontiers, joining, doubling, linear_row}
-use Rattle.lattice.specs.Bitimes.{bitime_below, bitime_cmp, Bitime}
-use Rattle.histories.proofs.HistoryLemmas.CuttingLemmas.{cut_whole, cut_filled, cut_stamped}
+use Rattle.lattice.specs.Bitimes.{bitime_times, bitime_cmp, Bitime}
+use Rattle.histories.proofs.HistoryLemmas.CutLemmas.{cut_whole, cut_filled, cut_stamped}
 use Rattle.lattice.specs.Naturals.{nat_order}
 
 at_most : {m n : ℕ} → nat_le m n ≡ true → m ≤ n
@@ -133,7 +133,7 @@ one_gives : reduction_output 1 (reduction_answer Distinct) (once ∷ []) ≡ onc
 one_gives = refl
 
 abbrev came : Bitime → List Entry
-came t = as_of bitime_below t (received_at came_twice 2 1 0)
+came t = as_of bitime_times t (received_at came_twice 2 1 0)
 
 -- what came and what is given, by whether each component of the time is at least 3
 came_both : (t : Bitime) → nat_le 3 t.first ≡ true → nat_le 3 t.second ≡ true → came t ≡ once ∷ once ∷ []
@@ -148,39 +148,39 @@ came_right t ex ey = rw (from_zero t.first, from_zero t.second, ex, ey) refl
 came_none : (t : Bitime) → nat_le 3 t.first ≡ false → nat_le 3 t.second ≡ false → came t ≡ []
 came_none t ex ey = rw (from_zero t.first, ex, ey) refl
 
-gone_both : (t : Bitime) → nat_le 3 t.first ≡ true → nat_le 3 t.second ≡ true → as_of bitime_below t three ≡ once ∷ once ∷ back ∷ []
+gone_both : (t : Bitime) → nat_le 3 t.first ≡ true → nat_le 3 t.second ≡ true → as_of bitime_times t three ≡ once ∷ once ∷ back ∷ []
 gone_both t ex ey = rw (from_zero t.first, from_zero t.second, ex, ey) refl
 
-gone_left : (t : Bitime) → nat_le 3 t.first ≡ true → nat_le 3 t.second ≡ false → as_of bitime_below t three ≡ once ∷ []
+gone_left : (t : Bitime) → nat_le 3 t.first ≡ true → nat_le 3 t.second ≡ false → as_of bitime_times t three ≡ once ∷ []
 gone_left t ex ey = rw (from_zero t.first, from_zero t.second, ex, ey) refl
 
-gone_right : (t : Bitime) → nat_le 3 t.first ≡ false → nat_le 3 t.second ≡ true → as_of bitime_below t three ≡ once ∷ []
+gone_right : (t : Bitime) → nat_le 3 t.first ≡ false → nat_le 3 t.second ≡ true → as_of bitime_times t three ≡ once ∷ []
 gone_right t ex ey = rw (from_zero t.first, from_zero t.second, ex, ey) refl
 
-gone_none : (t : Bitime) → nat_le 3 t.first ≡ false → nat_le 3 t.second ≡ false → as_of bitime_below t three ≡ []
+gone_none : (t : Bitime) → nat_le 3 t.first ≡ false → nat_le 3 t.second ≡ false → as_of bitime_times t three ≡ []
 gone_none t ex ey = rw (from_zero t.first, ex, ey) refl
 
-distinct_law : NodeLaw bitime_below listing (give_state bitime_below listing came_twice (given_at_node 2 three) [] (cut bitime_below listing (given_at_node 2 three))) 2 1
+distinct_law : NodeLaw bitime_times listing (give_state bitime_times listing came_twice (given_at_node 2 three) [] (cut bitime_times listing (given_at_node 2 three))) 2 1
 distinct_law t e row = step (nat_le 3 t.first) refl (nat_le 3 t.second) refl
   where
     step : (x : Bool) → nat_le 3 t.first ≡ x → (y : Bool) → nat_le 3 t.second ≡ y
-        → count_of (as_of bitime_below t three) row ≡ count_of (reduction_output 1 (reduction_answer Distinct) (came t)) row
+        → count_of (as_of bitime_times t three) row ≡ count_of (reduction_output 1 (reduction_answer Distinct) (came t)) row
     step true ex true ey = ap (λ es. count_of es row) (gone_both t ex ey) ∙ (three_sum (same_row (pos 7 ∷ []) row) ∙ ap (λ es. count_of es row) (sym two_give ∙ ap (reduction_output 1 (reduction_answer Distinct)) (sym (came_both t ex ey))))
     step true ex false ey = ap (λ es. count_of es row) (gone_left t ex ey ∙ (sym one_gives ∙ ap (reduction_output 1 (reduction_answer Distinct)) (sym (came_left t ex ey))))
     step false ex true ey = ap (λ es. count_of es row) (gone_right t ex ey ∙ (sym one_gives ∙ ap (reduction_output 1 (reduction_answer Distinct)) (sym (came_right t ex ey))))
     step false ex false ey = ap (λ es. count_of es row) (gone_none t ex ey ∙ ap (reduction_output 1 (reduction_answer Distinct)) (sym (came_none t ex ey)))
 
 -- a distinct may give at a join of times, which the worker never held
-pub distinct_gives : IsAllowed bitime_below listing came_twice (Give (given_at_node 2 three) [] (cut bitime_below listing (given_at_node 2 three)))
+pub distinct_gives : IsAllowed bitime_times listing came_twice (Give (given_at_node 2 three) [] (cut bitime_times listing (given_at_node 2 three)))
 distinct_gives = record {
   worker = omega (arith);
   in_hand = refl;
   onward = refl;
   law = distinct_law;
   load = record { within = λ f. absurd (true≢false f); final = λ _. record { apart = (refl, (refl, (refl, tt))); held = refl; observed = refl } };
-  whole = λ site f. ap (total_by f) (cut_whole bitime_below listing (given_at_node 2 three) listing_flows (omega (arith)) site);
-  filled = cut_filled bitime_below listing (given_at_node 2 three);
-  stamped = cut_stamped bitime_below listing (given_at_node 2 three) (pair_order nat_order nat_order) (held_at 2 1 came_twice.held) refl;
+  whole = λ site f. ap (total_by f) (cut_whole bitime_times listing (given_at_node 2 three) listing_flows (omega (arith)) site);
+  filled = cut_filled bitime_times listing (given_at_node 2 three);
+  stamped = cut_stamped bitime_times listing (given_at_node 2 three) (pair_order nat_order nat_order) (held_at 2 1 came_twice.held) refl;
 }
 
 -- ---- the bound of that distinct
@@ -195,11 +195,11 @@ three_consolidated : IsConsolidated bitime_cmp three
 unfolding IsStrictlySortedBy
 three_consolidated = record { ascending = ((refl, (refl, tt)), ((refl, tt), (tt, tt))); nonzero = (not_zero, (not_zero, (back_not_zero, tt))) }
 
-distinct_sums : (t : Bitime) → Alike (as_of bitime_below t three) (query_at bitime_below listing.nodes changes_of_listing 2 t)
+distinct_sums : (t : Bitime) → Alike (as_of bitime_times t three) (query_at bitime_times listing.nodes changes_of_listing 2 t)
 unfolding query
 distinct_sums t row = distinct_law t refl row
 
-distinct_own : AreOwn bitime_below bitime_cmp listing.nodes changes_of_listing (λ n. 3)
+distinct_own : AreOwn bitime_times bitime_cmp listing.nodes changes_of_listing (λ n. 3)
 distinct_own zero source kind e = absurd (false≢true (ap is_reduction e))
 distinct_own (suc zero) source kind e = absurd (false≢true (ap is_reduction e))
 distinct_own (suc (suc zero)) source kind e = (three, record { consolidated = three_consolidated; passed = refl; sums = λ t h. distinct_sums t }, refl)
@@ -207,12 +207,12 @@ distinct_own (suc (suc (suc zero))) source kind e = absurd (false≢true (ap is_
 distinct_own (suc (suc (suc (suc n)))) source kind e = absurd (false≢true (ap is_reduction e))
 
 -- the bound of the distinct is 3
-pub distinct_bound : IsBound bitime_below bitime_cmp listing.nodes changes_of_listing 2 3
+pub distinct_bound : IsBound bitime_times bitime_cmp listing.nodes changes_of_listing 2 3
 unfolding bound_by
 distinct_bound = ((λ n. 3), distinct_own, refl)
 
 -- and so is the bound of its view
-pub distinct_view_bound : IsBound bitime_below bitime_cmp listing.nodes changes_of_listing 3 3
+pub distinct_view_bound : IsBound bitime_times bitime_cmp listing.nodes changes_of_listing 3 3
 unfolding bound_by
 distinct_view_bound = ((λ n. 3), distinct_own, refl)
 
@@ -227,7 +227,7 @@ cut_whole_in_two true f u v w = another_order (f u) (f v) (f w)
 cut_whole_in_two false f u v w = refl
 
 -- a share may be sent in two bundles
-pub cut_in_two : IsAllowed bitime_below copying (came_at_input three)
+pub cut_in_two : IsAllowed bitime_times copying (came_at_input three)
     (Give (given_at_node 0 three) [] (bundle_of (place 1 0 1) (seven_comes 0 3 ∷ seven_goes 3 3 ∷ []) ∷ bundle_of (place 1 0 1) (seven_comes 3 0 ∷ []) ∷ []))
 unfolding stamp
 cut_in_two = record {
@@ -237,7 +237,7 @@ cut_in_two = record {
   law = λ t e row. refl;
   load = record { within = λ _. at_most refl; final = λ f. absurd (true≢false (sym f)) };
   whole = λ site f. cut_whole_in_two (same_place (place 1 0 1) site) f (seven_comes 0 3) (seven_comes 3 0) (seven_goes 3 3)
-      ∙ ap (total_by f) (cut_whole bitime_below copying (given_at_node 0 three) copying_flows (omega (arith)) site);
+      ∙ ap (total_by f) (cut_whole bitime_times copying (given_at_node 0 three) copying_flows (omega (arith)) site);
   filled = refl;
   stamped = refl;
 }
@@ -245,7 +245,7 @@ cut_in_two = record {
 -- ---- sinces, frontiers and bounds
 
 -- readers of a view may give up the past
-pub allow_legal : IsLegal bitime_below (make_pair 0 0) counting (Allow 2 3 (make_pair 4 4 ∷ []) ∷ [])
+pub allow_legal : IsLegal bitime_times counting (Allow 2 3 (make_pair 4 4 ∷ []) ∷ [])
 allow_legal = (record { client = omega (arith); within = omega (arith); view = refl; onward = refl }, tt)
 
 -- the frontiers while an update waits at the count
@@ -264,17 +264,17 @@ unfolding stamp least reaches
 gone_fronts = record { input = refl; port = refl; count = refl; view_input = refl; view_port = refl; view = refl }
 
 -- a board may be quiet while a worker holds a later time
-pub quiet_while_held : IsQuiet bitime_below counting (held_at_count 10 3)
+pub quiet_while_held : IsQuiet bitime_times counting (held_at_count 10 3)
 unfolding least reaches
 quiet_while_held = record { in_flight = refl; hand = λ k l. refl; held = refl }
 
 -- the stamp of three times has the least two
-pub stamp_of_three : stamp bitime_below (seven_comes 0 3 ∷ seven_comes 3 3 ∷ seven_comes 3 0 ∷ []) ≡ make_pair 0 3 ∷ make_pair 3 0 ∷ []
+pub stamp_of_three : stamp bitime_times (seven_comes 0 3 ∷ seven_comes 3 3 ∷ seven_comes 3 0 ∷ []) ≡ make_pair 0 3 ∷ make_pair 3 0 ∷ []
 unfolding stamp
 stamp_of_three = refl
 
 -- a stamp has a time once
-pub stamp_of_one : stamp bitime_below (seven_comes 10 1 ∷ seven_goes 10 1 ∷ []) ≡ make_pair 10 1 ∷ []
+pub stamp_of_one : stamp bitime_times (seven_comes 10 1 ∷ seven_goes 10 1 ∷ []) ≡ make_pair 10 1 ∷ []
 unfolding stamp
 stamp_of_one = refl
 

@@ -1,7 +1,8 @@
 -- What an example shows: a legal history in which every kind of event occurs, and a view that is
 -- read. There is one, so the theorems about legal histories are about something.
-use Rattle.std.specs.Prelude.{◌≢◌, ℕ, ◌<◌, eqb, List, [], length, IsTrue, nat_le}
+use Rattle.std.specs.Prelude.{◌≢◌, ℕ, ◌<◌, eqb, List, [], length, IsTrue}
 use Rattle.std.specs.List.{list_all, list_any}
+use Rattle.lattice.specs.Naturals.{nat_times}
 use Rattle.lattice.specs.Frontiers.{is_beyond}
 use Rattle.update.specs.Updates.{as_of}
 use Rattle.update.specs.declared.change.Update.{Update}
@@ -30,11 +31,11 @@ pub record IsExample (p : Dataflow) (h : List (Event ℕ)) (v : ℕ) (us : List 
   pub dataflow : IsDataflow p
   pub join : IsTrue (list_any is_join p.nodes)
   pub reduction : IsTrue (list_any is_reduction p.nodes)
-  pub legal : IsLegal nat_le 0 p h
+  pub legal : IsLegal nat_times p h
   pub kinds : IsTrue (list_all (λ kind. list_any (λ e. eqb (event_number e) kind) h) (numbers_below 7))
   pub within : v < length p.nodes
   pub view : IsTrue (is_output (node_of p v))
-  pub reading : IsReading nat_le p (state_after nat_le 0 p h) v us front since
-  pub passed : IsTrue (has_passed nat_le front t)
-  pub held : IsTrue (is_beyond nat_le since t)
-  pub some : as_of nat_le t us ≢ []
+  pub reading : IsReading nat_times p (state_after nat_times p h) v us front since
+  pub passed : IsTrue (has_passed nat_times front t)
+  pub held : IsTrue (is_beyond nat_times since t)
+  pub some : as_of nat_times t us ≢ []

@@ -1,7 +1,7 @@
 -- Histories over times that are pairs: two bundles that wait at one place, and two workers that
 -- exchange updates at times that cannot be compared.
 use Rattle.std.specs.Prelude.{ℕ, List, [], ◌∷◌, pos, negsuc}
-use Rattle.lattice.specs.Bitimes.{Bitime, bitime_below}
+use Rattle.lattice.specs.Bitimes.{bitime_times, Bitime}
 use Rattle.lattice.specs.Pairs.{make_pair}
 use Rattle.update.specs.declared.change.Update.{Update}
 use Rattle.histories.specs.declared.event.Bundle.{Bundle}
@@ -19,7 +19,7 @@ abbrev pub given_by : ℕ → ℕ → List (Update Bitime) → Emission Bitime
 given_by k n us = record { node = n; worker = k; updates = us }
 
 abbrev pub gives : Dataflow → ℕ → ℕ → List (Update Bitime) → List Bitime → Event Bitime
-gives p k n us ts = Give (given_by k n us) ts (cut bitime_below p (given_by k n us))
+gives p k n us ts = Give (given_by k n us) ts (cut bitime_times p (given_by k n us))
 
 -- the row (7) comes to the input of `copying` at (0, 3), and then at (3, 0): two bundles, which
 -- wait for worker 1

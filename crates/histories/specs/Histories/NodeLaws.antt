@@ -12,28 +12,29 @@ use Rattle.plan.specs.Bounds.{output_bound}
 use Rattle.plan.specs.Nodes.{is_reduction}
 use Rattle.histories.specs.Histories.Dataflows.{Dataflow, node_of, node_output}
 use Rattle.histories.specs.Histories.States.{State, ObservedFrontier, place, updates_at, emitted_by, held_at}
+use Rattle.lattice.specs.Times.{Times}
 
 -- what a worker received at a port of a node
 abbrev pub received_at : {T : Type 0} → State T → ℕ → ℕ → ℕ → List (Update T)
 received_at w n k port = updates_at (place n port k) w.received
 
-module _ {T : Type 0} (below : T → T → Bool) where
+module _ {T : Type 0} (times : Times T) where
   -- the node law of worker k at node n
   abbrev pub NodeLaw : Dataflow → State T → ℕ → ℕ → Type 0
-  NodeLaw p w n k = (t : T) → IsTrue (has_passed below (held_at n k w.held) t)
-      → Alike (as_of below t (emitted_by n k w.emitted))
-      (node_output p n (λ port. as_of below t (received_at w n k port)))
+  NodeLaw p w n k = (t : T) → IsTrue (has_passed times (held_at n k w.held) t)
+      → Alike (as_of times t (emitted_by n k w.emitted))
+      (node_output p n (λ port. as_of times t (received_at w n k port)))
 
   -- at some take of the worker at the node, the input frontier had passed the time
   abbrev pub was_passed : ℕ → ℕ → List (ObservedFrontier T) → T → Bool
   was_passed n k observed t =
-      list_any (λ l. (eqb l.node n && eqb l.worker k) && has_passed below l.frontier t) observed
+      list_any (λ l. (eqb l.node n && eqb l.worker k) && has_passed times l.frontier t) observed
 
   -- what a worker gave at a reduction is final: each row at most once at each time, at times that
   -- the worker no longer holds, and that the input frontier had passed at some take
   pub record IsFinal (w : State T) (n k : ℕ) : Type 0 where
-    pub apart : AreApart below (emitted_by n k w.emitted)
-    pub held : IsTrue (list_all (λ u. has_passed below (held_at n k w.held) u.time) (emitted_by n k w.emitted))
+    pub apart : AreApart times (emitted_by n k w.emitted)
+    pub held : IsTrue (list_all (λ u. has_passed times (held_at n k w.held) u.time) (emitted_by n k w.emitted))
     pub observed : IsTrue (list_all (λ u. was_passed n k w.observed u.time) (emitted_by n k w.emitted))
 
   -- the absolute diffs given add up to no more than those received: at a concat to no more than the

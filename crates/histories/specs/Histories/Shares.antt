@@ -3,6 +3,7 @@
 -- row.
 use Rattle.std.specs.Prelude.{◌≡◌, ℕ, Bool, not, ◌&&◌, eqb, if◌then◌else◌, List, [], ◌∷◌, length, take, Option, Some, None}
 use Rattle.std.specs.List.{filter, list_all}
+use Rattle.lattice.specs.Times.{Times}
 use Rattle.lattice.specs.Frontiers.{all_beyond}
 use Rattle.update.specs.declared.change.Update.{Update}
 use Rattle.plan.specs.Nodes.{arranged_by}
@@ -11,7 +12,7 @@ use Rattle.histories.specs.declared.event.Fed.{Fed}
 use Rattle.histories.specs.declared.event.Emission.{Emission}
 use Rattle.histories.specs.declared.event.Bundle.{Bundle}
 use Rattle.histories.specs.Histories.Dataflows.{Dataflow, node_of, source_of, route}
-use Rattle.histories.specs.Histories.States.{place, same_place, times, updates_at}
+use Rattle.histories.specs.Histories.States.{place, same_place, update_times, updates_at}
 
 -- the place where a change comes to its input
 abbrev pub home : {T : Type 0} → Dataflow → Fed T → Site
@@ -48,6 +49,6 @@ abbrev pub are_filled : {T : Type 0} → List (Bundle T) → Bool
 are_filled sent = list_all (λ b. not (eqb (length b.updates) 0)) sent
 
 -- each stamp is beyond these times, and each bundle's updates are beyond its stamp
-abbrev pub are_stamped : {T : Type 0} → (T → T → Bool) → List T → List (Bundle T) → Bool
-are_stamped below held sent =
-    list_all (λ b. all_beyond below held b.stamp && all_beyond below b.stamp (times b.updates)) sent
+abbrev pub are_stamped : {T : Type 0} → Times T → List T → List (Bundle T) → Bool
+are_stamped times held sent =
+    list_all (λ b. all_beyond times held b.stamp && all_beyond times b.stamp (update_times b.updates)) sent

@@ -53,8 +53,8 @@ module _ {T : Type 0} where
   change_to i u = record { input = i; update = u }
 
   -- the times of the updates
-  abbrev pub times : List (Update T) → List T
-  times us = map (λ u. u.time) us
+  abbrev pub update_times : List (Update T) → List T
+  update_times us = map (λ u. u.time) us
 
   -- the updates of all bundles of a place
   abbrev pub updates_at : Site → List (Bundle T) → List (Update T)

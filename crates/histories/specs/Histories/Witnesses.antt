@@ -15,7 +15,7 @@ use Rattle.histories.specs.Histories.Dataflows.{Dataflow}
 use Rattle.histories.specs.Histories.States.{State, place}
 use Rattle.histories.specs.Histories.{held_entries}
 use Rattle.histories.specs.Histories.Outstanding.{stamp, frontier, input_frontier, port_frontier}
-use Rattle.lattice.specs.Bitimes.{Bitime, bitime_below}
+use Rattle.lattice.specs.Bitimes.{bitime_times, Bitime}
 
 -- the row (7) comes, or goes, at a time
 abbrev pub seven_comes : ℕ → ℕ → Update Bitime
@@ -26,7 +26,7 @@ seven_goes x y = record { time = make_pair x y; row = pos 7 ∷ []; diff = negsu
 
 -- a bundle of these updates, and an emission of them by worker 1
 abbrev pub bundle_of : Site → List (Update Bitime) → Bundle Bitime
-bundle_of site us = record { place = site; updates = us; stamp = stamp bitime_below us }
+bundle_of site us = record { place = site; updates = us; stamp = stamp bitime_times us }
 
 abbrev pub given_at_node : ℕ → List (Update Bitime) → Emission Bitime
 given_at_node n us = record { node = n; worker = 1; updates = us }
@@ -75,7 +75,7 @@ changes_of_listing input = seven_comes 3 0 ∷ seven_comes 0 3 ∷ []
 abbrev pub came_at_input : List (Update Bitime) → State Bitime
 came_at_input us = record (open_from (make_pair 0 0)) {
   received = bundle_of (place 0 0 1) us ∷ [];
-  held = held_entries 0 1 (stamp bitime_below us);
+  held = held_entries 0 1 (stamp bitime_times us);
   hand = λ k. if eqb k 1 then Some 0 else None;
 }
 
@@ -90,12 +90,12 @@ held_at_count x y = record (open_from (make_pair 0 2)) { held = record { node = 
 -- the frontiers at the count: `to` for what may still come to it, `from` for what may still come
 -- from it to its view
 pub record HasFrontiers (w : State Bitime) (to from : List Bitime) : Type 0 where
-  pub input : input_frontier bitime_below counting w 2 ≡ to
-  pub port : port_frontier bitime_below counting w 2 0 ≡ to
-  pub count : frontier bitime_below counting w 2 ≡ from
-  pub view_input : input_frontier bitime_below counting w 3 ≡ from
-  pub view_port : port_frontier bitime_below counting w 3 0 ≡ from
-  pub view : frontier bitime_below counting w 3 ≡ from
+  pub input : input_frontier bitime_times counting w 2 ≡ to
+  pub port : port_frontier bitime_times counting w 2 0 ≡ to
+  pub count : frontier bitime_times counting w 2 ≡ from
+  pub view_input : input_frontier bitime_times counting w 3 ≡ from
+  pub view_port : port_frontier bitime_times counting w 3 0 ≡ from
+  pub view : frontier bitime_times counting w 3 ≡ from
 
 -- three plans: the join of two inputs; an input joined with itself and then three times added to
 -- itself; and all linear nodes in a row

@@ -14,7 +14,7 @@ use Rattle.outstanding.specs.Loads.{Load, Lot, with_load_at, without_load_at, wi
 use Rattle.views.specs.Views.{ViewState}
 use Rattle.accounts.specs.Accounts.{AccountState, with_stations, after_giving}
 use Rattle.machine.specs.Boards.{BoardState, IsBoard, put_change, accept_change}
-use Rattle.outstanding.proofs.PlacingLemmas.{as_many, as_wide, many_put_all, wide_put_all}
+use Rattle.outstanding.proofs.PlacedLemmas.{as_many, as_wide, many_put_all, wide_put_all}
 
 -- the refusal that the code finds is the one that the definition names
 pub refuses : (o found : Option Refusal) (refusal : Refusal) → found ≡ o → found ≡ Some refusal → IsRefusalBy o refusal

@@ -7,6 +7,7 @@ use Rattle.std.specs.Ordering.{int_eq}
 use Rattle.std.proofs.lemmas.Bool.{eqb-true, eq-eqb, false≢true, true≢false, cases_lt}
 use Rattle.std.proofs.lemmas.Bool.Decides.{Decides-int_eq, nat_tests}
 use Rattle.std.proofs.Math.IntN.{pos, ℤ, ◌+ℤ◌}
+use Rattle.lattice.specs.Times.{Times}
 use Rattle.lattice.specs.Frontiers.{is_beyond, all_beyond}
 use Rattle.update.specs.declared.refusal.Refusal.{Refusal}
 use Rattle.update.specs.declared.refusal.Refusal.TheVariants.{WrongWidth, ZeroWeight, WeightTooLarge, TimePassed, NotForward, InputFull}
@@ -42,19 +43,19 @@ use Rattle.antichain.proofs.Lists.{Among, contains_among}
 use Rattle.histories.proofs.HistoryLemmas.PlaceLemmas.{in_place_lem}
 use Rattle.plan.proofs.SortLemmas.{few_sources}
 use Rattle.histories.proofs.HistoryLemmas.ClaimLemmas.{routed}
-use Rattle.outstanding.proofs.PlacingLemmas.{IsThere, AreThere, queue_put, held_put, queue_put_all, held_put_all, many_put_all, wide_put_all, queue_taken, held_taken, queue_held, held_instead}
+use Rattle.outstanding.proofs.PlacedLemmas.{IsThere, AreThere, queue_put, held_put, queue_put_all, held_put_all, many_put_all, wide_put_all, queue_taken, held_taken, queue_held, held_instead}
 use Rattle.std.proofs.lemmas.List.Concat.{flat_map-append}
 use Rattle.outstanding.proofs.OpenLemmas.{first_front, open_set}
 use Rattle.outstanding.specs.Inputs.{front_at}
 
 -- a time is beyond an input's frontier if an element of the log of open times says so
-pub open_any : {T : Type 0} (below : T → T → Bool) (i : ℕ) (t : T) (os : List (OpenTime T)) → is_beyond below (open_at i os) t ≡ list_any (λ o. eqb o.input i && below o.time t) os
-open_any below i t [] = refl
-open_any below i t (o ∷ os) = step (eqb o.input i) (open_any below i t os)
+pub open_any : {T : Type 0} (times : Times T) (i : ℕ) (t : T) (os : List (OpenTime T)) → is_beyond times (open_at i os) t ≡ list_any (λ o. eqb o.input i && times.below o.time t) os
+open_any times i t [] = refl
+open_any times i t (o ∷ os) = step (eqb o.input i) (open_any times i t os)
   where
-    step : (b : Bool) → is_beyond below (open_at i os) t ≡ list_any (λ o. eqb o.input i && below o.time t) os
-        → is_beyond below (cond b (o.time ∷ []) [] ++ open_at i os) t ≡ ((b && below o.time t) || list_any (λ o. eqb o.input i && below o.time t) os)
-    step true h = ap (λ z. below o.time t || z) h
+    step : (b : Bool) → is_beyond times (open_at i os) t ≡ list_any (λ o. eqb o.input i && times.below o.time t) os
+        → is_beyond times (cond b (o.time ∷ []) [] ++ open_at i os) t ≡ ((b && times.below o.time t) || list_any (λ o. eqb o.input i && times.below o.time t) os)
+    step true h = ap (λ z. times.below o.time t || z) h
     step false h = h
 
 -- the queue of two lists of bundles is the queue of each, one after the other
@@ -76,19 +77,19 @@ none_of_five a b c d e r s t u v h =
     let m = no_first e v [] l.1 in
     (i.0, j.0, k.0, l.0, m.0)
 
-module _ {T : Type 0} (below : T → T → Bool) (minimum : T) where
+module _ {T : Type 0} (times : Times T) where
   -- a change that no fault refuses is allowed in every history that the board may stand for
-  pub allowed_feed : (b : BoardState T) (h : List (Event T)) (client : ℕ) (f : Fed T) → b.dataflow.workers ≤ client → feed_refusal below b f ≡ None → IsInput b.dataflow f.input → Stands below minimum b h → IsFeed below b.dataflow (state_after below minimum b.dataflow h) client f
+  pub allowed_feed : (b : BoardState T) (h : List (Event T)) (client : ℕ) (f : Fed T) → b.dataflow.workers ≤ client → feed_refusal times b f ≡ None → IsInput b.dataflow f.input → Stands times b h → IsFeed times b.dataflow (state_after times b.dataflow h) client f
   allowed_feed b h client f m e i s =
-      let w = state_after below minimum b.dataflow h in
-      let no = none_of_five (not (eqb (length f.update.row) (width_of b.dataflow.nodes f.input))) (int_eq f.update.diff (pos 0)) (not (nat_le (unsigned_abs f.update.diff) 2147483647)) (not (is_beyond below (front_at f.input b.inputs) f.update.time)) (not (nat_lt (get_or b.accepted f.input 0) 1048576)) WrongWidth ZeroWeight WeightTooLarge TimePassed InputFull e in
+      let w = state_after times b.dataflow h in
+      let no = none_of_five (not (eqb (length f.update.row) (width_of b.dataflow.nodes f.input))) (int_eq f.update.diff (pos 0)) (not (nat_le (unsigned_abs f.update.diff) 2147483647)) (not (is_beyond times (front_at f.input b.inputs) f.update.time)) (not (nat_lt (get_or b.accepted f.input 0) 1048576)) WrongWidth ZeroWeight WeightTooLarge TimePassed InputFull e in
       record {
         client = m;
         input = i;
         width = eqb-true (length f.update.row) (width_of b.dataflow.nodes f.input) (unfaulted _ no.0);
         some = λ z. false≢true (sym no.1 ∙ (Decides-int_eq f.update.diff (pos 0)).1 z);
         small = small (unsigned_abs f.update.diff) (unfaulted _ no.2);
-        not_passed = subst (λ ts. is_beyond below ts f.update.time ≡ true) (s.open_times f.input) (unfaulted _ no.3);
+        not_passed = subst (λ ts. is_beyond times ts f.update.time ≡ true) (s.open_times f.input) (unfaulted _ no.3);
         room = subst (λ n. n < 1048576) (s.accepted f.input i.0) (room (get_or b.accepted f.input 0) (unfaulted _ no.4));
       }
     where
@@ -99,7 +100,7 @@ module _ {T : Type 0} (below : T → T → Bool) (minimum : T) where
       room n h = grind (arith, nat_tests)
 
   -- after a feed, the board stands for the history with the feed on top
-  pub stands_fed : (b : BoardState T) → IsBoard b → (h : List (Event T)) (client : ℕ) (f : Fed T) → b.dataflow.workers ≤ client → feed_refusal below b f ≡ None → IsInput b.dataflow f.input → Stands below minimum b h → Stands below minimum (after_feed client f b) (Feed client f ∷ h)
+  pub stands_fed : (b : BoardState T) → IsBoard b → (h : List (Event T)) (client : ℕ) (f : Fed T) → b.dataflow.workers ≤ client → feed_refusal times b f ≡ None → IsInput b.dataflow f.input → Stands times b h → Stands times (after_feed client f b) (Feed client f ∷ h)
   stands_fed b board h client f m e i s = record {
     legal = (allowed_feed b h client f m e i s, s.legal);
     queues = λ site. queue_put b.stations (home b.dataflow f) (load_in (alone b.dataflow f)) there site ∙ (ap (λ q. q ++ queue site (alone b.dataflow f ∷ [])) (s.queues site) ∙ sym (queue_append site w.in_flight (alone b.dataflow f ∷ [])));
@@ -113,7 +114,7 @@ module _ {T : Type 0} (below : T → T → Bool) (minimum : T) where
   }
     where
       w : State T
-      w = state_after below minimum b.dataflow h
+      w = state_after times b.dataflow h
 
       there : IsThere b.stations (home b.dataflow f)
       there = (subst (λ z. f.input < z) (sym board.stations) i.0, subst (λ z. (home b.dataflow f).worker < z) (sym (board.rows f.input i.0)) (routed b.dataflow board.dataflow f.update.row), omega arith)
@@ -127,12 +128,12 @@ module _ {T : Type 0} (below : T → T → Bool) (minimum : T) where
       counted j l false g = get_or-set_other b.accepted f.input j (suc (get_or b.accepted f.input 0)) 0 (λ m. false≢true (sym g ∙ eq-eqb f.input j (sym m))) ∙ s.accepted j l
 
   -- after an advance, the board stands for the history with the advance on top
-  pub stands_advanced : (b : BoardState T) → IsBoard b → (h : List (Event T)) (client i : ℕ) (ts : List T) → b.dataflow.workers ≤ client → advance_refusal below b i ts ≡ None → IsInput b.dataflow i → Stands below minimum b h → Stands below minimum (after_advance client i ts b) (Advance client i ts ∷ h)
+  pub stands_advanced : (b : BoardState T) → IsBoard b → (h : List (Event T)) (client i : ℕ) (ts : List T) → b.dataflow.workers ≤ client → advance_refusal times b i ts ≡ None → IsInput b.dataflow i → Stands times b h → Stands times (after_advance client i ts b) (Advance client i ts ∷ h)
   stands_advanced b board h client i ts m e n s = record {
-    legal = (record { client = m; input = n; onward = subst (λ os. all_beyond below os ts ≡ true) (s.open_times i) (unfaulted _ (no_first (not (all_beyond below (front_at i b.inputs) ts)) NotForward [] e).0) }, s.legal);
+    legal = (record { client = m; input = n; onward = subst (λ os. all_beyond times os ts ≡ true) (s.open_times i) (unfaulted _ (no_first (not (all_beyond times (front_at i b.inputs) ts)) NotForward [] e).0) }, s.legal);
     queues = s.queues;
     held = s.held;
-    open_times = open_set b.inputs i ts (state_after below minimum b.dataflow h).open_times (subst (λ z. i < z) (sym board.inputs) n.0) s.open_times;
+    open_times = open_set b.inputs i ts (state_after times b.dataflow h).open_times (subst (λ z. i < z) (sym board.inputs) n.0) s.open_times;
     hand = s.hand;
     accepted = s.accepted;
     since = s.since;
@@ -146,8 +147,8 @@ module _ {T : Type 0} (below : T → T → Bool) (minimum : T) where
   on_both (Err e) P Q a b f g = g b
 
   -- after a look, the board stands for the history with the look on top
-  pub stands_looked : (b c : BoardState T) (h : List (Event T)) (actor : ℕ) → c ≡ after_look actor b → Stands below minimum b h → Stands below minimum c (c.last ∷ h)
-  stands_looked b c h actor e s = subst (λ z. Stands below minimum z (z.last ∷ h)) (sym e) (record {
+  pub stands_looked : (b c : BoardState T) (h : List (Event T)) (actor : ℕ) → c ≡ after_look actor b → Stands times b h → Stands times c (c.last ∷ h)
+  stands_looked b c h actor e s = subst (λ z. Stands times z (z.last ∷ h)) (sym e) (record {
     legal = (tt, s.legal);
     queues = s.queues;
     held = s.held;
@@ -186,25 +187,25 @@ pub first_queue : {T : Type 0} (nodes workers : ℕ) (site : Site) → queue_of 
 first_queue nodes workers site = ap (λ lot. map (bundle_at site) (loads_at site.port lot)) (first_lot nodes workers site.node site.worker) ∙ none_at site site.port
 
 -- the first board stands for the empty history
-pub stands_first : {T : Type 0} (below : T → T → Bool) (minimum : T) (p : Dataflow) → Stands below minimum (first_board minimum p) []
-stands_first below minimum p = record {
+pub stands_first : {T : Type 0} (times : Times T) (p : Dataflow) → Stands times (first_board times.least p) []
+stands_first times p = record {
   legal = tt;
   queues = first_queue (length p.nodes) p.workers;
   held = λ n k. ap (λ lot. lot.held) (first_lot (length p.nodes) p.workers n k);
-  open_times = first_front minimum p.nodes;
+  open_times = first_front times.least p.nodes;
   hand = λ k l. repeated p.workers k None None l;
   accepted = λ i l. repeated (length p.nodes) i 0 0 l;
-  since = λ v l. ap (λ z. z.since) (repeated (length p.nodes) v (record { since = minimum ∷ []; captured = [] }) no_view l);
+  since = λ v l. ap (λ z. z.since) (repeated (length p.nodes) v (record { since = times.least ∷ []; captured = [] }) no_view l);
   captured = λ v l o.
-      let none = repeated (length p.nodes) v (record { since = minimum ∷ []; captured = [] }) no_view l in
-      record { sums = λ t k r. ap (λ z. count_of (as_of below t z.captured) r) none; small = let e = ap (λ z. size z.captured) none in omega (arith, e) };
+      let none = repeated (length p.nodes) v (record { since = times.least ∷ []; captured = [] }) no_view l in
+      record { sums = λ t k r. ap (λ z. count_of (as_of times t z.captured) r) none; small = let e = ap (λ z. size z.captured) none in omega (arith, e) };
   last = tt;
 }
 
 -- a new board stands for the empty history
-pub stands_opened : {T : Type 0} (below : T → T → Bool) (minimum : T) (p : Dataflow) (r : Result (BoardState T) Refusal) → IfOk r (λ b. b ≡ first_board minimum p) → IfOk r (λ b. Stands below minimum b [])
-stands_opened below minimum p (Ok b) e = subst (λ z. Stands below minimum z []) (sym e) (stands_first below minimum p)
-stands_opened below minimum p (Err r) e = e
+pub stands_opened : {T : Type 0} (times : Times T) (p : Dataflow) (r : Result (BoardState T) Refusal) → IfOk r (λ b. b ≡ first_board times.least p) → IfOk r (λ b. Stands times b [])
+stands_opened times p (Ok b) e = subst (λ z. Stands times z []) (sym e) (stands_first times p)
+stands_opened times p (Err r) e = e
 
 -- The events of workers
 
@@ -249,7 +250,7 @@ all_there stations p many wide (b ∷ bundles) places =
     few ports (inl e) f = omega (arith, e)
     few ports (inr l) f = omega (arith, l, f)
 
-module _ {T : Type 0} (below : T → T → Bool) (minimum : T) where
+module _ {T : Type 0} (times : Times T) where
   -- the hands after one worker's hand changed
   hand_set : (hand : List (Option ℕ)) (f : ℕ → Option ℕ) (workers worker : ℕ) (node : Option ℕ) → length hand ≡ workers → worker < workers
       → ((k : ℕ) → k < workers → get_or hand k None ≡ f k) → (k : ℕ) → k < workers → get_or (set hand worker node) k None ≡ with_at f worker node k
@@ -264,17 +265,17 @@ module _ {T : Type 0} (below : T → T → Bool) (minimum : T) where
   -- after a take that was not refused, the board stands for the history with the take on top
   pub stands_taken : (b : BoardState T) → IsBoard b → (h : List (Event T)) (number : ℕ) (bundle : Bundle T) → bundle.place.worker < b.dataflow.workers → get_or b.hand bundle.place.worker None ≡ None
       → slice_get (queue_of b.stations bundle.place) number ≡ Some bundle → (arranged_by (node_of b.dataflow bundle.place.node) ≡ None → number ≡ 0)
-      → Stands below minimum b h → Stands below minimum (after_take number bundle b) (Take number bundle ∷ h)
+      → Stands times b h → Stands times (after_take number bundle b) (Take number bundle ∷ h)
   stands_taken b board h number bundle l free waits turn s =
       let site = bundle.place in
       let within = waits_within b.stations site number bundle waits in
       let staffed = waits_staffed b.stations site number bundle waits in
       record {
         legal = (record { worker = l; free = sym (s.hand site.worker l) ∙ free; waits = subst (λ q. slice_get q number ≡ Some bundle) (s.queues site) waits; turn = turn }, s.legal);
-        queues = queue_taken b.stations number bundle within staffed (state_after below minimum b.dataflow h).in_flight s.queues;
-        held = held_taken b.stations number bundle within staffed (state_after below minimum b.dataflow h).held s.held;
+        queues = queue_taken b.stations number bundle within staffed (state_after times b.dataflow h).in_flight s.queues;
+        held = held_taken b.stations number bundle within staffed (state_after times b.dataflow h).held s.held;
         open_times = s.open_times;
-        hand = hand_set b.hand (state_after below minimum b.dataflow h).hand b.dataflow.workers site.worker (Some site.node) board.hand l s.hand;
+        hand = hand_set b.hand (state_after times b.dataflow h).hand b.dataflow.workers site.worker (Some site.node) board.hand l s.hand;
         accepted = s.accepted;
         since = s.since;
         captured = s.captured;
@@ -282,14 +283,14 @@ module _ {T : Type 0} (below : T → T → Bool) (minimum : T) where
       }
 
   -- after a worker turned to what it holds, the board stands for the history with that event on top
-  pub stands_turned : (b c : BoardState T) → IsBoard b → (h : List (Event T)) (k n : ℕ) → k < b.dataflow.workers → IsTakeHeld below b.dataflow (state_after below minimum b.dataflow h) k n
-      → c ≡ after_turn k n b → Stands below minimum b h → Stands below minimum c (c.last ∷ h)
-  stands_turned b c board h k n l legal e s = subst (λ z. Stands below minimum z (z.last ∷ h)) (sym e) (record {
+  pub stands_turned : (b c : BoardState T) → IsBoard b → (h : List (Event T)) (k n : ℕ) → k < b.dataflow.workers → IsTakeHeld times b.dataflow (state_after times b.dataflow h) k n
+      → c ≡ after_turn k n b → Stands times b h → Stands times c (c.last ∷ h)
+  stands_turned b c board h k n l legal e s = subst (λ z. Stands times z (z.last ∷ h)) (sym e) (record {
     legal = (legal, s.legal);
     queues = s.queues;
     held = s.held;
     open_times = s.open_times;
-    hand = hand_set b.hand (state_after below minimum b.dataflow h).hand b.dataflow.workers k (Some n) board.hand l s.hand;
+    hand = hand_set b.hand (state_after times b.dataflow h).hand b.dataflow.workers k (Some n) board.hand l s.hand;
     accepted = s.accepted;
     since = s.since;
     captured = s.captured;
@@ -300,31 +301,31 @@ module _ {T : Type 0} (below : T → T → Bool) (minimum : T) where
   pub stands_after_take : (r : Result (Bundle T) Refusal) (b c : BoardState T) (h : List (Event T)) (site : Site) (number : ℕ) → OnOk r (IsBoard b) → site.worker < b.dataflow.workers → get_or b.hand site.worker None ≡ None
       → (arranged_by (node_of b.dataflow site.node) ≡ None → number ≡ 0)
       → IfOk r (λ x. slice_get (queue_of b.stations site) number ≡ Some x) → IfOk r (λ x. x.place ≡ site) → IfOk r (λ x. c ≡ after_take number x b) → OnErr r (c ≡ after_look site.worker b)
-      → Stands below minimum b h → Stands below minimum c (c.last ∷ h)
+      → Stands times b h → Stands times c (c.last ∷ h)
   stands_after_take (Ok x) b c h site number board l free turn waits there e err s =
-      subst (λ z. Stands below minimum z (z.last ∷ h)) (sym e)
+      subst (λ z. Stands times z (z.last ∷ h)) (sym e)
       (stands_taken b board h number x
       (subst (λ (z : Site). z.worker < b.dataflow.workers) (sym there) l)
       (subst (λ (z : Site). get_or b.hand z.worker None ≡ None) (sym there) free)
       (subst (λ (z : Site). slice_get (queue_of b.stations z) number ≡ Some x) (sym there) waits)
       (subst (λ (z : Site). arranged_by (node_of b.dataflow z.node) ≡ None → number ≡ 0) (sym there) turn)
       s)
-  stands_after_take (Err r) b c h site number board l free turn waits there e err s = stands_looked below minimum b c h site.worker err s
+  stands_after_take (Err r) b c h site number board l free turn waits there e err s = stands_looked times b c h site.worker err s
 
 size_both : {T : Type 0} (a c : List (Update T)) → size (a ++ c) ≡ size a + size c
 size_both a c = let x = summed_size_is a in let y = summed_size_is c in let z = summed_size_is (a ++ c) in let h = summed_size-append a c in omega (arith, x, y, z, h)
 
-module _ {T : Type 0} (below : T → T → Bool) (minimum : T) where
+module _ {T : Type 0} (times : Times T) where
   -- after a give that was not refused and is allowed, the board stands for the history with it on
   -- top
   pub stands_given : (b : BoardState T) → IsBoard b → (h : List (Event T)) (g : Emission T) (ts : List T) (sent : List (Bundle T)) → g.worker < b.dataflow.workers → g.node < length b.dataflow.nodes
-      → IsGive below b.dataflow (state_after below minimum b.dataflow h) g ts sent → Stands below minimum b h → Stands below minimum (after_give g ts sent b) (Give g ts sent ∷ h)
+      → IsGive times b.dataflow (state_after times b.dataflow h) g ts sent → Stands times b h → Stands times (after_give g ts sent b) (Give g ts sent ∷ h)
   stands_given b board h g ts sent l within legal s = record {
     legal = (legal, s.legal);
     queues = λ site. queue_held (put_all sent b.stations) g.node g.worker ts at_node staffed site ∙ (queue_put_all sent b.stations there site ∙ (ap (λ q. q ++ queue site sent) (s.queues site) ∙ sym (queue_append site w.in_flight sent)));
     held = held_instead (put_all sent b.stations) g.node g.worker ts at_node staffed w.held (λ n k. held_put_all sent b.stations there n k ∙ s.held n k);
     open_times = s.open_times;
-    hand = hand_set below minimum b.hand w.hand b.dataflow.workers g.worker None board.hand l s.hand;
+    hand = hand_set times b.hand w.hand b.dataflow.workers g.worker None board.hand l s.hand;
     accepted = s.accepted;
     since = λ v m. since v m (is_output (node_of b.dataflow g.node));
     captured = λ v m o. record {
@@ -335,7 +336,7 @@ module _ {T : Type 0} (below : T → T → Bool) (minimum : T) where
   }
     where
       w : State T
-      w = state_after below minimum b.dataflow h
+      w = state_after times b.dataflow h
 
       at_node : g.node < length (put_all sent b.stations)
       at_node = subst (λ z. g.node < z) (sym (many_put_all sent b.stations ∙ board.stations)) within
@@ -345,7 +346,7 @@ module _ {T : Type 0} (below : T → T → Bool) (minimum : T) where
 
       -- the bundles that are sent go to places that exist
       there : AreThere b.stations sent
-      there = all_there b.stations b.dataflow board.stations board.rows sent (λ x m. ((in_place_lem b.dataflow board.dataflow below minimum (Give g ts sent ∷ h) (legal, s.legal)).bundles x (contains_among x (w.in_flight ++ sent) (among_behind x w.in_flight sent m))).0)
+      there = all_there b.stations b.dataflow board.stations board.rows sent (λ x m. ((in_place_lem b.dataflow board.dataflow times (Give g ts sent ∷ h) (legal, s.legal)).bundles x (contains_among x (w.in_flight ++ sent) (among_behind x w.in_flight sent m))).0)
 
       viewed : ViewState T
       viewed = capture (get_or b.views g.node no_view) g.updates
@@ -364,17 +365,17 @@ module _ {T : Type 0} (below : T → T → Bool) (minimum : T) where
       swapped : (x y : ℤ) → x +ℤ y ≡ y +ℤ x
       swapped x y = omega (arith, ints)
 
-      captured : (v : ℕ) → v < length b.dataflow.nodes → IsTrue (is_output (node_of b.dataflow v)) → (t : T) → IsTrue (is_from_start below minimum (w.since v) || is_beyond below (w.since v) t) → (r : List ℤ) → (c : Bool) → is_output (node_of b.dataflow g.node) ≡ c → (d : Bool) → eqb g.node v ≡ d
-          → count_of (as_of below t (get_or (cond c (set b.views g.node viewed) b.views) v no_view).captured) r ≡ count_of (as_of below t (cond d g.updates [] ++ emitted_at v w.emitted)) r
+      captured : (v : ℕ) → v < length b.dataflow.nodes → IsTrue (is_output (node_of b.dataflow v)) → (t : T) → IsTrue (is_from_start times (w.since v) || is_beyond times (w.since v) t) → (r : List ℤ) → (c : Bool) → is_output (node_of b.dataflow g.node) ≡ c → (d : Bool) → eqb g.node v ≡ d
+          → count_of (as_of times t (get_or (cond c (set b.views g.node viewed) b.views) v no_view).captured) r ≡ count_of (as_of times t (cond d g.updates [] ++ emitted_at v w.emitted)) r
       captured v m o t k r true f true e =
-          let here = ap (λ z. count_of (as_of below t z.captured) r) (ap (λ n. get_or (set b.views g.node viewed) n no_view) (sym (eqb-true g.node v e)) ∙ get_or-set_same b.views g.node viewed no_view long) in
+          let here = ap (λ z. count_of (as_of times t z.captured) r) (ap (λ n. get_or (set b.views g.node viewed) n no_view) (sym (eqb-true g.node v e)) ∙ get_or-set_same b.views g.node viewed no_view long) in
           let old = get_or b.views g.node no_view in
           here
-          ∙ (sum_at-append below t old.captured g.updates r
-          ∙ (swapped (count_of (as_of below t old.captured) r) (count_of (as_of below t g.updates) r)
-          ∙ (ap (λ z. count_of (as_of below t g.updates) r +ℤ z) ((s.captured g.node within f).sums t (subst (λ n. IsTrue (is_from_start below minimum (w.since n) || is_beyond below (w.since n) t)) (sym (eqb-true g.node v e)) k) r ∙ ap (λ n. count_of (as_of below t (emitted_at n w.emitted)) r) (eqb-true g.node v e))
-          ∙ sym (sum_at-append below t g.updates (emitted_at v w.emitted) r))))
-      captured v m o t k r true f false e = ap (λ z. count_of (as_of below t z.captured) r) (get_or-set_other b.views g.node v viewed no_view (λ z. false≢true (sym e ∙ eq-eqb g.node v (sym z)))) ∙ (s.captured v m o).sums t k r
+          ∙ (sum_at-append times t old.captured g.updates r
+          ∙ (swapped (count_of (as_of times t old.captured) r) (count_of (as_of times t g.updates) r)
+          ∙ (ap (λ z. count_of (as_of times t g.updates) r +ℤ z) ((s.captured g.node within f).sums t (subst (λ n. IsTrue (is_from_start times (w.since n) || is_beyond times (w.since n) t)) (sym (eqb-true g.node v e)) k) r ∙ ap (λ n. count_of (as_of times t (emitted_at n w.emitted)) r) (eqb-true g.node v e))
+          ∙ sym (sum_at-append times t g.updates (emitted_at v w.emitted) r))))
+      captured v m o t k r true f false e = ap (λ z. count_of (as_of times t z.captured) r) (get_or-set_other b.views g.node v viewed no_view (λ z. false≢true (sym e ∙ eq-eqb g.node v (sym z)))) ∙ (s.captured v m o).sums t k r
       captured v m o t k r false f true e = absurd (false≢true (sym f ∙ ap (λ n. is_output (node_of b.dataflow n)) (eqb-true g.node v e) ∙ o))
       captured v m o t k r false f false e = (s.captured v m o).sums t k r
 
@@ -395,6 +396,6 @@ module _ {T : Type 0} (below : T → T → Bool) (minimum : T) where
   -- after a give, refused or not, the board stands for the history with its event on top
   pub stands_after_give : {A E : Type 0} (r : Result A E) (b c : BoardState T) (h : List (Event T)) (g : Emission T) (ts : List T) (sent : List (Bundle T)) → OnOk r (IsBoard b) → g.worker < b.dataflow.workers → g.node < length b.dataflow.nodes
       → OnOk r (c ≡ after_give g ts sent b) → OnErr r (c ≡ after_look g.worker b)
-      → Stands below minimum b h → IsGive below b.dataflow (state_after below minimum b.dataflow h) g ts sent → Stands below minimum c (c.last ∷ h)
-  stands_after_give (Ok x) b c h g ts sent board l within e err s legal = subst (λ z. Stands below minimum z (z.last ∷ h)) (sym e) (stands_given b board h g ts sent l within legal s)
-  stands_after_give (Err x) b c h g ts sent board l within e err s legal = stands_looked below minimum b c h g.worker err s
+      → Stands times b h → IsGive times b.dataflow (state_after times b.dataflow h) g ts sent → Stands times c (c.last ∷ h)
+  stands_after_give (Ok x) b c h g ts sent board l within e err s legal = subst (λ z. Stands times z (z.last ∷ h)) (sym e) (stands_given b board h g ts sent l within legal s)
+  stands_after_give (Err x) b c h g ts sent board l within e err s legal = stands_looked times b c h g.worker err s

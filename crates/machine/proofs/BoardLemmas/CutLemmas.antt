@@ -1,5 +1,5 @@
--- Cutting an emission: the list that the last bundle has, the stamp of a list, and the bundles along
--- the last edge behind those along the others.
+-- Cutting an emission: the list that the last bundle has, the stamp of a list, and the bundles
+-- along the last edge behind those along the others.
 use Rattle.std.proofs.Common.{◌≡◌, ℕ, zero, suc, ◌<◌, ◌≤◌, Bool, true, false, cond, eqb, Option, Some, None, List, [], ◌∷◌, ◌++◌, length, take, get_or, Result, Ok, Err, sym, refl, ap, ◌∙◌, subst, append-nil, append_assoc, arith}
 use Rattle.std.specs.Prelude.{IfOk}
 use Rattle.std.specs.List.{flat_map}
@@ -15,6 +15,7 @@ use Rattle.histories.specs.Histories.Dataflows.{Dataflow, node_of, source_of}
 use Rattle.histories.specs.Histories.Shares.{part, share, share_from}
 use Rattle.histories.specs.Histories.States.{place}
 use Rattle.machine.proofs.BoardLemmas.RoutingLemmas.{leading}
+use Rattle.lattice.specs.Times.{Times}
 
 -- what follows from a fact of an answer is a fact of the answer
 pub if_ok : {T E : Type 0} (r : Result T E) (P Q : T → Type 0) → ((x : T) → P x → Q x) → IfOk r P → IfOk r Q
@@ -26,7 +27,7 @@ pub no_length : {X : Type 0} (xs : List X) → length xs ≡ 0 → xs ≡ []
 no_length [] e = refl
 no_length (x ∷ xs) e = absurd (omega (arith, e))
 
-module _ {T : Type 0} (below : T → T → Bool) (p : Dataflow) (g : Emission T) (none : g.updates ≡ []) where
+module _ {T : Type 0} (times : Times T) (p : Dataflow) (g : Emission T) (none : g.updates ≡ []) where
   if_nothing : (b : Bool) (us : List (Update T)) → us ≡ [] → cond b us [] ≡ []
   if_nothing true us e = e
   if_nothing false us e = refl
@@ -39,18 +40,18 @@ module _ {T : Type 0} (below : T → T → Bool) (p : Dataflow) (g : Emission T)
   share_nothing None columns worker = refl
   share_nothing (Some source) columns worker = if_nothing (eqb g.node source) (part p columns g.worker worker g.updates) (part_nothing columns g.worker worker g.updates none)
 
-  along_nothing : (edge : Edge) (ks : List ℕ) → flat_map (λ k. bundled below (place edge.reader edge.port k) (share p (place edge.reader edge.port k) g)) ks ≡ []
+  along_nothing : (edge : Edge) (ks : List ℕ) → flat_map (λ k. bundled times (place edge.reader edge.port k) (share p (place edge.reader edge.port k) g)) ks ≡ []
   along_nothing edge [] = refl
   along_nothing edge (k ∷ ks) =
-      ap (λ us. bundled below (place edge.reader edge.port k) us ++ flat_map (λ j. bundled below (place edge.reader edge.port j) (share p (place edge.reader edge.port j) g)) ks) (share_nothing (source_of p edge.reader edge.port) (arranged_by (node_of p edge.reader)) k)
+      ap (λ us. bundled times (place edge.reader edge.port k) us ++ flat_map (λ j. bundled times (place edge.reader edge.port j) (share p (place edge.reader edge.port j) g)) ks) (share_nothing (source_of p edge.reader edge.port) (arranged_by (node_of p edge.reader)) k)
       ∙ along_nothing edge ks
 
   -- no bundle is cut of no updates
-  nothing_cut : (edges : List Edge) → flat_map (cut_along below p g) edges ≡ []
+  nothing_cut : (edges : List Edge) → flat_map (cut_along times p g) edges ≡ []
   nothing_cut [] = refl
-  nothing_cut (edge ∷ edges) = ap (λ bs. bs ++ flat_map (cut_along below p g) edges) (along_nothing edge (numbers_below p.workers)) ∙ nothing_cut edges
+  nothing_cut (edge ∷ edges) = ap (λ bs. bs ++ flat_map (cut_along times p g) edges) (along_nothing edge (numbers_below p.workers)) ∙ nothing_cut edges
 
-  pub cut_nothing : [] ≡ cut below p g
+  pub cut_nothing : [] ≡ cut times p g
   cut_nothing = sym (nothing_cut (edges_from p.nodes g.node))
 
 -- the edges among the first ones lead from the node, too

@@ -9,6 +9,7 @@ use Rattle.std.proofs.lemmas.Bool.{cases_lt, true≢false}
 use Rattle.std.proofs.lemmas.List.{append-nil, length-append, length-map, nil_from_length, get_or_past}
 use Rattle.std.proofs.lemmas.List.Concat.{flat_map-append}
 use Rattle.std.proofs.lemmas.Option.{slice_get-map, slice_get-get_or}
+use Rattle.lattice.specs.Times.{Times}
 use Rattle.lattice.specs.Order.{PartialOrderLaws}
 use Rattle.antichain.proofs.Lists.{among_contains}
 use Rattle.plan.specs.Ancestors.{numbers_below}
@@ -140,9 +141,9 @@ module _ {T : Type 0} where
       none (suc zero) = refl
       none (suc (suc port)) = refl
 
-module _ {T : Type 0} (below : T → T → Bool) where
+module _ {T : Type 0} (times : Times T) where
   -- a number below the number of pieces at a place makes a piece
-  pub takable_piece : (b : BoardState T) (k : ℕ) (site : Site) (number : ℕ) → site.worker ≡ k → number < takable_at b site → IsPiece below b k (Waiting site number)
+  pub takable_piece : (b : BoardState T) (k : ℕ) (site : Site) (number : ℕ) → site.worker ≡ k → number < takable_at b site → IsPiece times b k (Waiting site number)
   takable_piece b k site number e l =
       let h = within_takable (arranged_by (node_of b.dataflow site.node)) (length (queue_of b.stations site)) number l in record {
         worker = e;
@@ -158,42 +159,42 @@ module _ {T : Type 0} (below : T → T → Bool) where
     abbrev second : Site
     second = place n 1 k
 
-    pub at_first : number < takable_at b first → slice_get (pieces_at below b k n) number ≡ Some (Waiting first number)
-    at_first l = get_first (pieces_waiting b first) (pieces_waiting b second ++ pieces_held below b k n) number (Waiting first number) (waiting_nth b first number l)
+    pub at_first : number < takable_at b first → slice_get (pieces_at times b k n) number ≡ Some (Waiting first number)
+    at_first l = get_first (pieces_waiting b first) (pieces_waiting b second ++ pieces_held times b k n) number (Waiting first number) (waiting_nth b first number l)
 
-    pub at_second : (left : ℕ) → number ≡ takable_at b first + left → left < takable_at b second → slice_get (pieces_at below b k n) number ≡ Some (Waiting second left)
+    pub at_second : (left : ℕ) → number ≡ takable_at b first + left → left < takable_at b second → slice_get (pieces_at times b k n) number ≡ Some (Waiting second left)
     at_second left e l =
-        get_second (pieces_waiting b first) (pieces_waiting b second ++ pieces_held below b k n) number left (e ∙ ap (λ m. m + left) (sym (waiting_long b first)))
-        ∙ get_first (pieces_waiting b second) (pieces_held below b k n) left (Waiting second left) (waiting_nth b second left l)
+        get_second (pieces_waiting b first) (pieces_waiting b second ++ pieces_held times b k n) number left (e ∙ ap (λ m. m + left) (sym (waiting_long b first)))
+        ∙ get_first (pieces_waiting b second) (pieces_held times b k n) left (Waiting second left) (waiting_nth b second left l)
 
-    pub at_held : (rest : ℕ) → number ≡ (takable_at b first + takable_at b second) + rest → slice_get (pieces_at below b k n) number ≡ slice_get (pieces_held below b k n) rest
+    pub at_held : (rest : ℕ) → number ≡ (takable_at b first + takable_at b second) + rest → slice_get (pieces_at times b k n) number ≡ slice_get (pieces_held times b k n) rest
     at_held rest e =
-        get_second (pieces_waiting b first) (pieces_waiting b second ++ pieces_held below b k n) number (takable_at b second + rest) (let long = waiting_long b first in omega (arith, e, long))
-        ∙ get_second (pieces_waiting b second) (pieces_held below b k n) (takable_at b second + rest) rest (ap (λ m. m + rest) (sym (waiting_long b second)))
+        get_second (pieces_waiting b first) (pieces_waiting b second ++ pieces_held times b k n) number (takable_at b second + rest) (let long = waiting_long b first in omega (arith, e, long))
+        ∙ get_second (pieces_waiting b second) (pieces_held times b k n) (takable_at b second + rest) rest (ap (λ m. m + rest) (sym (waiting_long b second)))
 
-    pub past_held : (rest left : ℕ) → number ≡ (takable_at b first + takable_at b second) + rest → rest ≡ length (pieces_held below b k n) + left → number ≡ length (pieces_at below b k n) + left
+    pub past_held : (rest left : ℕ) → number ≡ (takable_at b first + takable_at b second) + rest → rest ≡ length (pieces_held times b k n) + left → number ≡ length (pieces_at times b k n) + left
     past_held rest left e g =
-        let all = length-append (pieces_waiting b first) (pieces_waiting b second ++ pieces_held below b k n) in
-        let some = length-append (pieces_waiting b second) (pieces_held below b k n) in
+        let all = length-append (pieces_waiting b first) (pieces_waiting b second ++ pieces_held times b k n) in
+        let some = length-append (pieces_waiting b second) (pieces_held times b k n) in
         let one = waiting_long b first in
         let two = waiting_long b second in
         omega (arith, e, g, all, some, one, two)
 
   -- a node where the worker is ready has a piece for it
-  pub held_first : (b : BoardState T) (k n : ℕ) → is_ready below b k n ≡ true → pieces_held below b k n ≡ Held n ∷ []
+  pub held_first : (b : BoardState T) (k n : ℕ) → is_ready times b k n ≡ true → pieces_held times b k n ≡ Held n ∷ []
   held_first b k n e = ap (λ c. cond c (Held n ∷ []) []) e
 
-  pub held_none : (b : BoardState T) (k n : ℕ) → is_ready below b k n ≡ false → pieces_held below b k n ≡ []
+  pub held_none : (b : BoardState T) (k n : ℕ) → is_ready times b k n ≡ false → pieces_held times b k n ≡ []
   held_none b k n e = ap (λ c. cond c (Held n ∷ []) []) e
 
   -- ---- what pieces are good for in a history
 
-  module _ (o : PartialOrderLaws below) (minimum : T) (b : BoardState T) (board : IsBoard b) (h : List (Event T)) (s : Stands below minimum b h) (k : ℕ) where
+  module _ (o : PartialOrderLaws times) (b : BoardState T) (board : IsBoard b) (h : List (Event T)) (s : Stands times b h) (k : ℕ) where
     -- a worker with nothing in hand may take a piece
-    pub piece_allowed : k < b.dataflow.workers → (piece : Piece) → IsPiece below b k piece → MayTake below b.dataflow (state_after below minimum b.dataflow h) k piece
-    piece_allowed l (Held n) p free = may_turn below o minimum b board h s k n l p.within (s.hand k l ∙ free) p.ready
+    pub piece_allowed : k < b.dataflow.workers → (piece : Piece) → IsPiece times b k piece → MayTake times b.dataflow (state_after times b.dataflow h) k piece
+    piece_allowed l (Held n) p free = may_turn times o b board h s k n l p.within (s.hand k l ∙ free) p.ready
     piece_allowed l (Waiting site number) p free =
-        let w = state_after below minimum b.dataflow h in
+        let w = state_after times b.dataflow h in
         let load : Load T = get_or (loads_at site.port (lot_of b.stations site.node site.worker)) number (record { updates = []; stamp = [] }) in
         let within : number < length (loads_at site.port (lot_of b.stations site.node site.worker)) = let long = length-map (loads_at site.port (lot_of b.stations site.node site.worker)) (bundle_at site) in let waits = p.waits in omega (arith, long, waits) in
         record {
@@ -211,33 +212,33 @@ module _ {T : Type 0} (below : T → T → Bool) where
           };
         }
 
-    none_waits : pieces below b k ≡ [] → (n : ℕ) → n < length b.dataflow.nodes → (port : ℕ) → queue_of b.stations (place n port k) ≡ []
-    none_waits e n l zero = no_queue b (place n 0 k) (empty_first (pieces_waiting b (place n 0 k)) (pieces_waiting b (place n 1 k) ++ pieces_held below b k n) (empty_each (pieces_at below b k) n (length b.dataflow.nodes) l e))
-    none_waits e n l (suc zero) = no_queue b (place n 1 k) (empty_first (pieces_waiting b (place n 1 k)) (pieces_held below b k n) (empty_second (pieces_waiting b (place n 0 k)) (pieces_waiting b (place n 1 k) ++ pieces_held below b k n) (empty_each (pieces_at below b k) n (length b.dataflow.nodes) l e)))
+    none_waits : pieces times b k ≡ [] → (n : ℕ) → n < length b.dataflow.nodes → (port : ℕ) → queue_of b.stations (place n port k) ≡ []
+    none_waits e n l zero = no_queue b (place n 0 k) (empty_first (pieces_waiting b (place n 0 k)) (pieces_waiting b (place n 1 k) ++ pieces_held times b k n) (empty_each (pieces_at times b k) n (length b.dataflow.nodes) l e))
+    none_waits e n l (suc zero) = no_queue b (place n 1 k) (empty_first (pieces_waiting b (place n 1 k)) (pieces_held times b k n) (empty_second (pieces_waiting b (place n 0 k)) (pieces_waiting b (place n 1 k) ++ pieces_held times b k n) (empty_each (pieces_at times b k) n (length b.dataflow.nodes) l e)))
     none_waits e n l (suc (suc port)) = refl
 
-    not_ready : pieces below b k ≡ [] → (n : ℕ) → n < length b.dataflow.nodes → is_ready below b k n ≡ false
-    not_ready e n l = step (is_ready below b k n) (empty_second (pieces_waiting b (place n 1 k)) (pieces_held below b k n) (empty_second (pieces_waiting b (place n 0 k)) (pieces_waiting b (place n 1 k) ++ pieces_held below b k n) (empty_each (pieces_at below b k) n (length b.dataflow.nodes) l e)))
+    not_ready : pieces times b k ≡ [] → (n : ℕ) → n < length b.dataflow.nodes → is_ready times b k n ≡ false
+    not_ready e n l = step (is_ready times b k n) (empty_second (pieces_waiting b (place n 1 k)) (pieces_held times b k n) (empty_second (pieces_waiting b (place n 0 k)) (pieces_waiting b (place n 1 k) ++ pieces_held times b k n) (empty_each (pieces_at times b k) n (length b.dataflow.nodes) l e)))
       where
         step : (c : Bool) → cond c (Held n ∷ []) [] ≡ [] → c ≡ false
         step true g = cc
         step false g = refl
 
-    no_bundle : pieces below b k ≡ [] → (site : Site) → site.worker ≡ k → queue_of b.stations site ≡ []
+    no_bundle : pieces times b k ≡ [] → (site : Site) → site.worker ≡ k → queue_of b.stations site ≡ []
     no_bundle e site same =
         ⊎_elim
         (λ l. subst (λ j. queue_of b.stations (place site.node site.port j) ≡ []) (sym same) (none_waits e site.node l site.port))
         (λ l. none_past b board site l)
         (cases_lt site.node (length b.dataflow.nodes))
 
-    no_held : pieces below b k ≡ [] → (n : ℕ) (t : T) → Contains (lot_of b.stations n k).held t → has_passed below (input_front below b n) t ≡ false
+    no_held : pieces times b k ≡ [] → (n : ℕ) (t : T) → Contains (lot_of b.stations n k).held t → has_passed times (input_front times b n) t ≡ false
     no_held e n t c =
         ⊎_elim
-        (λ l. step (has_passed below (input_front below b n) t) (λ g. among_any (has_passed below (input_front below b n)) (lot_of b.stations n k).held t (among_contains t (lot_of b.stations n k).held c) g) (not_ready e n l))
+        (λ l. step (has_passed times (input_front times b n) t) (λ g. among_any (has_passed times (input_front times b n)) (lot_of b.stations n k).held t (among_contains t (lot_of b.stations n k).held c) g) (not_ready e n l))
         (λ l. absurd (among_contains t [] (subst (λ ts. Contains ts t) (nothing l) c)))
         (cases_lt n (length b.dataflow.nodes))
       where
-        step : (a : Bool) → (a ≡ true → is_ready below b k n ≡ true) → is_ready below b k n ≡ false → a ≡ false
+        step : (a : Bool) → (a ≡ true → is_ready times b k n ≡ true) → is_ready times b k n ≡ false → a ≡ false
         step true g r = absurd (true≢false (sym (g refl) ∙ r))
         step false g r = refl
 
@@ -245,21 +246,21 @@ module _ {T : Type 0} (below : T → T → Bool) where
         nothing l = ap (λ row. (get_or row k no_lot).held) (get_or_past b.stations n [] (let long = board.stations in omega (arith, l, long)))
 
     -- if there is no piece, nothing is there for the worker
-    pub no_piece : pieces below b k ≡ [] → HasNoPiece below b.dataflow (state_after below minimum b.dataflow h) k
+    pub no_piece : pieces times b k ≡ [] → HasNoPiece times b.dataflow (state_after times b.dataflow h) k
     no_piece e = record {
       bundles = λ site same. sym (s.queues site) ∙ no_bundle e site same;
-      held = λ n t c. ap not (sym (input_front_stands below o minimum b board h s n t)) ∙ no_held e n t (subst (λ ts. Contains ts t) (sym (s.held n k)) c);
+      held = λ n t c. ap not (sym (input_front_stands times o b board h s n t)) ∙ no_held e n t (subst (λ ts. Contains ts t) (sym (s.held n k)) c);
     }
 
     -- the pieces are those of the state that the history leaves
-    pub pieces_stand : pieces below b k ≡ pieces_in below b.dataflow (state_after below minimum b.dataflow h) k
+    pub pieces_stand : pieces times b k ≡ pieces_in times b.dataflow (state_after times b.dataflow h) k
     pieces_stand = λ i. flat_map (λ n. at n i) (numbers_below (length b.dataflow.nodes))
       where
         w : State T
-        w = state_after below minimum b.dataflow h
+        w = state_after times b.dataflow h
 
-        waiting : (site : Site) → pieces_waiting b site ≡ waiting_in below b.dataflow w k site
+        waiting : (site : Site) → pieces_waiting b site ≡ waiting_in times b.dataflow w k site
         waiting site = ap (λ waits. map (λ number. Waiting site number) (numbers_below (takable (arranged_by (node_of b.dataflow site.node)) (length waits)))) (s.queues site)
 
-        at : (n : ℕ) → pieces_at below b k n ≡ waiting_in below b.dataflow w k (place n 0 k) ++ (waiting_in below b.dataflow w k (place n 1 k) ++ held_in below b.dataflow w k n)
-        at n i = waiting (place n 0 k) i ++ (waiting (place n 1 k) i ++ cond (ready_stands below o minimum b board h s k n i) (Held n ∷ []) [])
+        at : (n : ℕ) → pieces_at times b k n ≡ waiting_in times b.dataflow w k (place n 0 k) ++ (waiting_in times b.dataflow w k (place n 1 k) ++ held_in times b.dataflow w k n)
+        at n i = waiting (place n 0 k) i ++ (waiting (place n 1 k) i ++ cond (ready_stands times o b board h s k n i) (Held n ∷ []) [])

@@ -6,6 +6,7 @@ use Rattle.std.specs.Prelude.{Result, Ok, Err}
 use Rattle.std.specs.declared.cmp.Ordering.{Ordering}
 use Rattle.std.proofs.lemmas.List.{get_or_default}
 use Rattle.std.proofs.lemmas.Bool.{and_from, or_left, or_right, false≢true}
+use Rattle.lattice.specs.Times.{Times}
 use Rattle.lattice.specs.Order.{PartialOrderLaws}
 use Rattle.lattice.specs.Frontiers.{is_beyond}
 use Rattle.update.specs.Bags.{Entry, Alike}
@@ -41,65 +42,65 @@ unrefused : (b : Bool) → not b ≡ false → b ≡ true
 unrefused true h = refl
 unrefused false h = absurd (false≢true (sym h))
 
-module _ {T : Type 0} (below : T → T → Bool) (minimum : T) (o : PartialOrderLaws below) where
+module _ {T : Type 0} (times : Times T) (o : PartialOrderLaws times) where
   -- a read that is answered is the query, for every history that the board may stand for
   pub read_answers : (r : Result (List Entry) Refusal) (b : BoardState T) (h : List (Event T)) (v : ℕ) (t : T) → IsBoard b → v < length b.dataflow.nodes → IsTrue (is_output (node_of b.dataflow v))
-      → OnOk r (read_refusal_on below b v t ≡ None) → IfOk r (λ bag. Alike bag (as_of below t (captured_of b v))) → Stands below minimum b h
-      → IfOk r (λ bag. Alike bag (query_at below b.dataflow.nodes (changes_in (state_after below minimum b.dataflow h)) v t))
+      → OnOk r (read_refusal_on times b v t ≡ None) → IfOk r (λ bag. Alike bag (as_of times t (captured_of b v))) → Stands times b h
+      → IfOk r (λ bag. Alike bag (query_at times b.dataflow.nodes (changes_in (state_after times b.dataflow h)) v t))
   read_answers (Ok bag) b h v t p l m e same s =
-      let f = no_first (is_beyond below (front below b v) t) NotPassed ((not (is_beyond below (since_of b v) t), GivenUp) ∷ []) e in
-      let passed = ap not (sym (front_stands below o minimum b p h s v t)) ∙ ap not f.0 in
-      let second = no_first (not (is_beyond below (since_of b v) t)) GivenUp [] f.1 in
-      let kept : is_beyond below ((state_after below minimum b.dataflow h).since v) t ≡ true = subst (λ ts. is_beyond below ts t ≡ true) (s.since v l) (unrefused _ second.0) in
-      λ row. same row ∙ ((s.captured v l m).sums t (or_right (is_from_start below minimum ((state_after below minimum b.dataflow h).since v)) _ kept) row ∙ headline_lem below minimum o b.dataflow p.dataflow h s.legal v t passed row)
+      let f = no_first (is_beyond times (front times b v) t) NotPassed ((not (is_beyond times (since_of b v) t), GivenUp) ∷ []) e in
+      let passed = ap not (sym (front_stands times o b p h s v t)) ∙ ap not f.0 in
+      let second = no_first (not (is_beyond times (since_of b v) t)) GivenUp [] f.1 in
+      let kept : is_beyond times ((state_after times b.dataflow h).since v) t ≡ true = subst (λ ts. is_beyond times ts t ≡ true) (s.since v l) (unrefused _ second.0) in
+      λ row. same row ∙ ((s.captured v l m).sums t (or_right (is_from_start times ((state_after times b.dataflow h).since v)) _ kept) row ∙ headline_lem times o b.dataflow p.dataflow h s.legal v t passed row)
   read_answers (Err e) b h v t p l m f same s = tt
 
   -- consolidated updates at passed times with the sums of what a view captured are the list of
   -- differences
   pub changes_answer : (us : List (Update T)) (b : BoardState T) (h : List (Event T)) (v : ℕ) (cmp : T → T → Ordering) → IsBoard b → v < length b.dataflow.nodes → IsTrue (is_output (node_of b.dataflow v))
-      → IsConsolidated cmp us → IsTrue (list_all (λ u. has_passed below (front below b v) u.time) us)
-      → ((t : T) → IsTrue (has_passed below (front below b v) t) → Alike (as_of below t us) (as_of below t (captured_of b v)))
-      → changes_refusal_on below minimum b v ≡ None → Stands below minimum b h → AreDifferences below cmp b.dataflow.nodes (changes_in (state_after below minimum b.dataflow h)) (frontier below b.dataflow (state_after below minimum b.dataflow h) v) v us
+      → IsConsolidated cmp us → IsTrue (list_all (λ u. has_passed times (front times b v) u.time) us)
+      → ((t : T) → IsTrue (has_passed times (front times b v) t) → Alike (as_of times t us) (as_of times t (captured_of b v)))
+      → changes_refusal_on times b v ≡ None → Stands times b h → AreDifferences times cmp b.dataflow.nodes (changes_in (state_after times b.dataflow h)) (frontier times b.dataflow (state_after times b.dataflow h) v) v us
   changes_answer us b h v cmp p l m consolidated passed sums accepted s =
-      let e : (t : T) → is_beyond below (front below b v) t ≡ is_beyond below (frontier below b.dataflow (state_after below minimum b.dataflow h) v) t = front_stands below o minimum b p h s v in
-      let first = no_first (not (is_from_start below minimum (since_of b v))) GivenUp [] accepted in
-      let start : is_from_start below minimum ((state_after below minimum b.dataflow h).since v) ≡ true = subst (λ ts. is_from_start below minimum ts ≡ true) (s.since v l) (unrefused _ first.0) in
-      (differences_lem below minimum o b.dataflow p.dataflow h s.legal v cmp).into us consolidated
+      let e : (t : T) → is_beyond times (front times b v) t ≡ is_beyond times (frontier times b.dataflow (state_after times b.dataflow h) v) t = front_stands times o b p h s v in
+      let first = no_first (not (is_from_start times (since_of b v))) GivenUp [] accepted in
+      let start : is_from_start times ((state_after times b.dataflow h).since v) ≡ true = subst (λ ts. is_from_start times ts ≡ true) (s.since v l) (unrefused _ first.0) in
+      (differences_lem times o b.dataflow p.dataflow h s.legal v cmp).into us consolidated
       (ap (λ f. list_all f us) (λ i u. not (sym (e u.time) i)) ∙ passed)
-      (λ t f row. sums t (ap not (e t) ∙ f) row ∙ (s.captured v l m).sums t (or_left (is_from_start below minimum ((state_after below minimum b.dataflow h).since v)) _ start) row)
+      (λ t f row. sums t (ap not (e t) ∙ f) row ∙ (s.captured v l m).sums t (or_left (is_from_start times ((state_after times b.dataflow h).since v)) _ start) row)
 
   -- changes that are answered are the list of differences, for every history that the board may
   -- stand for
   pub changes_answers : {V : Type 0} (r : Result V Refusal) (list : V → List (Update T)) (b : BoardState T) (h : List (Event T)) (v : ℕ) (cmp : T → T → Ordering) → IsBoard b → v < length b.dataflow.nodes → IsTrue (is_output (node_of b.dataflow v))
-      → IfOk r (λ us. IsConsolidated cmp (list us)) → IfOk r (λ us. IsTrue (list_all (λ u. has_passed below (front below b v) u.time) (list us)))
-      → IfOk r (λ us. (t : T) → IsTrue (has_passed below (front below b v) t) → Alike (as_of below t (list us)) (as_of below t (captured_of b v)))
-      → OnOk r (changes_refusal_on below minimum b v ≡ None) → Stands below minimum b h → IfOk r (λ us. AreDifferences below cmp b.dataflow.nodes (changes_in (state_after below minimum b.dataflow h)) (frontier below b.dataflow (state_after below minimum b.dataflow h) v) v (list us))
+      → IfOk r (λ us. IsConsolidated cmp (list us)) → IfOk r (λ us. IsTrue (list_all (λ u. has_passed times (front times b v) u.time) (list us)))
+      → IfOk r (λ us. (t : T) → IsTrue (has_passed times (front times b v) t) → Alike (as_of times t (list us)) (as_of times t (captured_of b v)))
+      → OnOk r (changes_refusal_on times b v ≡ None) → Stands times b h → IfOk r (λ us. AreDifferences times cmp b.dataflow.nodes (changes_in (state_after times b.dataflow h)) (frontier times b.dataflow (state_after times b.dataflow h) v) v (list us))
   changes_answers (Ok us) list b h v cmp p l m consolidated passed sums accepted s = changes_answer (list us) b h v cmp p l m consolidated passed sums accepted s
   changes_answers (Err e) list b h v cmp p l m consolidated passed sums accepted s = tt
 
   -- at a passed time, the sum is that of the updates at passed times
   module _ (F : List T) where
-    passed_filter : (t : T) → has_passed below F t ≡ true → (us : List (Update T)) → filter (λ u. below u.time t) (filter (λ u. has_passed below F u.time) us) ≡ filter (λ u. below u.time t) us
+    passed_filter : (t : T) → has_passed times F t ≡ true → (us : List (Update T)) → filter (λ u. times.below u.time t) (filter (λ u. has_passed times F u.time) us) ≡ filter (λ u. times.below u.time t) us
     passed_filter t e [] = refl
-    passed_filter t e (u ∷ us) = step (has_passed below F u.time) refl (below u.time t) refl (passed_filter t e us)
+    passed_filter t e (u ∷ us) = step (has_passed times F u.time) refl (times.below u.time t) refl (passed_filter t e us)
       where
-        step : (a : Bool) → has_passed below F u.time ≡ a → (b : Bool) → below u.time t ≡ b → filter (λ u. below u.time t) (filter (λ u. has_passed below F u.time) us) ≡ filter (λ u. below u.time t) us
-            → filter (λ u. below u.time t) (cond a (u ∷ filter (λ u. has_passed below F u.time) us) (filter (λ u. has_passed below F u.time) us)) ≡ cond b (u ∷ filter (λ u. below u.time t) us) (filter (λ u. below u.time t) us)
+        step : (a : Bool) → has_passed times F u.time ≡ a → (b : Bool) → times.below u.time t ≡ b → filter (λ u. times.below u.time t) (filter (λ u. has_passed times F u.time) us) ≡ filter (λ u. times.below u.time t) us
+            → filter (λ u. times.below u.time t) (cond a (u ∷ filter (λ u. has_passed times F u.time) us) (filter (λ u. has_passed times F u.time) us)) ≡ cond b (u ∷ filter (λ u. times.below u.time t) us) (filter (λ u. times.below u.time t) us)
         step true f true g ih = rw g (ap (λ z. u ∷ z) ih)
         step true f false g ih = rw g ih
-        step false f true g ih = absurd (false≢true (sym f ∙ is_passed (is_beyond below F u.time) (passed_down below o F u.time t g (not_beyond (is_beyond below F t) e))))
+        step false f true g ih = absurd (false≢true (sym f ∙ is_passed (is_beyond times F u.time) (passed_down times o F u.time t g (not_beyond (is_beyond times F t) e))))
         step false f false g ih = ih
 
     -- leaving out the updates at times that are not passed changes no sum at a passed time
-    pub passed_sums : (us : List (Update T)) (t : T) → has_passed below F t ≡ true → as_of below t (filter (λ u. has_passed below F u.time) us) ≡ as_of below t us
+    pub passed_sums : (us : List (Update T)) (t : T) → has_passed times F t ≡ true → as_of times t (filter (λ u. has_passed times F u.time) us) ≡ as_of times t us
     passed_sums us t e = ap (λ z. map entry z) (passed_filter t e us)
 
     -- the updates that are kept are at passed times
-    pub all_passed : (us : List (Update T)) → list_all (λ u. has_passed below F u.time) (filter (λ u. has_passed below F u.time) us) ≡ true
+    pub all_passed : (us : List (Update T)) → list_all (λ u. has_passed times F u.time) (filter (λ u. has_passed times F u.time) us) ≡ true
     all_passed [] = refl
-    all_passed (u ∷ us) = step (has_passed below F u.time) refl (all_passed us)
+    all_passed (u ∷ us) = step (has_passed times F u.time) refl (all_passed us)
       where
-        step : (a : Bool) → has_passed below F u.time ≡ a → list_all (λ u. has_passed below F u.time) (filter (λ u. has_passed below F u.time) us) ≡ true
-            → list_all (λ u. has_passed below F u.time) (cond a (u ∷ filter (λ u. has_passed below F u.time) us) (filter (λ u. has_passed below F u.time) us)) ≡ true
-        step true f ih = and_from (has_passed below F u.time) (list_all (λ u. has_passed below F u.time) (filter (λ u. has_passed below F u.time) us)) f ih
+        step : (a : Bool) → has_passed times F u.time ≡ a → list_all (λ u. has_passed times F u.time) (filter (λ u. has_passed times F u.time) us) ≡ true
+            → list_all (λ u. has_passed times F u.time) (cond a (u ∷ filter (λ u. has_passed times F u.time) us) (filter (λ u. has_passed times F u.time) us)) ≡ true
+        step true f ih = and_from (has_passed times F u.time) (list_all (λ u. has_passed times F u.time) (filter (λ u. has_passed times F u.time) us)) f ih
         step false f ih = ih

@@ -14,7 +14,7 @@ use Rattle.plan.proofs.PlanLemmas.{has_source, source_smaller}
 use Rattle.progress.proofs.NumberLemmas.{numbers_long, number_at}
 use Rattle.histories.specs.Histories.Dataflows.{Dataflow, node_of}
 use Rattle.machine.specs.Boards.Routings.{IsRouting}
-use Rattle.histories.proofs.HistoryLemmas.CuttingLemmas.{source_there}
+use Rattle.histories.proofs.HistoryLemmas.CutLemmas.{source_there}
 
 -- ---- how the tables are built
 

@@ -1,8 +1,8 @@
 -- The pieces that a worker may take, in the order in which they are numbered: by node, and at a
--- node by port and arrival, the held times last. `pieces` are those on a board, and `pieces_in` those
--- in a state. `MayTake` and `HasNoPiece` say of a state what a piece is good for, and what it means
--- that there is none.
-use Rattle.std.specs.Prelude.{◌≡◌, ◌<◌, ℕ, zero, suc, Bool, false, ◌++◌, if◌then◌else◌, List, [], ◌∷◌, map, length, Option, Some, None, IsTrue, Contains}
+-- node by port and arrival, the held times last. `pieces` are those on a board, and `pieces_in`
+-- those in a state. `MayTake` and `HasNoPiece` say of a state what a piece is good for, and what it
+-- means that there is none.
+use Rattle.std.specs.Prelude.{◌≡◌, ◌<◌, ℕ, zero, suc, false, ◌++◌, if◌then◌else◌, List, [], ◌∷◌, map, length, Option, Some, None, IsTrue, Contains}
 use Rattle.std.specs.List.{flat_map, list_any}
 use Rattle.plan.specs.Ancestors.{numbers_below}
 use Rattle.plan.specs.Changes.{has_passed}
@@ -19,6 +19,7 @@ use Rattle.histories.specs.Histories.States.{State, place, queue, held_at}
 use Rattle.machine.specs.Boards.{BoardState, plan_on, state_on}
 use Rattle.outstanding.specs.Loads.{queue_of}
 use Rattle.machine.specs.Boards.Reads.{is_ready}
+use Rattle.lattice.specs.Times.{Times}
 
 -- how many of the bundles that wait at a place may be taken: all at an arrange node, elsewhere only
 -- the first
@@ -37,10 +38,10 @@ module _ {T : Type 0} where
   abbrev pub pieces_waiting : BoardState T → Site → List Piece
   pieces_waiting b site = map (λ number. Waiting site number) (numbers_below (takable_at b site))
 
-module _ {T : Type 0} (below : T → T → Bool) where
+module _ {T : Type 0} (times : Times T) where
   -- the times that a worker holds at a node, as a piece if the node's input frontier has passed one
   abbrev pub pieces_held : BoardState T → ℕ → ℕ → List Piece
-  pieces_held b k n = if is_ready below b k n then Held n ∷ [] else []
+  pieces_held b k n = if is_ready times b k n then Held n ∷ [] else []
 
   -- the pieces of a worker at a node: at its first port, at its second port, held
   abbrev pub pieces_at : BoardState T → ℕ → ℕ → List Piece
@@ -60,7 +61,7 @@ module _ {T : Type 0} (below : T → T → Bool) where
   -- the worker holds a time at the node, and `take_held` allows it to turn to it
   pub record IsReady (b : BoardState T) (k n : ℕ) : Type 0 where
     pub within : n < length b.dataflow.nodes
-    pub ready : IsTrue (is_ready below b k n)
+    pub ready : IsTrue (is_ready times b k n)
 
   -- what `take` or `take_held` requires of a piece, apart from a free hand
   abbrev pub IsPiece : BoardState T → ℕ → Piece → Type 0
@@ -73,12 +74,12 @@ module _ {T : Type 0} (below : T → T → Bool) where
       pub own : site.worker ≡ k
       pub bundle : Bundle T
       pub there : bundle.place ≡ site
-      pub allowed : IsTake below p w number bundle
+      pub allowed : IsTake times p w number bundle
 
     -- the event by which worker k takes the piece is allowed
     abbrev pub IsPieceAllowed : Piece → Type 0
     IsPieceAllowed (Waiting site number) = MayTakeBundle site number
-    IsPieceAllowed (Held n) = IsTakeHeld below p w k n
+    IsPieceAllowed (Held n) = IsTakeHeld times p w k n
 
     -- worker k may take the piece if it has nothing in hand
     abbrev pub MayTake : Piece → Type 0
@@ -90,7 +91,7 @@ module _ {T : Type 0} (below : T → T → Bool) where
         (numbers_below (takable (arranged_by (node_of p site.node)) (length (queue site w.in_flight))))
 
     abbrev pub held_in : ℕ → List Piece
-    held_in n = if list_any (has_passed below (input_frontier below p w n)) (held_at n k w.held)
+    held_in n = if list_any (has_passed times (input_frontier times p w n)) (held_at n k w.held)
         then Held n ∷ []
         else []
 
@@ -103,15 +104,15 @@ module _ {T : Type 0} (below : T → T → Bool) where
     pub record HasNoPiece : Type 0 where
       pub bundles : (site : Site) → site.worker ≡ k → queue site w.in_flight ≡ []
       pub held : (n : ℕ) (t : T) → Contains (held_at n k w.held) t
-          → has_passed below (input_frontier below p w n) t ≡ false
+          → has_passed times (input_frontier times p w n) t ≡ false
 
-  module _ (minimum : T) (b : BoardState T) (h : List (Event T)) where
+  module _ (b : BoardState T) (h : List (Event T)) where
     -- the same after a history of the board
     abbrev pub MayTakeOn : ℕ → Piece → Type 0
-    MayTakeOn k piece = MayTake (plan_on b h) (state_on below minimum b h) k piece
+    MayTakeOn k piece = MayTake (plan_on b h) (state_on times b h) k piece
 
     abbrev pub pieces_on : ℕ → List Piece
-    pieces_on k = pieces_in (plan_on b h) (state_on below minimum b h) k
+    pieces_on k = pieces_in (plan_on b h) (state_on times b h) k
 
     abbrev pub HasNoPieceOn : ℕ → Type 0
-    HasNoPieceOn k = HasNoPiece (plan_on b h) (state_on below minimum b h) k
+    HasNoPieceOn k = HasNoPiece (plan_on b h) (state_on times b h) k

@@ -1,6 +1,7 @@
 -- What a board answers: frontiers, a view's rows at a time, its changes, and whether it is quiet.
 use Rattle.std.specs.Prelude.{ℕ, Bool, true, false, not, ◌&&◌, List, [], ◌∷◌, length, get_or, Option, Some, None, nat_lt}
 use Rattle.std.specs.List.{filter, list_all, list_any, flat_map}
+use Rattle.lattice.specs.Times.{Times}
 use Rattle.lattice.specs.Frontiers.{is_beyond}
 use Rattle.update.specs.Updates.{HasLargeTotal}
 use Rattle.update.specs.declared.change.Update.{Update}
@@ -52,26 +53,26 @@ hands_are_free [] = true
 hands_are_free (None ∷ hand) = hands_are_free hand
 hands_are_free (Some n ∷ hand) = false
 
-module _ {T : Type 0} (below : T → T → Bool) where
+module _ {T : Type 0} (times : Times T) where
   -- the frontiers of a node, as they are found on the board
   abbrev pub front : BoardState T → ℕ → List T
-  front b n = frontier below b.dataflow (on_board b) n
+  front b n = frontier times b.dataflow (on_board b) n
 
   abbrev pub input_front : BoardState T → ℕ → List T
-  input_front b n = input_frontier below b.dataflow (on_board b) n
+  input_front b n = input_frontier times b.dataflow (on_board b) n
 
   -- the input frontier of one port, found in the same way
   abbrev pub port_front : BoardState T → ℕ → ℕ → List T
-  port_front b n port = port_frontier below b.dataflow (on_board b) n port
+  port_front b n port = port_frontier times b.dataflow (on_board b) n port
 
   -- a worker holds a time at a node that the node's input frontier has passed
   abbrev pub is_ready : BoardState T → ℕ → ℕ → Bool
-  is_ready b k n = list_any (has_passed below (input_front b n)) (lot_of b.stations n k).held
+  is_ready b k n = list_any (has_passed times (input_front b n)) (lot_of b.stations n k).held
 
   -- each held time could still receive input: its node's input frontier has not passed it
   abbrev pub all_wait : BoardState T → Bool
   all_wait b = list_all
-      (λ m. nat_lt m.node (length b.dataflow.nodes) && is_beyond below (input_front b m.node) m.time)
+      (λ m. nat_lt m.node (length b.dataflow.nodes) && is_beyond times (input_front b m.node) m.time)
       (all_held b.stations)
 
   -- nothing is in flight or in hand, and each held time could still receive input
@@ -81,25 +82,25 @@ module _ {T : Type 0} (below : T → T → Bool) where
   -- the refusal of a read, in the order in which its faults are tested
   abbrev pub read_refusal_on : BoardState T → ℕ → T → Option Refusal
   read_refusal_on b v t = first_refusal
-      ((is_beyond below (front b v) t, NotPassed)
-      ∷ (not (is_beyond below (since_of b v) t), GivenUp) ∷ [])
+      ((is_beyond times (front b v) t, NotPassed)
+      ∷ (not (is_beyond times (since_of b v) t), GivenUp) ∷ [])
 
   -- the refusal of a view's changes
-  abbrev pub changes_refusal_on : T → BoardState T → ℕ → Option Refusal
-  changes_refusal_on minimum b v =
-      first_refusal ((not (is_from_start below minimum (since_of b v)), GivenUp) ∷ [])
+  abbrev pub changes_refusal_on : BoardState T → ℕ → Option Refusal
+  changes_refusal_on b v =
+      first_refusal ((not (is_from_start times (since_of b v)), GivenUp) ∷ [])
 
   -- what a view captured at times that its frontier has passed
   abbrev pub passed_captured : BoardState T → ℕ → List (Update T)
-  passed_captured b v = filter (λ u. has_passed below (front b v) u.time) (captured_of b v)
+  passed_captured b v = filter (λ u. has_passed times (front b v) u.time) (captured_of b v)
 
   -- how a read, and the changes of a view, may be refused: with a fault, for want of memory, or
   -- with a number that is too large
   abbrev pub IsReadRefusal : BoardState T → ℕ → T → Refusal → Type 0
   IsReadRefusal b v t refusal =
-      IsRefusalOr (HasLargeSum below (captured_of b v) t) (read_refusal_on b v t) refusal
+      IsRefusalOr (HasLargeSum times (captured_of b v) t) (read_refusal_on b v t) refusal
 
-  abbrev pub IsChangesRefusal : T → BoardState T → ℕ → Refusal → Type 0
-  IsChangesRefusal minimum b v refusal =
-      IsRefusalOr (HasLargeTotal below (passed_captured b v))
-      (changes_refusal_on minimum b v) refusal
+  abbrev pub IsChangesRefusal : BoardState T → ℕ → Refusal → Type 0
+  IsChangesRefusal b v refusal =
+      IsRefusalOr (HasLargeTotal times (passed_captured b v))
+      (changes_refusal_on b v) refusal

@@ -4,7 +4,7 @@
 //! there and did nothing.
 ghost use Rattle.std.specs.Prelude.{◌≡◌, ◌<◌, ◌≤◌, ◌+◌, List, [], ◌∷◌, None, IfErr, IfOk, IsTrue, OnErr, OnOk, length};
 ghost use Rattle.update.specs.declared.refusal.Refusal.TheVariants.{OutOfMemory};
-ghost use Rattle.update.specs.Refusals.{IsRefusalBy};
+ghost use Rattle.update.specs.Refusals.{OnlyMemory, IsRefusalBy};
 ghost use Rattle.histories.specs.declared.event.Event.{Event};
 ghost use Rattle.histories.specs.declared.event.Event.TheVariants.{Feed};
 ghost use Rattle.histories.specs.Histories.States.{change_to};
@@ -36,12 +36,12 @@ impl<T: Minimum> Board<T> {
         requires input { IsInput self.old.dataflow input }
         ensures fed { OnOk result (self.new ≡ after_feed client (change_to input update) self.old) }
         ensures accepted { OnOk result
-            (feed_refusal T.below self.old (change_to input update) ≡ None) }
+            (feed_refusal T.times self.old (change_to input update) ≡ None) }
         ensures refused { IfErr result
-            (IsRefusalBy (feed_refusal T.below self.old (change_to input update))) }
+            (IsRefusalBy (feed_refusal T.times self.old (change_to input update))) }
         ensures unchanged { OnErr result (self.new ≡ after_look client self.old) }
-        ensures stands { (h : List (Event T)) → Stands T.below T.least self.old h
-            → Stands T.below T.least self.new (self.new.last ∷ h) }
+        ensures stands { (h : List (Event T)) → Stands T.times self.old h
+            → Stands T.times self.new (self.new.last ∷ h) }
     {
         self.try_feed(client, input, update)
     }
@@ -51,9 +51,9 @@ impl<T: Minimum> Board<T> {
         requires { IsInput self.old.dataflow input }
         ensures fed { OnOk result (self.new ≡ after_feed client (change_to input update) self.old) }
         ensures accepted { OnOk result
-            (feed_refusal T.below self.old (change_to input update) ≡ None) }
+            (feed_refusal T.times self.old (change_to input update) ≡ None) }
         ensures refused { IfErr result
-            (IsRefusalBy (feed_refusal T.below self.old (change_to input update))) }
+            (IsRefusalBy (feed_refusal T.times self.old (change_to input update))) }
         ensures board { OnOk result (IsBoard self.old) }
         ensures unchanged { OnErr result (self.new ≡ after_look client self.old) }
     {
@@ -80,9 +80,9 @@ impl<T: Minimum> Board<T> {
         ensures event { IfOk result (λ event. event.value ≡ Feed client (change_to input update)) }
         ensures fed { OnOk result (self.new ≡ accept_change (change_to input update) self.old) }
         ensures accepted { OnOk result
-            (feed_refusal T.below self.old (change_to input update) ≡ None) }
+            (feed_refusal T.times self.old (change_to input update) ≡ None) }
         ensures refused { IfErr result
-            (IsRefusalBy (feed_refusal T.below self.old (change_to input update))) }
+            (IsRefusalBy (feed_refusal T.times self.old (change_to input update))) }
         ensures board { IsBoard self.old }
         ensures unchanged { OnErr result (self.new ≡ self.old) }
     {
@@ -100,7 +100,7 @@ impl<T: Minimum> Board<T> {
     // Moves the change to its input, where it then waits.
     fn send_change(&mut self, input: NodeId, update: Update<T>) -> Result<(), Refusal>
         ensures sent { OnOk result (self.new ≡ put_change (change_to input update) self.old) }
-        ensures refused { IfErr result (λ refusal. refusal ≡ OutOfMemory) }
+        ensures refused { OnlyMemory result }
         ensures unchanged { OnErr result (self.new ≡ self.old) }
     {
         let worker = row::route(update.row.columns(), self.workers);
@@ -124,12 +124,12 @@ impl<T: Minimum> Board<T> {
         requires client { self.old.dataflow.workers ≤ client }
         requires input { IsInput self.old.dataflow input }
         ensures advanced { OnOk result (self.new ≡ after_advance client input times.now self.old) }
-        ensures accepted { OnOk result (advance_refusal T.below self.old input times.now ≡ None) }
+        ensures accepted { OnOk result (advance_refusal T.times self.old input times.now ≡ None) }
         ensures refused { IfErr result
-            (IsRefusalBy (advance_refusal T.below self.old input times.now)) }
+            (IsRefusalBy (advance_refusal T.times self.old input times.now)) }
         ensures unchanged { OnErr result (self.new ≡ after_look client self.old) }
-        ensures stands { (h : List (Event T)) → Stands T.below T.least self.old h
-            → Stands T.below T.least self.new (self.new.last ∷ h) }
+        ensures stands { (h : List (Event T)) → Stands T.times self.old h
+            → Stands T.times self.new (self.new.last ∷ h) }
     {
         self.try_advance(client, input, times)
     }
@@ -138,9 +138,9 @@ impl<T: Minimum> Board<T> {
     fn try_advance(&mut self, client: usize, input: NodeId, times: &[T]) -> Result<(), Refusal>
         requires { input < length self.old.dataflow.nodes }
         ensures advanced { OnOk result (self.new ≡ after_advance client input times.now self.old) }
-        ensures accepted { OnOk result (advance_refusal T.below self.old input times.now ≡ None) }
+        ensures accepted { OnOk result (advance_refusal T.times self.old input times.now ≡ None) }
         ensures refused { IfErr result
-            (IsRefusalBy (advance_refusal T.below self.old input times.now)) }
+            (IsRefusalBy (advance_refusal T.times self.old input times.now)) }
         ensures board { IsBoard self.old }
         ensures unchanged { OnErr result (self.new ≡ after_look client self.old) }
     {
@@ -150,12 +150,13 @@ impl<T: Minimum> Board<T> {
         }
     }
 
-    // There is no memory for a copy of the times. An advance that goes back is refused all the same.
+    // There is no memory for a copy of the times. An advance that goes back is refused all the
+    // same.
     fn refuse_advance(&mut self, client: usize, input: NodeId, times: &[T]) -> Result<(), Refusal>
         requires { input < length self.old.dataflow.nodes }
         ensures never { OnOk result ⊥ }
         ensures refused { IfErr result
-            (IsRefusalBy (advance_refusal T.below self.old input times.now)) }
+            (IsRefusalBy (advance_refusal T.times self.old input times.now)) }
         ensures board { IsBoard self.old }
         ensures unchanged { OnErr result (self.new ≡ after_look client self.old) }
     {
@@ -173,9 +174,9 @@ impl<T: Minimum> Board<T> {
     fn advance_to(&mut self, client: usize, input: NodeId, times: Times<T>) -> Result<(), Refusal>
         requires { input < length self.old.dataflow.nodes }
         ensures advanced { OnOk result (self.new ≡ after_advance client input times self.old) }
-        ensures accepted { OnOk result (advance_refusal T.below self.old input times ≡ None) }
+        ensures accepted { OnOk result (advance_refusal T.times self.old input times ≡ None) }
         ensures refused { IfErr result
-            (IsRefusalBy (advance_refusal T.below self.old input times)) }
+            (IsRefusalBy (advance_refusal T.times self.old input times)) }
         ensures board { IsBoard self.old }
         ensures unchanged { OnErr result (self.new ≡ after_look client self.old) }
     {
@@ -201,8 +202,8 @@ impl<T: Minimum> Board<T> {
         requires client { self.old.dataflow.workers ≤ client }
         requires input { IsInput self.old.dataflow input }
         ensures closed { self.new ≡ after_advance client input [] self.old }
-        ensures stands { (h : List (Event T)) → Stands T.below T.least self.old h
-            → Stands T.below T.least self.new (self.new.last ∷ h) }
+        ensures stands { (h : List (Event T)) → Stands T.times self.old h
+            → Stands T.times self.new (self.new.last ∷ h) }
     {
         self.try_close(client, input);
     }
@@ -222,9 +223,9 @@ impl<T: Minimum> Board<T> {
     /// Readers of a view give up its past: from then on the view may be read only at times beyond
     /// these. With no times it may not be read at all.
     ///
-    /// Refused first with `NotForward`, if one of the times is not beyond the view's old since, then
-    /// with `OutOfMemory`. The old since itself is taken. After a refusal the event is a look, and
-    /// nothing else changes.
+    /// Refused first with `NotForward`, if one of the times is not beyond the view's old since,
+    /// then with `OutOfMemory`. The old since itself is taken. After a refusal the event is a look,
+    /// and nothing else changes.
     ///
     /// Cost: the product of the times and the elements of the view's old since.
     pub fn allow(&mut self, client: usize, view: NodeId, times: &[T]) -> Result<(), Refusal>
@@ -232,12 +233,12 @@ impl<T: Minimum> Board<T> {
         requires within { view < length self.old.dataflow.nodes }
         requires view { IsTrue (is_output (node_of self.old.dataflow view)) }
         ensures allowed { OnOk result (self.new ≡ after_allow client view times.now self.old) }
-        ensures accepted { OnOk result (allow_refusal T.below self.old view times.now ≡ None) }
+        ensures accepted { OnOk result (allow_refusal T.times self.old view times.now ≡ None) }
         ensures refused { IfErr result
-            (IsRefusalBy (allow_refusal T.below self.old view times.now)) }
+            (IsRefusalBy (allow_refusal T.times self.old view times.now)) }
         ensures unchanged { OnErr result (self.new ≡ after_look client self.old) }
-        ensures stands { (h : List (Event T)) → Stands T.below T.least self.old h
-            → Stands T.below T.least self.new (self.new.last ∷ h) }
+        ensures stands { (h : List (Event T)) → Stands T.times self.old h
+            → Stands T.times self.new (self.new.last ∷ h) }
     {
         self.try_allow(client, view, times)
     }
@@ -246,9 +247,9 @@ impl<T: Minimum> Board<T> {
     fn try_allow(&mut self, client: usize, view: NodeId, times: &[T]) -> Result<(), Refusal>
         requires { view < length self.old.dataflow.nodes }
         ensures allowed { OnOk result (self.new ≡ after_allow client view times.now self.old) }
-        ensures accepted { OnOk result (allow_refusal T.below self.old view times.now ≡ None) }
+        ensures accepted { OnOk result (allow_refusal T.times self.old view times.now ≡ None) }
         ensures refused { IfErr result
-            (IsRefusalBy (allow_refusal T.below self.old view times.now)) }
+            (IsRefusalBy (allow_refusal T.times self.old view times.now)) }
         ensures board { IsBoard self.old }
         ensures unchanged { OnErr result (self.new ≡ after_look client self.old) }
     {

@@ -5,8 +5,8 @@
 //! No bundle is empty. So each bundle that waits is work to do, and no more is sent than there is.
 //! The clauses say which bundles there are and in which order they are made. `give` relies only on
 //! each place getting exactly its share, in bundles that are stamped and not empty.
-ghost use Rattle.std.specs.Prelude.{◌≡◌, ◌<◌, ◌≤◌, ◌++◌, IfErr, IfOk, OnOk, get_or, length, replicate, take, ℕ, []};
-ghost use Rattle.update.specs.declared.refusal.Refusal.TheVariants.{OutOfMemory};
+ghost use Rattle.std.specs.Prelude.{◌≡◌, ◌<◌, ◌≤◌, ◌++◌, IfOk, OnOk, get_or, length, replicate, take, ℕ, []};
+ghost use Rattle.update.specs.Refusals.{OnlyMemory};
 ghost use Rattle.histories.specs.Histories.States.{place};
 ghost use Rattle.histories.specs.Histories.Cuts.{part_by_key, bundled, bundles_along};
 
@@ -25,9 +25,9 @@ pub(crate) fn push_for_giver<T: Minimum>(
     emission: &Emission<T>,
 ) -> Result<(), Refusal>
     ensures more { OnOk result (sent.new.items ≡ sent.old.items
-        ++ bundled T.below (place edge.now.reader edge.now.port emission.now.worker)
+        ++ bundled T.times (place edge.now.reader edge.now.port emission.now.worker)
         emission.now.updates) }
-    ensures refused { IfErr result (λ refusal. refusal ≡ OutOfMemory) }
+    ensures refused { OnlyMemory result }
 {
     let updates = emission.updates.copy(*sent.allocator())?;
     push_bundle(sent, place_at(edge, emission.worker), updates)
@@ -43,9 +43,9 @@ pub(crate) fn push_for_workers<T: Minimum>(
 ) -> Result<(), Refusal>
     requires { 1 ≤ workers }
     ensures more { OnOk result (sent.new.items ≡ sent.old.items
-        ++ bundles_along T.below edge.now workers
+        ++ bundles_along T.times edge.now workers
         (part_by_key columns workers emission.now.updates)) }
-    ensures refused { IfErr result (λ refusal. refusal ≡ OutOfMemory) }
+    ensures refused { OnlyMemory result }
 {
     let alloc = *sent.allocator();
     let updates = emission.updates.to_vec(alloc)?;
@@ -64,7 +64,7 @@ fn parts_by_key<T: Minimum>(
     ensures parts { IfOk result (λ parts. (k : ℕ) → k < workers
         → get_or parts.items k [] ≡ part_by_key columns workers updates.now k) }
     ensures workers { IfOk result (λ parts. length parts.items ≡ workers) }
-    ensures refused { IfErr result (λ refusal. refusal ≡ OutOfMemory) }
+    ensures refused { OnlyMemory result }
 {
     let mut parts = no_parts(alloc, workers)?;
     for update in updates {
@@ -77,7 +77,7 @@ fn parts_by_key<T: Minimum>(
 // An empty part for each worker.
 fn no_parts<T: Minimum>(alloc: Global, workers: usize) -> Result<Vec<Updates<T>>, Refusal>
     ensures none { IfOk result (λ parts. parts.items ≡ replicate workers []) }
-    ensures refused { IfErr result (λ refusal. refusal ≡ OutOfMemory) }
+    ensures refused { OnlyMemory result }
 {
     let mut parts = Vec::with_capacity(alloc, workers)?;
     for _worker in 0..workers {
@@ -93,8 +93,8 @@ fn push_bundles<T: Minimum>(
     mut parts: Vec<Updates<T>>,
 ) -> Result<(), Refusal>
     ensures more { OnOk result (sent.new.items ≡ sent.old.items
-        ++ bundles_along T.below edge.now (length parts.items) (λ k. get_or parts.items k [])) }
-    ensures refused { IfErr result (λ refusal. refusal ≡ OutOfMemory) }
+        ++ bundles_along T.times edge.now (length parts.items) (λ k. get_or parts.items k [])) }
+    ensures refused { OnlyMemory result }
 {
     for worker in 0..parts.len() {
         let updates = parts[worker].take().into_vec();
@@ -109,8 +109,8 @@ fn push_bundle<T: Minimum>(
     place: Site,
     updates: UpdateList<T>,
 ) -> Result<(), Refusal>
-    ensures more { OnOk result (sent.new.items ≡ sent.old.items ++ bundled T.below place updates) }
-    ensures refused { IfErr result (λ refusal. refusal ≡ OutOfMemory) }
+    ensures more { OnOk result (sent.new.items ≡ sent.old.items ++ bundled T.times place updates) }
+    ensures refused { OnlyMemory result }
 {
     if updates.len() > 0 {
         let stamp = stamp_of(*sent.allocator(), &updates)?;

@@ -2,7 +2,7 @@
 //! view they are captured.
 ghost use Rattle.std.specs.Prelude.{◌≡◌, ◌<◌, List, ◌∷◌, IfErr, OnErr, OnOk, length};
 ghost use Rattle.histories.specs.declared.event.Event.{Event};
-ghost use Rattle.machine.specs.Boards.{BoardState, IsBoard, IsGiveOn, Stands, after_look, pass_output, give_output, after_give};
+ghost use Rattle.machine.specs.Boards.{IsBoard, IsGiveOn, Stands, after_look, pass_output, give_output, after_give};
 
 use crate::board::Board;
 use accounts::{CutEmission, Ungiven};
@@ -10,9 +10,9 @@ use lattice::Minimum;
 use update::Times;
 
 impl<T: Minimum> Board<T> {
-    /// A worker gives what it computed at the node that it has in hand: the updates with the bundles
-    /// that are sent, and the times that it holds there from then on. After that it has nothing in
-    /// hand. If the node is a view, the updates are captured.
+    /// A worker gives what it computed at the node that it has in hand: the updates with the
+    /// bundles that are sent, and the times that it holds there from then on. After that it has
+    /// nothing in hand. If the node is a view, the updates are captured.
     ///
     /// The board stands for that event if the event is allowed. It is allowed if all of this holds:
     ///
@@ -29,19 +29,19 @@ impl<T: Minimum> Board<T> {
     /// nothing else changes.
     ///
     /// Cost: linear in the bundles that are sent, that of counting each element of a stamp and each
-    /// held time ([`Tally::add`](progress::Tally::add)), and at a view linear in the updates. What is
-    /// held and sent moves. A view copies the updates: their times, their differences, and one row
-    /// for all neighbours that have it. If it has captured none yet, then updates in columns move,
-    /// too.
+    /// held time ([`Tally::add`](progress::Tally::add)), and at a view linear in the updates. What
+    /// is held and sent moves. A view copies the updates: their times, their differences, and one
+    /// row for all neighbours that have it. If it has captured none yet, then updates in columns
+    /// move, too.
     pub fn give(&mut self, cut: CutEmission<T>, held: Times<T>) -> Result<(), Ungiven<T>>
         requires worker { cut.given.worker < self.old.dataflow.workers }
         requires within { cut.given.node < length self.old.dataflow.nodes }
         ensures given { OnOk result (self.new ≡ after_give cut.given held cut.sent self.old) }
         ensures returned { IfErr result (λ r. r ≡ record { cut = cut; held = held }) }
         ensures unchanged { OnErr result (self.new ≡ after_look cut.given.worker self.old) }
-        ensures stands { (h : List (Event T)) → Stands T.below T.least self.old h
-            → IsGiveOn T.below T.least self.old h cut.given held cut.sent
-            → Stands T.below T.least self.new (self.new.last ∷ h) }
+        ensures stands { (h : List (Event T)) → Stands T.times self.old h
+            → IsGiveOn T.times self.old h cut.given held cut.sent
+            → Stands T.times self.new (self.new.last ∷ h) }
     {
         self.give_or_look(cut, held)
     }
@@ -88,8 +88,8 @@ impl<T: Minimum> Board<T> {
         }
     }
 
-    // Does all that `try_give` does, except that the worker still has the node in hand. What is held
-    // and sent moves to where it goes.
+    // Does all that `try_give` does, except that the worker still has the node in hand. What is
+    // held and sent moves to where it goes.
     fn pass_on(&mut self, cut: CutEmission<T>, held: Times<T>) -> Result<(), Ungiven<T>>
         requires worker { cut.given.worker < self.old.dataflow.workers }
         requires within { cut.given.node < length self.old.dataflow.nodes }

@@ -1,17 +1,17 @@
 //! Frontiers, as a board answers them. Its accounts keep a tally of what is in flight, what is held
 //! and what the inputs leave open, and the tally keeps the frontiers of those nodes that somebody
-//! asks about. So a question is one call of the accounts. What the tally keeps of a node is right, or
-//! the node is marked: then the next question goes over the different times that are counted.
-ghost use Rattle.std.specs.Prelude.{List, ◌≡◌, ◌<◌, IfErr, IfOk, length};
+//! asks about. So a question is one call of the accounts. What the tally keeps of a node is right,
+//! or the node is marked: then the next question goes over the different times that are counted.
+ghost use Rattle.std.specs.Prelude.{List, ◌≡◌, ◌<◌, IfOk, length};
 ghost use Rattle.std.specs.List.{list_any};
+ghost use Rattle.update.specs.Refusals.{OnlyMemory};
 ghost use Rattle.lattice.specs.Frontiers.{is_beyond};
 ghost use Rattle.antichain.specs.Antichains.{SameElements};
-ghost use Rattle.update.specs.declared.refusal.Refusal.TheVariants.{OutOfMemory};
 ghost use Rattle.plan.specs.Changes.{has_passed};
 ghost use Rattle.histories.specs.declared.event.Event.{Event};
 ghost use Rattle.outstanding.specs.Loads.{lot_of};
 ghost use Rattle.accounts.specs.Accounts.{input_front_of};
-ghost use Rattle.machine.specs.Boards.{IsBoard, Stands, frontier_on, input_frontier_on, port_frontier_on, held_on};
+ghost use Rattle.machine.specs.Boards.{Stands, frontier_on, input_frontier_on, port_frontier_on, held_on};
 ghost use Rattle.machine.specs.Boards.Reads.{front, input_front, port_front, is_ready};
 
 use crate::board::Board;
@@ -29,9 +29,9 @@ impl<T: Minimum> Board<T> {
     pub fn has_passed(&mut self, node: NodeId, t: &T) -> bool
         requires { node < length self.old.dataflow.nodes }
         ensures kept { self.new ≡ self.old }
-        ensures value { result ≡ has_passed T.below (front T.below self.old node) t.now }
-        ensures stands { (h : List (Event T)) → Stands T.below T.least self.old h
-            → result ≡ has_passed T.below (frontier_on T.below T.least self.old h node) t.now }
+        ensures value { result ≡ has_passed T.times (front T.times self.old node) t.now }
+        ensures stands { (h : List (Event T)) → Stands T.times self.old h
+            → result ≡ has_passed T.times (frontier_on T.times self.old h node) t.now }
     {
         self.known();
         self.accounts.has_passed(node, t)
@@ -44,10 +44,10 @@ impl<T: Minimum> Board<T> {
     pub fn input_has_passed(&mut self, node: NodeId, t: &T) -> bool
         requires { node < length self.old.dataflow.nodes }
         ensures kept { self.new ≡ self.old }
-        ensures value { result ≡ has_passed T.below (input_front T.below self.old node) t.now }
-        ensures stands { (h : List (Event T)) → Stands T.below T.least self.old h
+        ensures value { result ≡ has_passed T.times (input_front T.times self.old node) t.now }
+        ensures stands { (h : List (Event T)) → Stands T.times self.old h
             → result
-            ≡ has_passed T.below (input_frontier_on T.below T.least self.old h node) t.now }
+            ≡ has_passed T.times (input_frontier_on T.times self.old h node) t.now }
     {
         self.known();
         self.accounts.input_has_passed(node, t)
@@ -61,13 +61,13 @@ impl<T: Minimum> Board<T> {
         requires { node < length self.old.dataflow.nodes }
         ensures kept { self.new ≡ self.old }
         ensures least { IfOk result (λ found.
-            SameElements found (front T.below self.old node)) }
+            SameElements found (front T.times self.old node)) }
         ensures beyond { IfOk result (λ found. (t : T)
-            → is_beyond T.below found t ≡ is_beyond T.below (front T.below self.old node) t) }
-        ensures stands { (h : List (Event T)) → Stands T.below T.least self.old h
+            → is_beyond T.times found t ≡ is_beyond T.times (front T.times self.old node) t) }
+        ensures stands { (h : List (Event T)) → Stands T.times self.old h
             → IfOk result (λ found.
-            SameElements found (frontier_on T.below T.least self.old h node)) }
-        ensures refused { IfErr result (λ refusal. refusal ≡ OutOfMemory) }
+            SameElements found (frontier_on T.times self.old h node)) }
+        ensures refused { OnlyMemory result }
     {
         self.known();
         self.accounts.frontier(node)
@@ -82,53 +82,54 @@ impl<T: Minimum> Board<T> {
         requires { node < length self.old.dataflow.nodes }
         ensures kept { self.new ≡ self.old }
         ensures least { IfOk result (λ found.
-            SameElements found (input_front T.below self.old node)) }
+            SameElements found (input_front T.times self.old node)) }
         ensures beyond { IfOk result (λ found. (t : T)
-            → is_beyond T.below found t ≡ is_beyond T.below (input_front T.below self.old node) t) }
-        ensures stands { (h : List (Event T)) → Stands T.below T.least self.old h
+            → is_beyond T.times found t ≡ is_beyond T.times (input_front T.times self.old node) t) }
+        ensures stands { (h : List (Event T)) → Stands T.times self.old h
             → IfOk result (λ found.
-            SameElements found (input_frontier_on T.below T.least self.old h node)) }
-        ensures refused { IfErr result (λ refusal. refusal ≡ OutOfMemory) }
+            SameElements found (input_frontier_on T.times self.old h node)) }
+        ensures refused { OnlyMemory result }
     {
         self.known();
         self.accounts.input_frontier(node)
     }
 
-    /// Times that tell the input frontier of a node: a time is beyond them if and only if it is beyond
-    /// that frontier. A worker keeps them from the turn to the node until it has computed. Refused only
-    /// with `OutOfMemory`.
+    /// Times that tell the input frontier of a node: a time is beyond them if and only if it is
+    /// beyond that frontier. A worker keeps them from the turn to the node until it has computed.
+    /// Refused only with `OutOfMemory`.
     ///
     /// Cost: that of [`Tally::input_times_of`](progress::Tally::input_times_of).
     pub fn input_times(&mut self, node: NodeId) -> Result<Times<T>, Refusal>
         requires { node < length self.old.dataflow.nodes }
         ensures kept { self.new ≡ self.old }
         ensures beyond { IfOk result (λ found. (t : T)
-            → is_beyond T.below found t ≡ is_beyond T.below (input_front T.below self.old node) t) }
-        ensures stands { (h : List (Event T)) → Stands T.below T.least self.old h
-            → IfOk result (λ found. (t : T) → is_beyond T.below found t
-            ≡ is_beyond T.below (input_frontier_on T.below T.least self.old h node) t) }
-        ensures refused { IfErr result (λ refusal. refusal ≡ OutOfMemory) }
+            → is_beyond T.times found t ≡ is_beyond T.times (input_front T.times self.old node) t) }
+        ensures stands { (h : List (Event T)) → Stands T.times self.old h
+            → IfOk result (λ found. (t : T) → is_beyond T.times found t
+            ≡ is_beyond T.times (input_frontier_on T.times self.old h node) t) }
+        ensures refused { OnlyMemory result }
     {
         self.known();
         self.accounts.input_times(node)
     }
 
-    /// The input frontier of one port of a node: updates may still come to that port at times beyond
-    /// this frontier. It is the least of the times that are in flight to the port, and of those that
-    /// are in flight, held or open at its source or above. Refused only with `OutOfMemory`.
+    /// The input frontier of one port of a node: updates may still come to that port at times
+    /// beyond this frontier. It is the least of the times that are in flight to the port, and of
+    /// those that are in flight, held or open at its source or above. Refused only with
+    /// `OutOfMemory`.
     ///
     /// Cost: that of [`Tally::input_frontier`](progress::Tally::input_frontier).
     pub fn port_frontier(&mut self, node: NodeId, port: usize) -> Result<Antichain<T>, Refusal>
         requires { node < length self.old.dataflow.nodes }
         ensures kept { self.new ≡ self.old }
         ensures least { IfOk result (λ found.
-            SameElements found (port_front T.below self.old node port)) }
-        ensures beyond { IfOk result (λ found. (t : T) → is_beyond T.below found t
-            ≡ is_beyond T.below (port_front T.below self.old node port) t) }
-        ensures stands { (h : List (Event T)) → Stands T.below T.least self.old h
+            SameElements found (port_front T.times self.old node port)) }
+        ensures beyond { IfOk result (λ found. (t : T) → is_beyond T.times found t
+            ≡ is_beyond T.times (port_front T.times self.old node port) t) }
+        ensures stands { (h : List (Event T)) → Stands T.times self.old h
             → IfOk result (λ found.
-            SameElements found (port_frontier_on T.below T.least self.old h node port)) }
-        ensures refused { IfErr result (λ refusal. refusal ≡ OutOfMemory) }
+            SameElements found (port_frontier_on T.times self.old h node port)) }
+        ensures refused { OnlyMemory result }
     {
         self.known();
         self.accounts.port_frontier(node, port)
@@ -137,15 +138,16 @@ impl<T: Minimum> Board<T> {
     /// Whether a worker holds a time at a node that the node's input frontier has passed. If so, it
     /// may turn to the node by [`Board::take_held`]. Never refused.
     ///
-    /// Cost: linear in the times that the worker holds there, and that of [`Board::input_frontier`].
+    /// Cost: linear in the times that the worker holds there, and that of
+    /// [`Board::input_frontier`].
     pub fn is_ready(&mut self, worker: usize, node: NodeId) -> bool
         requires { node < length self.old.dataflow.nodes }
         ensures kept { self.new ≡ self.old }
-        ensures value { result ≡ is_ready T.below self.old worker node }
-        ensures stands { (h : List (Event T)) → Stands T.below T.least self.old h
+        ensures value { result ≡ is_ready T.times self.old worker node }
+        ensures stands { (h : List (Event T)) → Stands T.times self.old h
             → result ≡ list_any
-            (has_passed T.below (input_frontier_on T.below T.least self.old h node))
-            (held_on T.below T.least self.old h node worker) }
+            (has_passed T.times (input_frontier_on T.times self.old h node))
+            (held_on T.times self.old h node worker) }
     {
         self.known();
         holds_passed(&mut self.accounts, worker, node)
@@ -157,7 +159,7 @@ fn holds_passed<T: Minimum>(accounts: &mut Accounts<T>, worker: usize, node: Nod
     requires { node < length accounts.old.nodes }
     ensures kept { accounts.new ≡ accounts.old }
     ensures value { result
-        ≡ list_any (has_passed T.below (input_front_of T.below accounts.old node))
+        ≡ list_any (has_passed T.times (input_front_of T.times accounts.old node))
         (lot_of accounts.old.stations node worker).held }
 {
     refresh_for_many(accounts, worker, node);

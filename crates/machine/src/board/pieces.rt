@@ -53,7 +53,7 @@ impl<T: Minimum> Board<T> {
     pub fn pieces(&mut self, worker: usize) -> usize
         requires { worker < self.old.dataflow.workers }
         ensures kept { self.new ≡ self.old }
-        ensures value { result ≡ min (length (pieces T.below self.old worker)) usize.MAX }
+        ensures value { result ≡ min (length (pieces T.times self.old worker)) usize.MAX }
     {
         self.count(worker)
     }
@@ -66,17 +66,17 @@ impl<T: Minimum> Board<T> {
     pub fn piece_at(&mut self, worker: usize, pick: usize) -> Option<Piece>
         requires { worker < self.old.dataflow.workers }
         ensures kept { self.new ≡ self.old }
-        ensures value { let all = pieces T.below self.old worker in
+        ensures value { let all = pieces T.times self.old worker in
             result ≡ slice_get all (pick % length all) }
-        ensures none { result ≡ None → pieces T.below self.old worker ≡ [] }
-        ensures piece { IfSome result (IsPiece T.below self.old worker) }
-        ensures stands { (h : List (Event T)) → Stands T.below T.least self.old h
-            → IfSome result (MayTakeOn T.below T.least self.old h worker) }
-        ensures numbered { (h : List (Event T)) → Stands T.below T.least self.old h
-            → let all = pieces_on T.below T.least self.old h worker in
+        ensures none { result ≡ None → pieces T.times self.old worker ≡ [] }
+        ensures piece { IfSome result (IsPiece T.times self.old worker) }
+        ensures stands { (h : List (Event T)) → Stands T.times self.old h
+            → IfSome result (MayTakeOn T.times self.old h worker) }
+        ensures numbered { (h : List (Event T)) → Stands T.times self.old h
+            → let all = pieces_on T.times self.old h worker in
             result ≡ slice_get all (pick % length all) }
-        ensures idle { (h : List (Event T)) → Stands T.below T.least self.old h
-            → result ≡ None → HasNoPieceOn T.below T.least self.old h worker }
+        ensures idle { (h : List (Event T)) → Stands T.times self.old h
+            → result ≡ None → HasNoPieceOn T.times self.old h worker }
     {
         self.pick(worker, pick)
     }
@@ -84,7 +84,7 @@ impl<T: Minimum> Board<T> {
     // Answers `pieces`, also for a worker that there is not.
     fn count(&mut self, worker: usize) -> usize
         ensures kept { self.new ≡ self.old }
-        ensures value { result ≡ min (length (pieces T.below self.old worker)) usize.MAX }
+        ensures value { result ≡ min (length (pieces T.times self.old worker)) usize.MAX }
     {
         match self.find(worker, usize::MAX) {
             Ok(_piece) => usize::MAX,
@@ -95,10 +95,10 @@ impl<T: Minimum> Board<T> {
     // Answers `piece_at`, which adds what that means for histories.
     fn pick(&mut self, worker: usize, pick: usize) -> Option<Piece>
         ensures kept { self.new ≡ self.old }
-        ensures value { let all = pieces T.below self.old worker in
+        ensures value { let all = pieces T.times self.old worker in
             result ≡ slice_get all (pick % length all) }
-        ensures none { result ≡ None → pieces T.below self.old worker ≡ [] }
-        ensures piece { IfSome result (IsPiece T.below self.old worker) }
+        ensures none { result ≡ None → pieces T.times self.old worker ≡ [] }
+        ensures piece { IfSome result (IsPiece T.times self.old worker) }
         ensures board { IsBoard self.old }
     {
         self.known();
@@ -110,11 +110,11 @@ impl<T: Minimum> Board<T> {
 
     // Reduces a number modulo the number of pieces, and finds the piece.
     fn pick_among(&mut self, worker: usize, pick: usize, all: usize) -> Option<Piece>
-        requires { all ≡ length (pieces T.below self.old worker) }
+        requires { all ≡ length (pieces T.times self.old worker) }
         ensures kept { self.new ≡ self.old }
-        ensures value { result ≡ slice_get (pieces T.below self.old worker) (pick % all) }
-        ensures none { result ≡ None → pieces T.below self.old worker ≡ [] }
-        ensures piece { IfSome result (IsPiece T.below self.old worker) }
+        ensures value { result ≡ slice_get (pieces T.times self.old worker) (pick % all) }
+        ensures none { result ≡ None → pieces T.times self.old worker ≡ [] }
+        ensures piece { IfSome result (IsPiece T.times self.old worker) }
     {
         if all == 0 {
             return None;
@@ -129,10 +129,10 @@ impl<T: Minimum> Board<T> {
     fn find(&mut self, worker: usize, number: usize) -> Result<Piece, usize>
         ensures kept { self.new ≡ self.old }
         ensures found { IfOk result (λ piece.
-            slice_get (pieces T.below self.old worker) number ≡ Some piece) }
-        ensures piece { IfOk result (IsPiece T.below self.old worker) }
+            slice_get (pieces T.times self.old worker) number ≡ Some piece) }
+        ensures piece { IfOk result (IsPiece T.times self.old worker) }
         ensures past { IfErr result (λ left.
-            number ≡ length (pieces T.below self.old worker) + left) }
+            number ≡ length (pieces T.times self.old worker) + left) }
     {
         let mut left = number;
         for n in 0..self.plan().len() {
@@ -149,10 +149,10 @@ impl<T: Minimum> Board<T> {
         requires { node < length self.old.dataflow.nodes }
         ensures kept { self.new ≡ self.old }
         ensures found { IfOk result (λ piece.
-            slice_get (pieces_at T.below self.old worker node) number ≡ Some piece) }
-        ensures piece { IfOk result (IsPiece T.below self.old worker) }
+            slice_get (pieces_at T.times self.old worker node) number ≡ Some piece) }
+        ensures piece { IfOk result (IsPiece T.times self.old worker) }
         ensures past { IfErr result (λ left.
-            number ≡ length (pieces_at T.below self.old worker node) + left) }
+            number ≡ length (pieces_at T.times self.old worker node) + left) }
     {
         let first = site_at(node, 0, worker);
         let second = site_at(node, 1, worker);
@@ -179,10 +179,10 @@ impl<T: Minimum> Board<T> {
         requires { node < length self.old.dataflow.nodes }
         ensures kept { self.new ≡ self.old }
         ensures found { IfOk result (λ piece.
-            slice_get (pieces_held T.below self.old worker node) number ≡ Some piece) }
-        ensures piece { IfOk result (IsPiece T.below self.old worker) }
+            slice_get (pieces_held T.times self.old worker node) number ≡ Some piece) }
+        ensures piece { IfOk result (IsPiece T.times self.old worker) }
         ensures past { IfErr result (λ left.
-            number ≡ length (pieces_held T.below self.old worker node) + left) }
+            number ≡ length (pieces_held T.times self.old worker node) + left) }
     {
         if !self.is_ready(worker, node) {
             Err(number)

@@ -15,11 +15,11 @@ use lattice::Minimum;
 /// frontier has passed, what the node gave is the query. The same holds of any reading of a view,
 /// at times that are passed and that the view's readers still hold. Costs nothing.
 pub fn meets<T: Minimum>(board: &Board<T>)
-    ensures headline { (h : List (Event T)) → Stands T.below T.least board.now h
+    ensures headline { (h : List (Event T)) → Stands T.times board.now h
         → (n : ℕ)
-        → MeetsQuery T.below (plan_on board.now h) (state_on T.below T.least board.now h) n }
-    ensures reading { (h : List (Event T)) → Stands T.below T.least board.now h
-        → ReadsQuery T.below (plan_on board.now h) (state_on T.below T.least board.now h) }
+        → MeetsQuery T.times (plan_on board.now h) (state_on T.times board.now h) n }
+    ensures reading { (h : List (Event T)) → Stands T.times board.now h
+        → ReadsQuery T.times (plan_on board.now h) (state_on T.times board.now h) }
 {
     board.known();
 }
@@ -29,7 +29,7 @@ pub fn meets<T: Minimum>(board: &Board<T>)
 /// change nothing of what a view captured, nor of its last read. Costs nothing.
 pub fn later_sinces_keep_sums<T: Minimum>()
     ensures { (earlier later : List T) (captured emitted : List (Update T))
-        → IsTrue (all_beyond T.below earlier later)
-        → IsKeptOf T.below T.least earlier captured emitted
-        → IsKeptOf T.below T.least later captured emitted }
+        → IsTrue (all_beyond T.times earlier later)
+        → IsKeptOf T.times earlier captured emitted
+        → IsKeptOf T.times later captured emitted }
 {}

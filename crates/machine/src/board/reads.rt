@@ -7,13 +7,12 @@ ghost use Rattle.std.specs.List.{filter, list_all};
 ghost use Rattle.lattice.specs.Frontiers.{is_beyond};
 ghost use Rattle.update.specs.Bags.{Alike, IsBag};
 ghost use Rattle.update.specs.Updates.{as_of, IsConsolidated, HasLargeTotal};
-ghost use Rattle.update.specs.declared.refusal.Refusal.TheVariants.{OutOfMemory, Overflow};
 ghost use Rattle.plan.specs.Changes.{has_passed, AreDifferences};
 ghost use Rattle.plan.specs.Nodes.{is_output};
 ghost use Rattle.histories.specs.declared.event.Event.{Event};
-ghost use Rattle.histories.specs.Histories.Dataflows.{IsDataflow, node_of};
+ghost use Rattle.histories.specs.Histories.Dataflows.{node_of};
 ghost use Rattle.views.specs.Views.{IsSumRefusal};
-ghost use Rattle.update.specs.Refusals.{IsMemoryOrOverflow};
+ghost use Rattle.update.specs.Refusals.{OnlyMemory, IsMemoryOrOverflow};
 ghost use Rattle.machine.specs.Boards.{plan_on, frontier_on, changes_on, query_on, IsQuietOn, Stands, IsBoard};
 ghost use Rattle.histories.specs.Histories.Readings.{is_from_start};
 ghost use Rattle.plan.specs.Ancestors.{numbers_below};
@@ -44,7 +43,7 @@ fn are_free(hand: &[Option<NodeId>]) -> bool
 
 // Whether the least time is beyond a frontier.
 fn is_from_start<T: Minimum>(times: &[T]) -> bool
-    ensures { result ≡ is_from_start T.below T.least times.now }
+    ensures { result ≡ is_from_start T.times times.now }
 {
     is_beyond(times, &T::minimum())
 }
@@ -59,8 +58,8 @@ fn passed_by<T: Minimum>(
     requires { node < length accounts.old.nodes }
     ensures kept { accounts.new ≡ accounts.old }
     ensures passed { IfOk result (λ passed. passed.items ≡ filter (λ u.
-        has_passed T.below (front_of T.below accounts.old node) u.time) updates.now) }
-    ensures refused { IfErr result (λ refusal. refusal ≡ OutOfMemory) }
+        has_passed T.times (front_of T.times accounts.old node) u.time) updates.now) }
+    ensures refused { OnlyMemory result }
 {
     let mut passed = Vec::new(alloc);
     let mut run = 0;
@@ -102,12 +101,12 @@ impl<T: Minimum> Board<T> {
         requires within { view < length self.old.dataflow.nodes }
         requires view { IsTrue (is_output (node_of self.old.dataflow view)) }
         ensures kept { self.new ≡ self.old }
-        ensures accepted { OnOk result (read_refusal_on T.below self.old view t ≡ None) }
-        ensures refused { IfErr result (IsReadRefusal T.below self.old view t) }
+        ensures accepted { OnOk result (read_refusal_on T.times self.old view t ≡ None) }
+        ensures refused { IfErr result (IsReadRefusal T.times self.old view t) }
         ensures bag { IfOk result IsBag }
-        ensures sum { IfOk result (λ bag. Alike bag (as_of T.below t (captured_of self.old view))) }
-        ensures query { (h : List (Event T)) → Stands T.below T.least self.old h
-            → IfOk result (λ bag. Alike bag (query_on T.below T.least self.old h view t)) }
+        ensures sum { IfOk result (λ bag. Alike bag (as_of T.times t (captured_of self.old view))) }
+        ensures query { (h : List (Event T)) → Stands T.times self.old h
+            → IfOk result (λ bag. Alike bag (query_on T.times self.old h view t)) }
     {
         self.read_captured(view, t)
     }
@@ -116,10 +115,10 @@ impl<T: Minimum> Board<T> {
     fn read_captured(&mut self, view: NodeId, t: T) -> Result<Bag, Refusal>
         requires within { view < length self.old.dataflow.nodes }
         ensures kept { self.new ≡ self.old }
-        ensures accepted { OnOk result (read_refusal_on T.below self.old view t ≡ None) }
-        ensures refused { IfErr result (IsReadRefusal T.below self.old view t) }
+        ensures accepted { OnOk result (read_refusal_on T.times self.old view t ≡ None) }
+        ensures refused { IfErr result (IsReadRefusal T.times self.old view t) }
         ensures bag { IfOk result IsBag }
-        ensures sum { IfOk result (λ bag. Alike bag (as_of T.below t (captured_of self.old view))) }
+        ensures sum { IfOk result (λ bag. Alike bag (as_of T.times t (captured_of self.old view))) }
         ensures board { IsBoard self.old }
     {
         self.known();
@@ -133,9 +132,9 @@ impl<T: Minimum> Board<T> {
     fn captured_at(&mut self, view: NodeId, t: T) -> Result<Bag, Refusal>
         requires within { view < length self.old.dataflow.nodes }
         ensures kept { self.new ≡ self.old }
-        ensures refused { IfErr result (IsSumRefusal T.below (captured_of self.old view) t) }
+        ensures refused { IfErr result (IsSumRefusal T.times (captured_of self.old view) t) }
         ensures bag { IfOk result IsBag }
-        ensures sum { IfOk result (λ bag. Alike bag (as_of T.below t (captured_of self.old view))) }
+        ensures sum { IfOk result (λ bag. Alike bag (as_of T.times t (captured_of self.old view))) }
     {
         let alloc = *self.hand.allocator();
         self.views[view.number()].sum_at(alloc, t)
@@ -145,7 +144,7 @@ impl<T: Minimum> Board<T> {
     fn read_refusal(&mut self, view: NodeId, t: &T) -> Option<Refusal>
         requires { view < length self.old.dataflow.nodes }
         ensures kept { self.new ≡ self.old }
-        ensures value { result ≡ read_refusal_on T.below self.old view t.now }
+        ensures value { result ≡ read_refusal_on T.times self.old view t.now }
     {
         if !self.has_passed(view, t) {
             Some(Refusal::NotPassed)
@@ -170,11 +169,11 @@ impl<T: Minimum> Board<T> {
         requires within { view < length self.old.dataflow.nodes }
         requires view { IsTrue (is_output (node_of self.old.dataflow view)) }
         ensures kept { self.new ≡ self.old }
-        ensures accepted { OnOk result (changes_refusal_on T.below T.least self.old view ≡ None) }
-        ensures refused { IfErr result (IsChangesRefusal T.below T.least self.old view) }
-        ensures differences { (h : List (Event T)) → Stands T.below T.least self.old h
-            → IfOk result (λ us. AreDifferences T.below T.cmp (plan_on self.old h).nodes
-            (changes_on T.below T.least self.old h) (frontier_on T.below T.least self.old h view)
+        ensures accepted { OnOk result (changes_refusal_on T.times self.old view ≡ None) }
+        ensures refused { IfErr result (IsChangesRefusal T.times self.old view) }
+        ensures differences { (h : List (Event T)) → Stands T.times self.old h
+            → IfOk result (λ us. AreDifferences T.times T.cmp (plan_on self.old h).nodes
+            (changes_on T.times self.old h) (frontier_on T.times self.old h view)
             view us.items) }
     {
         self.passed_changes(view)
@@ -185,14 +184,14 @@ impl<T: Minimum> Board<T> {
     fn passed_changes(&mut self, view: NodeId) -> Result<Vec<Update<T>>, Refusal>
         requires within { view < length self.old.dataflow.nodes }
         ensures kept { self.new ≡ self.old }
-        ensures accepted { OnOk result (changes_refusal_on T.below T.least self.old view ≡ None) }
-        ensures refused { IfErr result (IsChangesRefusal T.below T.least self.old view) }
+        ensures accepted { OnOk result (changes_refusal_on T.times self.old view ≡ None) }
+        ensures refused { IfErr result (IsChangesRefusal T.times self.old view) }
         ensures consolidated { IfOk result (λ us. IsConsolidated T.cmp us.items) }
         ensures passed { IfOk result (λ us. IsTrue (list_all
-            (λ u. has_passed T.below (front T.below self.old view) u.time) us.items)) }
+            (λ u. has_passed T.times (front T.times self.old view) u.time) us.items)) }
         ensures sums { IfOk result (λ us. (t : T)
-            → IsTrue (has_passed T.below (front T.below self.old view) t)
-            → Alike (as_of T.below t us.items) (as_of T.below t (captured_of self.old view))) }
+            → IsTrue (has_passed T.times (front T.times self.old view) t)
+            → Alike (as_of T.times t us.items) (as_of T.times t (captured_of self.old view))) }
         ensures board { IsBoard self.old }
     {
         self.known();
@@ -205,7 +204,7 @@ impl<T: Minimum> Board<T> {
     // What refuses the changes of a view.
     fn changes_refusal(&self, view: NodeId) -> Option<Refusal>
         requires { view < length self.now.dataflow.nodes }
-        ensures { result ≡ changes_refusal_on T.below T.least self.now view }
+        ensures { result ≡ changes_refusal_on T.times self.now view }
     {
         if is_from_start(self.since(view)) {
             None
@@ -219,13 +218,13 @@ impl<T: Minimum> Board<T> {
         requires within { view < length self.old.dataflow.nodes }
         ensures kept { self.new ≡ self.old }
         ensures refused { IfErr result
-            (IsMemoryOrOverflow (HasLargeTotal T.below (passed_captured T.below self.old view))) }
+            (IsMemoryOrOverflow (HasLargeTotal T.times (passed_captured T.times self.old view))) }
         ensures consolidated { IfOk result (λ us. IsConsolidated T.cmp us.items) }
         ensures passed { IfOk result (λ us. IsTrue (list_all
-            (λ u. has_passed T.below (front T.below self.old view) u.time) us.items)) }
+            (λ u. has_passed T.times (front T.times self.old view) u.time) us.items)) }
         ensures sums { IfOk result (λ us. (t : T)
-            → IsTrue (has_passed T.below (front T.below self.old view) t)
-            → Alike (as_of T.below t us.items) (as_of T.below t (captured_of self.old view))) }
+            → IsTrue (has_passed T.times (front T.times self.old view) t)
+            → Alike (as_of T.times t us.items) (as_of T.times t (captured_of self.old view))) }
     {
         let passed = self.passed_captured(view)?;
         consolidate(passed)
@@ -236,8 +235,8 @@ impl<T: Minimum> Board<T> {
         requires within { view < length self.old.dataflow.nodes }
         ensures kept { self.new ≡ self.old }
         ensures passed { IfOk result (λ passed.
-            passed.items ≡ passed_captured T.below self.old view) }
-        ensures refused { IfErr result (λ refusal. refusal ≡ OutOfMemory) }
+            passed.items ≡ passed_captured T.times self.old view) }
+        ensures refused { OnlyMemory result }
     {
         // The tally then keeps the view's frontier, so each test is short.
         self.accounts.refresh(view)?;
@@ -254,9 +253,9 @@ impl<T: Minimum> Board<T> {
     /// each held time.
     pub fn is_quiet(&mut self) -> bool
         ensures kept { self.new ≡ self.old }
-        ensures value { result ≡ is_quiet_board T.below self.old }
-        ensures quiet { (h : List (Event T)) → Stands T.below T.least self.old h
-            → (IsTrue result ↔ IsQuietOn T.below T.least self.old h) }
+        ensures value { result ≡ is_quiet_board T.times self.old }
+        ensures quiet { (h : List (Event T)) → Stands T.times self.old h
+            → (IsTrue result ↔ IsQuietOn T.times self.old h) }
     {
         self.rests()
     }
@@ -264,7 +263,7 @@ impl<T: Minimum> Board<T> {
     // Whether no worker can go on. `is_quiet` adds what that means for histories.
     fn rests(&mut self) -> bool
         ensures kept { self.new ≡ self.old }
-        ensures value { result ≡ is_quiet_board T.below self.old }
+        ensures value { result ≡ is_quiet_board T.times self.old }
         ensures board { IsBoard self.old }
     {
         if !self.accounts.stations().is_empty() || !are_free(&self.hand) {
@@ -277,7 +276,7 @@ impl<T: Minimum> Board<T> {
     // it.
     fn all_wait(&mut self) -> bool
         ensures kept { self.new ≡ self.old }
-        ensures value { result ≡ all_wait T.below self.old }
+        ensures value { result ≡ all_wait T.times self.old }
     {
         self.known();
         for n in 0..self.plan().len() {
@@ -293,7 +292,7 @@ impl<T: Minimum> Board<T> {
         requires { node < length self.old.dataflow.nodes }
         ensures kept { self.new ≡ self.old }
         ensures value { result ≡ list_all (λ k.
-            list_all (is_beyond T.below (input_front T.below self.old node))
+            list_all (is_beyond T.times (input_front T.times self.old node))
             (lot_of self.old.stations node k).held) (numbers_below self.old.dataflow.workers) }
     {
         for worker in 0..self.workers {

@@ -1,16 +1,15 @@
 //! Routing: where the updates go that a node gives. This depends on the plan and the number of
 //! workers alone. So the edges from each node are found once, and a cut goes only along the edges
 //! of its own node. It needs no board.
-ghost use Rattle.std.specs.Prelude.{◌≡◌, ◌⊎◌, ◌<◌, ◌≤◌, ◌++◌, ◌&&◌, List, None, IfErr, IfOk, OnOk, IsTrue, eqb, length, map, not, take};
-ghost use Rattle.std.specs.List.{flat_map, list_all};
+ghost use Rattle.std.specs.Prelude.{◌≡◌, ◌⊎◌, ◌<◌, ◌≤◌, ◌++◌, List, None, IfErr, IfOk, OnOk, IsTrue, length, map, take};
+ghost use Rattle.std.specs.List.{flat_map};
+ghost use Rattle.update.specs.Refusals.{OnlyMemory};
 ghost use Rattle.lattice.specs.Frontiers.{all_beyond};
-ghost use Rattle.update.specs.declared.refusal.Refusal.TheVariants.{OutOfMemory};
 ghost use Rattle.plan.specs.Edges.{edges_from, leads_from};
 ghost use Rattle.plan.specs.Nodes.{arranged_by};
 ghost use Rattle.plan.specs.Rules.{IsPlan};
-ghost use Rattle.histories.specs.declared.event.Site.{Site};
-ghost use Rattle.histories.specs.Histories.States.{times, updates_at};
-ghost use Rattle.histories.specs.Histories.Shares.{share, AreShares, are_filled, are_stamped};
+ghost use Rattle.histories.specs.Histories.States.{update_times};
+ghost use Rattle.histories.specs.Histories.Shares.{AreShares, are_filled, are_stamped};
 ghost use Rattle.histories.specs.Histories.Cuts.{cut_along, cut};
 ghost use Rattle.machine.specs.Boards.Routings.{all_edges};
 ghost use Rattle.histories.specs.Histories.Dataflows.{IsDataflow, node_of};
@@ -83,7 +82,7 @@ impl Routing {
         requires { 1 ≤ workers }
         ensures routing { IfOk result (λ routing.
             routing ≡ record { nodes = plan.now; workers = workers }) }
-        ensures refused { IfErr result (λ refusal. refusal ≡ OutOfMemory) }
+        ensures refused { OnlyMemory result }
     {
         let edges = edges_of(alloc, plan)?;
         let arranged = arranged_of(alloc, plan)?;
@@ -112,12 +111,12 @@ impl Routing {
     ) -> Result<CutEmission<T>, Emission<T>>
         requires { emission.worker < self.now.workers }
         ensures given { IfOk result (λ c. c.given ≡ emission) }
-        ensures cut { IfOk result (λ c. c.sent ≡ cut T.below self.now emission) }
+        ensures cut { IfOk result (λ c. c.sent ≡ cut T.times self.now emission) }
         ensures whole { IfOk result (λ c. AreShares self.now emission c.sent) }
         ensures filled { IfOk result (λ c. IsTrue (are_filled c.sent)) }
         ensures stamped { IfOk result (λ c. (held : List T)
-            → IsTrue (all_beyond T.below held (times emission.updates))
-            → IsTrue (are_stamped T.below held c.sent)) }
+            → IsTrue (all_beyond T.times held (update_times emission.updates))
+            → IsTrue (are_stamped T.times held c.sent)) }
         ensures returned { IfErr result (λ back. back ≡ emission) }
     {
         self.known();
@@ -139,7 +138,7 @@ impl Routing {
     ) -> Result<CutEmission<T>, Emission<T>>
         requires { emission.worker < self.now.workers }
         ensures given { IfOk result (λ c. c.given ≡ emission) }
-        ensures cut { IfOk result (λ c. c.sent ≡ cut T.below self.now emission) }
+        ensures cut { IfOk result (λ c. c.sent ≡ cut T.times self.now emission) }
         ensures returned { IfErr result (λ back. back ≡ emission) }
     {
         if emission.updates.len() == 0 {
@@ -166,9 +165,9 @@ impl Routing {
         requires worker { emission.now.worker < self.now.workers }
         requires count { count ≤ length (edges_from self.now.nodes emission.now.node) }
         ensures cut { IfOk result (λ sent. sent.items
-            ≡ flat_map (cut_along T.below self.now emission.now)
+            ≡ flat_map (cut_along T.times self.now emission.now)
             (take count (edges_from self.now.nodes emission.now.node))) }
-        ensures refused { IfErr result (λ refusal. refusal ≡ OutOfMemory) }
+        ensures refused { OnlyMemory result }
     {
         let mut sent = Vec::new(alloc);
         for edge in &self.edges_from(emission.node)[..count] {
@@ -190,7 +189,7 @@ impl Routing {
         requires leads { IsTrue (leads_from self.now.nodes emission.node edge.now) }
         ensures given { IfOk result (λ c. c.given ≡ emission) }
         ensures cut { IfOk result (λ c. c.sent
-            ≡ sent.items ++ cut_along T.below self.now emission edge.now) }
+            ≡ sent.items ++ cut_along T.times self.now emission edge.now) }
         ensures returned { IfErr result (λ back. back ≡ emission) }
     {
         if self.goes_to_one(edge) {
@@ -223,8 +222,8 @@ impl Routing {
         requires worker { emission.now.worker < self.now.workers }
         requires leads { IsTrue (leads_from self.now.nodes emission.now.node edge.now) }
         ensures more { OnOk result (sent.new.items ≡ sent.old.items
-            ++ cut_along T.below self.now emission.now edge.now) }
-        ensures refused { IfErr result (λ refusal. refusal ≡ OutOfMemory) }
+            ++ cut_along T.times self.now emission.now edge.now) }
+        ensures refused { OnlyMemory result }
     {
         match self.arranged[edge.reader.number()] {
             Some(columns) => push_for_workers(sent, edge, columns, self.workers, emission),
@@ -247,7 +246,7 @@ impl Routing {
 fn edges_of(alloc: Global, plan: &Plan) -> Result<Vec<Edges>, Refusal>
     ensures edges { IfOk result (λ edges. edges.items ≡ all_edges plan.now) }
     ensures plan { IsPlan plan.now }
-    ensures refused { IfErr result (λ refusal. refusal ≡ OutOfMemory) }
+    ensures refused { OnlyMemory result }
 {
     let mut edges = Vec::new(alloc);
     for n in 0..plan.len() {
@@ -261,7 +260,7 @@ fn edges_of(alloc: Global, plan: &Plan) -> Result<Vec<Edges>, Refusal>
 // By node, the number of columns by which it is arranged; `None` for a node that is not.
 fn arranged_of(alloc: Global, plan: &Plan) -> Result<Vec<Option<usize>>, Refusal>
     ensures arranged { IfOk result (λ columns. columns.items ≡ map arranged_by plan.now) }
-    ensures refused { IfErr result (λ refusal. refusal ≡ OutOfMemory) }
+    ensures refused { OnlyMemory result }
 {
     let mut columns = Vec::new(alloc);
     for n in 0..plan.len() {

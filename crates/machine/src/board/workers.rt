@@ -1,17 +1,15 @@
 //! The events by which a worker with nothing in hand gets to work: it takes a bundle that waits for
 //! it, or it turns to times that it holds.
-ghost use Rattle.std.specs.Prelude.{◌≡◌, ◌<◌, List, ◌∷◌, Some, None, IfErr, IfOk, OnErr, OnOk, IsTrue, length, get_or, slice_get, set, not};
-ghost use Rattle.std.specs.List.{filter};
-ghost use Rattle.update.specs.declared.refusal.Refusal.TheVariants.{OutOfMemory};
+ghost use Rattle.std.specs.Prelude.{◌≡◌, ◌<◌, List, ◌∷◌, Some, None, IfOk, OnErr, OnOk, IsTrue, length, get_or, slice_get, set};
+ghost use Rattle.update.specs.Refusals.{OnlyMemory};
 ghost use Rattle.plan.specs.Nodes.{arranged_by};
 ghost use Rattle.histories.specs.declared.event.Bundle.{Bundle};
 ghost use Rattle.histories.specs.declared.event.Event.{Event};
 ghost use Rattle.histories.specs.declared.event.Event.TheVariants.{Take};
 ghost use Rattle.histories.specs.Histories.Dataflows.{node_of};
-ghost use Rattle.histories.specs.Histories.States.{times};
-ghost use Rattle.histories.specs.Histories.Outstanding.{stamp, with_time};
+ghost use Rattle.histories.specs.Histories.States.{update_times};
 ghost use Rattle.outstanding.specs.Loads.{queue_of};
-ghost use Rattle.machine.specs.Boards.{BoardState, IsBoard, Stands, after_look, after_take, after_turn};
+ghost use Rattle.machine.specs.Boards.{IsBoard, Stands, after_look, after_take, after_turn};
 ghost use Rattle.machine.specs.Boards.Reads.{is_ready};
 
 use crate::board::Board;
@@ -44,10 +42,10 @@ impl<T: Minimum> Board<T> {
             slice_get (queue_of self.old.stations place) number ≡ Some bundle) }
         ensures place { IfOk result (λ bundle. bundle.place ≡ place) }
         ensures taken { IfOk result (λ bundle. self.new ≡ after_take number bundle self.old) }
-        ensures refused { IfErr result (λ refusal. refusal ≡ OutOfMemory) }
+        ensures refused { OnlyMemory result }
         ensures unchanged { OnErr result (self.new ≡ after_look place.worker self.old) }
-        ensures stands { (h : List (Event T)) → Stands T.below T.least self.old h
-            → Stands T.below T.least self.new (self.new.last ∷ h) }
+        ensures stands { (h : List (Event T)) → Stands T.times self.old h
+            → Stands T.times self.new (self.new.last ∷ h) }
     {
         self.try_take(place, number)
     }
@@ -60,7 +58,7 @@ impl<T: Minimum> Board<T> {
             slice_get (queue_of self.old.stations place) number ≡ Some bundle) }
         ensures place { IfOk result (λ bundle. bundle.place ≡ place) }
         ensures taken { IfOk result (λ bundle. self.new ≡ after_take number bundle self.old) }
-        ensures refused { IfErr result (λ refusal. refusal ≡ OutOfMemory) }
+        ensures refused { OnlyMemory result }
         ensures unchanged { OnErr result (self.new ≡ after_look place.worker self.old) }
         ensures board { OnOk result (IsBoard self.old) }
     {
@@ -96,10 +94,10 @@ impl<T: Minimum> Board<T> {
         requires worker { worker < self.old.dataflow.workers }
         requires within { node < length self.old.dataflow.nodes }
         requires free { get_or self.old.hand worker None ≡ None }
-        requires ready { IsTrue (is_ready T.below self.old worker node) }
+        requires ready { IsTrue (is_ready T.times self.old worker node) }
         ensures turned { self.new ≡ after_turn worker node self.old }
-        ensures stands { (h : List (Event T)) → Stands T.below T.least self.old h
-            → Stands T.below T.least self.new (self.new.last ∷ h) }
+        ensures stands { (h : List (Event T)) → Stands T.times self.old h
+            → Stands T.times self.new (self.new.last ∷ h) }
     {
         self.turn(worker, node);
     }

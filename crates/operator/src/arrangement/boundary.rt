@@ -3,17 +3,18 @@
 //!
 //! The spine merges, so a batch may have several insertions. It keeps each boundary that a reader
 //! may ask for, which is what `IsOpen` says. So while a reader has not gone on from a boundary, the
-//! next insertion ends at the next boundary. A batch may also end where it begins; it is passed over.
+//! next insertion ends at the next boundary. A batch may also end where it begins; it is passed
+//! over.
 ghost use Rattle.std.specs.Prelude.{◌≡◌, ◌≢◌, ◌∷◌, ℕ, List, None, Some, true, false, IfSome, IsSomeAnd, IsTrue, slice_get};
 ghost use Rattle.std.specs.List.{Contains};
 ghost use Rattle.lattice.specs.Frontiers.{all_beyond};
 ghost use Rattle.antichain.specs.Antichains.{IsFrontier};
 ghost use Rattle.batch.specs.Descriptions.{BatchState};
 ghost use Rattle.trace.specs.Readings.{Insertion, reached};
-ghost use Rattle.spine.specs.Holding.{forbids};
+ghost use Rattle.spine.specs.HoldRules.{forbids};
 ghost use Rattle.spine.specs.Spines.{Stands, boundaries};
 ghost use Rattle.operator.specs.Arrangements.{AreInTurn, IsOpen, upper_of};
-ghost use Rattle.operator_laws.specs.Joining.{on_top};
+ghost use Rattle.operator_laws.specs.JoinNodes.{on_top};
 
 use crate::arrangement::Arrangement;
 use batch::{Batch, BatchReader};
@@ -55,26 +56,26 @@ fn end_after<'a, T: Lattice>(batches: &'a [Batch<T>], boundary: &[T]) -> Option<
 }
 
 impl<T: Minimum> Arrangement<T> {
-    /// Where the insertion ends that begins at this boundary: the next boundary of the spine. `None`
-    /// if nothing was inserted after it. The boundary is one that some reader may still ask for, as
-    /// a reader may for the one that it has acknowledged. Takes no memory.
+    /// Where the insertion ends that begins at this boundary: the next boundary of the spine.
+    /// `None` if nothing was inserted after it. The boundary is one that some reader may still ask
+    /// for, as a reader may for the one that it has acknowledged. Takes no memory.
     ///
     /// Cost: two comparisons of frontiers for each batch up to there.
     pub fn boundary_after(&self, acknowledged: &[T]) -> Option<&[T]>
         ensures next { (inserted later taken : List (Insertion T)) (next : Insertion T)
-            → Stands T.below self.now.spine inserted
-            → AreInTurn T.below self.now.spine.list.start inserted
-            → IsOpen T.below self.now.spine inserted
+            → Stands T.times self.now.spine inserted
+            → AreInTurn T.times self.now.spine.list.start inserted
+            → IsOpen T.times self.now.spine inserted
             → inserted ≡ on_top later (next ∷ taken)
             → acknowledged.now ≡ reached self.now.spine.list.start taken
-            → IsTrue (forbids T.below self.now.spine.holds acknowledged.now)
+            → IsTrue (forbids T.times self.now.spine.holds acknowledged.now)
             → IsSomeAnd result (λ end. end.now ≡ next.upper) }
-        ensures frontier { IfSome result (λ end. IsFrontier T.below T.cmp end.now) }
+        ensures frontier { IfSome result (λ end. IsFrontier T.times T.cmp end.now) }
         ensures boundary { IfSome result (λ end. Contains (boundaries self.now.spine) end.now) }
         ensures behind { IfSome result
-            (λ end. IsTrue (all_beyond T.below end.now (upper_of self.now.spine))) }
+            (λ end. IsTrue (all_beyond T.times end.now (upper_of self.now.spine))) }
         ensures forward { IfSome result
-            (λ end. IsTrue (all_beyond T.below acknowledged.now end.now)) }
+            (λ end. IsTrue (all_beyond T.times acknowledged.now end.now)) }
     {
         end_after(self.trace().batches(), acknowledged)
     }

@@ -4,7 +4,7 @@
 ghost use Rattle.std.specs.Prelude.{◌≡◌, List};
 ghost use Rattle.trace.specs.Readings.{Insertion, AreUpTo, reached};
 ghost use Rattle.operator.specs.Arrangements.{AreInTurn};
-ghost use Rattle.operator_laws.specs.Joining.{on_top};
+ghost use Rattle.operator_laws.specs.JoinNodes.{on_top};
 
 use lattice::Lattice;
 
@@ -12,6 +12,6 @@ use lattice::Lattice;
 /// end at one frontier. So the first of them are all up to the frontier that they have reached.
 pub fn what_is_taken_is_up_to_a_boundary<T: Lattice>()
     ensures { (start : List T) (inserted later taken : List (Insertion T))
-        → inserted ≡ on_top later taken → AreInTurn T.below start inserted
+        → inserted ≡ on_top later taken → AreInTurn T.times start inserted
         → AreUpTo start (reached start taken) inserted taken }
 {}

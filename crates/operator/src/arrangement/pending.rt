@@ -5,7 +5,7 @@ ghost use Rattle.std.specs.List.{list_all};
 ghost use Rattle.lattice.specs.Frontiers.{all_beyond};
 ghost use Rattle.antichain.specs.Antichains.{IsFrontier};
 ghost use Rattle.update.specs.declared.refusal.Refusal.{Refusal};
-ghost use Rattle.update.specs.Refusals.{IsMemoryOrOverflow};
+ghost use Rattle.update.specs.Refusals.{OnlyMemory, IsMemoryOrOverflow};
 ghost use Rattle.update.specs.Updates.{total_where, HasLargeTotal, size};
 ghost use Rattle.batch.specs.Batches.{IsSealed};
 ghost use Rattle.batch.specs.Intervals.{all_between, is_interval_of, passed_updates, open_updates};
@@ -20,8 +20,8 @@ use std::marker::Model;
 use std::mem;
 use update::{Refusal, Update};
 
-// A list with room for at most this many updates keeps it when it is emptied, since the next updates
-// go there.
+// A list with room for at most this many updates keeps it when it is emptied, since the next
+// updates go there.
 const MAX_KEPT: usize = 1024;
 
 /// Updates of one worker at one node, with the least of their times. A contract sees both numbers,
@@ -42,7 +42,7 @@ impl<T: Lattice> Model for Waiting<T> {
 
     ghost view = { λ w. record { worker = w.worker; node = w.node; updates = w.updates.items } };
 
-    ghost invariant = { λ w. IsFrontOf T.below w.front.items w.updates.items };
+    ghost invariant = { λ w. IsFrontOf T.times w.front.items w.updates.items };
 }
 
 impl<T: Lattice> Waiting<T> {
@@ -58,15 +58,15 @@ impl<T: Lattice> Waiting<T> {
         }
     }
 
-    // Moves updates to the end, and leaves their list empty. If memory was refused, both are as they
-    // were.
+    // Moves updates to the end, and leaves their list empty. If memory was refused, both are as
+    // they were.
     pub(crate) fn take_in(&mut self, updates: &mut Vec<Update<T>>) -> Result<(), Refusal>
         ensures ok { OnOk result (self.new
             ≡ record self.old { updates = self.old.updates ++ updates.old.items }) }
         ensures moved { OnOk result (updates.new.items ≡ []) }
         ensures same { OnErr result (self.new ≡ self.old) }
         ensures left { OnErr result (updates.new.items ≡ updates.old.items) }
-        ensures only { IfErr result (λ refused. refused ≡ Refusal.OutOfMemory) }
+        ensures only { OnlyMemory result }
     {
         let alloc = *self.updates.allocator();
         let front = front_with(alloc, self.front.as_slice(), updates.as_slice())?;
@@ -78,10 +78,10 @@ impl<T: Lattice> Waiting<T> {
     // The least times of the updates.
     pub(crate) fn held(&self, alloc: Global) -> Result<Vec<T>, Refusal>
         ensures covers { IfOk result (λ held. IsTrue
-            (all_beyond T.below held.items (times_of self.now.updates))) }
+            (all_beyond T.times held.items (times_of self.now.updates))) }
         ensures tight { IfOk result (λ held. IsTrue
-            (all_beyond T.below (times_of self.now.updates) held.items)) }
-        ensures only { IfErr result (λ refused. refused ≡ Refusal.OutOfMemory) }
+            (all_beyond T.times (times_of self.now.updates) held.items)) }
+        ensures only { OnlyMemory result }
     {
         Ok(Vec::from_slice(alloc, self.front.as_slice())?)
     }
@@ -91,33 +91,33 @@ impl<T: Minimum> Waiting<T> {
     // Seals copies of the updates that the upper frontier has passed, and only then drops them
     // here.
     pub(crate) fn seal(&mut self, lower: &[T], upper: &Antichain<T>) -> Result<Batch<T>, Refusal>
-        requires frontier { IsFrontier T.below T.cmp lower.now }
-        requires interval { IsTrue (is_interval_of T.below lower.now upper.now
-            (passed_updates T.below upper.now self.old.updates)) }
+        requires frontier { IsFrontier T.times T.cmp lower.now }
+        requires interval { IsTrue (is_interval_of T.times lower.now upper.now
+            (passed_updates T.times upper.now self.old.updates)) }
         ensures described { IfOk result (λ batch. batch.description ≡ record {
           worker = self.old.worker;
           node = self.old.node;
           lower = lower.now;
           upper = upper.now;
-          since = T.least ∷ [];
+          since = T.times.least ∷ [];
         }) }
         ensures sealed { IfOk result (λ batch. IsSealed T.cmp batch.updates) }
         ensures between { IfOk result
-            (λ batch. IsTrue (all_between T.below lower.now upper.now batch.updates)) }
+            (λ batch. IsTrue (all_between T.times lower.now upper.now batch.updates)) }
         ensures totals { IfOk result (λ batch. (p : List ℤ → T → Bool)
             → total_where p batch.updates
-            ≡ total_where p (passed_updates T.below upper.now self.old.updates)) }
+            ≡ total_where p (passed_updates T.times upper.now self.old.updates)) }
         ensures among { IfOk result (λ batch. (p : List ℤ → T → Bool)
             → IsTrue (list_all (λ u. p u.row u.time)
-            (passed_updates T.below upper.now self.old.updates))
+            (passed_updates T.times upper.now self.old.updates))
             → IsTrue (list_all (λ u. p u.row u.time) batch.updates)) }
         ensures size { IfOk result (λ batch.
-            size batch.updates ≤ size (passed_updates T.below upper.now self.old.updates)) }
+            size batch.updates ≤ size (passed_updates T.times upper.now self.old.updates)) }
         ensures rest { OnOk result (self.new
-            ≡ record self.old { updates = open_updates T.below upper.now self.old.updates }) }
+            ≡ record self.old { updates = open_updates T.times upper.now self.old.updates }) }
         ensures same { OnErr result (self.new ≡ self.old) }
         ensures refused { IfErr result (IsMemoryOrOverflow
-            (HasLargeTotal T.below (passed_updates T.below upper.now self.old.updates))) }
+            (HasLargeTotal T.times (passed_updates T.times upper.now self.old.updates))) }
     {
         let alloc = *self.updates.allocator();
         let front = front_of_open(alloc, self.updates.as_slice(), upper.elements())?;
@@ -140,7 +140,7 @@ fn move_behind<T: Lattice>(
     ensures moved { OnOk result (more.new.items ≡ []) }
     ensures same { OnErr result (list.new.items ≡ list.old.items) }
     ensures left { OnErr result (more.new.items ≡ more.old.items) }
-    ensures only { IfErr result (λ refused. refused ≡ Refusal.OutOfMemory) }
+    ensures only { OnlyMemory result }
 {
     if list.is_empty() && list.capacity() < more.len() {
         mem::swap(list, more);
@@ -157,8 +157,8 @@ fn passed_copies<T: Lattice>(
     upper: &[T],
 ) -> Result<Vec<Update<T>>, Refusal>
     ensures copied { IfOk result
-        (λ out. out.items ≡ passed_updates T.below upper.now updates.now) }
-    ensures only { IfErr result (λ refused. refused ≡ Refusal.OutOfMemory) }
+        (λ out. out.items ≡ passed_updates T.times upper.now updates.now) }
+    ensures only { OnlyMemory result }
 {
     let mut out = Vec::new(alloc);
     for update in updates {
@@ -171,7 +171,7 @@ fn passed_copies<T: Lattice>(
 
 // Drops the updates that the frontier has passed. Takes no memory.
 fn drop_passed<T: Lattice>(updates: &mut Vec<Update<T>>, upper: &[T])
-    ensures { updates.new.items ≡ open_updates T.below upper.now updates.old.items }
+    ensures { updates.new.items ≡ open_updates T.times upper.now updates.old.items }
 {
     updates.retain(|update| is_beyond(upper, &update.time));
     give_room_back(updates);

@@ -1,8 +1,8 @@
 //! What a client does without waiting: each call is one try to enter the board.
 //!
-//! If another actor has the board just then, the call is refused with `Busy`, and the client has seen
-//! nothing. Else the call is one event of the client, and its answer is right for the state that its
-//! tenure found. So a caller that may not wait can try again later, and loses nothing.
+//! If another actor has the board just then, the call is refused with `Busy`, and the client has
+//! seen nothing. Else the call is one event of the client, and its answer is right for the state
+//! that its tenure found. So a caller that may not wait can try again later, and loses nothing.
 ghost use Rattle.std.specs.Prelude.{◌≡◌, ◌≤◌, ◌<◌, ◌↔◌, [], None, IsTrue, length, ⊤};
 ghost use Rattle.antichain.specs.Antichains.{SameElements};
 ghost use Rattle.update.specs.Refusals.{IsRefusalBy};
@@ -14,10 +14,10 @@ ghost use Rattle.histories.specs.Histories.Dataflows.{node_of};
 ghost use Rattle.histories.specs.Histories.States.{change_to};
 ghost use Rattle.shared_board.specs.Calls.{AreListed, IsAnswered, IsDone, IsRead};
 ghost use Rattle.shared_board.specs.Found.{IsChangesRefusalFound, IsReadRefusalFound, WasQuiet, WasTooLarge, feed_refusal_found, frontier_found};
-ghost use Rattle.shared_board.specs.Tenures.{advance_refusal_in, allow_refusal_in, state_found, terms_in};
+ghost use Rattle.shared_board.specs.Tenures.{advance_refusal_in, allow_refusal_in, state_found, opening_in};
 
 use crate::actor::Actor;
-use crate::actor::entering::try_enter;
+use crate::actor::entry::try_enter;
 use crate::protocol::BoardProtocol;
 use antichain::Antichain;
 use lattice::Minimum;
@@ -39,12 +39,12 @@ impl<T: Minimum, P: BoardProtocol<T>> Actor<T, P> {
 
     /// A client changes an input's table. Refused as `Board::feed` says, and then it looks.
     pub fn try_feed(&mut self, input: NodeId, update: Update<T>) -> Result<(), Refusal>
-        requires client { (terms_in self.old.seen).dataflow.workers ≤ self.old.number }
-        requires input { IsInput (terms_in self.old.seen).dataflow input }
+        requires client { (opening_in self.old.seen).dataflow.workers ≤ self.old.number }
+        requires input { IsInput (opening_in self.old.seen).dataflow input }
         ensures { IsDone self.old self.new
             (Feed self.old.number (change_to input update))
-            (feed_refusal_found T.below T.least self.old self.new (change_to input update))
-            (IsRefusalBy (feed_refusal_found T.below T.least self.old self.new
+            (feed_refusal_found T.times self.old self.new (change_to input update))
+            (IsRefusalBy (feed_refusal_found T.times self.old self.new
             (change_to input update)))
             result }
     {
@@ -59,11 +59,11 @@ impl<T: Minimum, P: BoardProtocol<T>> Actor<T, P> {
     /// A client moves an input's frontier forward. Refused as `Board::advance` says, and then it
     /// looks.
     pub fn try_advance(&mut self, input: NodeId, times: &[T]) -> Result<(), Refusal>
-        requires client { (terms_in self.old.seen).dataflow.workers ≤ self.old.number }
-        requires input { IsInput (terms_in self.old.seen).dataflow input }
+        requires client { (opening_in self.old.seen).dataflow.workers ≤ self.old.number }
+        requires input { IsInput (opening_in self.old.seen).dataflow input }
         ensures { IsDone self.old self.new (Advance self.old.number input times.now)
-            (advance_refusal_in T.below (state_found T.below T.least self.new) input times.now)
-            (IsRefusalBy (advance_refusal_in T.below (state_found T.below T.least self.new)
+            (advance_refusal_in T.times (state_found T.times self.new) input times.now)
+            (IsRefusalBy (advance_refusal_in T.times (state_found T.times self.new)
             input times.now))
             result }
     {
@@ -77,8 +77,8 @@ impl<T: Minimum, P: BoardProtocol<T>> Actor<T, P> {
 
     /// A client closes an input. Refused only with `Busy`. Takes no memory.
     pub fn try_close(&mut self, input: NodeId) -> Result<(), Refusal>
-        requires client { (terms_in self.old.seen).dataflow.workers ≤ self.old.number }
-        requires input { IsInput (terms_in self.old.seen).dataflow input }
+        requires client { (opening_in self.old.seen).dataflow.workers ≤ self.old.number }
+        requires input { IsInput (opening_in self.old.seen).dataflow input }
         ensures { IsDone self.old self.new (Advance self.old.number input []) None (λ refusal. ⊥)
             result }
     {
@@ -93,12 +93,12 @@ impl<T: Minimum, P: BoardProtocol<T>> Actor<T, P> {
     /// Readers of a view give up its past: from then on it may be read only at times beyond these.
     /// Refused as `Board::allow` says, and then it looks.
     pub fn try_allow(&mut self, view: NodeId, times: &[T]) -> Result<(), Refusal>
-        requires client { (terms_in self.old.seen).dataflow.workers ≤ self.old.number }
-        requires within { view < length (terms_in self.old.seen).dataflow.nodes }
-        requires view { IsTrue (is_output (node_of (terms_in self.old.seen).dataflow view)) }
+        requires client { (opening_in self.old.seen).dataflow.workers ≤ self.old.number }
+        requires within { view < length (opening_in self.old.seen).dataflow.nodes }
+        requires view { IsTrue (is_output (node_of (opening_in self.old.seen).dataflow view)) }
         ensures { IsDone self.old self.new (Allow self.old.number view times.now)
-            (allow_refusal_in T.below (state_found T.below T.least self.new) view times.now)
-            (IsRefusalBy (allow_refusal_in T.below (state_found T.below T.least self.new)
+            (allow_refusal_in T.times (state_found T.times self.new) view times.now)
+            (IsRefusalBy (allow_refusal_in T.times (state_found T.times self.new)
             view times.now))
             result }
     {
@@ -112,9 +112,9 @@ impl<T: Minimum, P: BoardProtocol<T>> Actor<T, P> {
 
     /// The frontier of a view. Refused only with `Busy` and `OutOfMemory`.
     pub fn try_frontier(&mut self, view: NodeId) -> Result<Antichain<T>, Refusal>
-        requires within { view < length (terms_in self.old.seen).dataflow.nodes }
+        requires within { view < length (opening_in self.old.seen).dataflow.nodes }
         ensures { IsAnswered self.old self.new
-            (λ found. SameElements found (frontier_found T.below T.least self.old self.new view))
+            (λ found. SameElements found (frontier_found T.times self.old self.new view))
             (λ refusal. refusal ≡ OutOfMemory) result }
     {
         let mut tenure = try_enter(&self.hub, &mut self.pass)?;
@@ -128,11 +128,11 @@ impl<T: Minimum, P: BoardProtocol<T>> Actor<T, P> {
     /// A view's rows at a time: the query, computed from scratch, on the changes fed up to that
     /// time. Refused as `Board::read` says.
     pub fn try_read(&mut self, view: NodeId, t: T) -> Result<Bag, Refusal>
-        requires within { view < length (terms_in self.old.seen).dataflow.nodes }
-        requires view { IsTrue (is_output (node_of (terms_in self.old.seen).dataflow view)) }
+        requires within { view < length (opening_in self.old.seen).dataflow.nodes }
+        requires view { IsTrue (is_output (node_of (opening_in self.old.seen).dataflow view)) }
         ensures { IsAnswered self.old self.new
-            (λ bag. IsRead T.below T.least self.old self.new view t bag)
-            (IsReadRefusalFound T.below T.least self.old self.new view t) result }
+            (λ bag. IsRead T.times self.old self.new view t bag)
+            (IsReadRefusalFound T.times self.old self.new view t) result }
     {
         let mut tenure = try_enter(&self.hub, &mut self.pass)?;
         let board = tenure.state();
@@ -142,13 +142,14 @@ impl<T: Minimum, P: BoardProtocol<T>> Actor<T, P> {
         rows
     }
 
-    /// A view's changes at the times that its frontier has passed. Refused as `Board::changes` says.
+    /// A view's changes at the times that its frontier has passed. Refused as `Board::changes`
+    /// says.
     pub fn try_changes(&mut self, view: NodeId) -> Result<Vec<Update<T>>, Refusal>
-        requires within { view < length (terms_in self.old.seen).dataflow.nodes }
-        requires view { IsTrue (is_output (node_of (terms_in self.old.seen).dataflow view)) }
+        requires within { view < length (opening_in self.old.seen).dataflow.nodes }
+        requires view { IsTrue (is_output (node_of (opening_in self.old.seen).dataflow view)) }
         ensures { IsAnswered self.old self.new
-            (λ us. AreListed T.below T.least self.old self.new T.cmp view us.items)
-            (IsChangesRefusalFound T.below T.least self.old self.new view) result }
+            (λ us. AreListed T.times self.old self.new T.cmp view us.items)
+            (IsChangesRefusalFound T.times self.old self.new view) result }
     {
         let mut tenure = try_enter(&self.hub, &mut self.pass)?;
         let board = tenure.state();
@@ -164,7 +165,7 @@ impl<T: Minimum, P: BoardProtocol<T>> Actor<T, P> {
     /// held time.
     pub fn try_is_quiet(&mut self) -> Result<bool, Refusal>
         ensures { IsAnswered self.old self.new
-            (λ quiet. IsTrue quiet ↔ WasQuiet T.below T.least self.old self.new)
+            (λ quiet. IsTrue quiet ↔ WasQuiet T.times self.old self.new)
             (λ refusal. ⊥) result }
     {
         let mut tenure = try_enter(&self.hub, &mut self.pass)?;
@@ -175,11 +176,11 @@ impl<T: Minimum, P: BoardProtocol<T>> Actor<T, P> {
         Ok(quiet)
     }
 
-    /// Whether a worker told that a number is too large with the changes accepted so far. Refused only
-    /// with `Busy`. Takes no memory.
+    /// Whether a worker told that a number is too large with the changes accepted so far. Refused
+    /// only with `Busy`. Takes no memory.
     pub fn try_is_too_large(&mut self) -> Result<bool, Refusal>
         ensures { IsAnswered self.old self.new
-            (λ large. IsTrue large → WasTooLarge T.below T.least self.old self.new T.cmp)
+            (λ large. IsTrue large → WasTooLarge T.times self.old self.new T.cmp)
             (λ refusal. ⊥) result }
     {
         let mut tenure = try_enter(&self.hub, &mut self.pass)?;

@@ -2,15 +2,15 @@
 //!
 //! A worker asks for those of all its joins and reductions at once. One event moves no frontier
 //! between two of the answers, so all of them hold of one state.
-ghost use Rattle.std.specs.Prelude.{◌≡◌, List, ◌∷◌, IfOk, IfErr, length};
+ghost use Rattle.std.specs.Prelude.{◌≡◌, List, ◌∷◌, IfOk, length};
+ghost use Rattle.update.specs.Refusals.{OnlyMemory};
 ghost use Rattle.hub.specs.declared.view.Entry.{Entry};
 ghost use Rattle.hub.specs.Histories.{entry};
-ghost use Rattle.update.specs.declared.refusal.Refusal.TheVariants.{OutOfMemory};
 ghost use Rattle.histories.specs.declared.event.Event.TheVariants.{Look};
 ghost use Rattle.machine.specs.Boards.Reads.{on_board};
-ghost use Rattle.shared_board.specs.declared.event.Doing.{Doing};
+ghost use Rattle.shared_board.specs.declared.event.BoardEvent.{BoardEvent};
 ghost use Rattle.shared_board.specs.Ports.{AreFrontsOf, AreWithin};
-ghost use Rattle.shared_board.specs.Tenures.{IsKeptBeside, StandsFor, doing, left_by, terms_of_board};
+ghost use Rattle.shared_board.specs.Tenures.{IsKeptBeside, StandsFor, doing, left_by, opening_of_board};
 
 use crate::board::SharedBoard;
 use antichain::Antichain;
@@ -29,17 +29,17 @@ impl<T: Minimum> SharedBoard<T> {
         ports: &[Site],
     ) -> Result<Vec<Antichain<T>>, Refusal>
         requires within { AreWithin self.old.board.dataflow ports.now }
-        ensures terms { terms_of_board self.new ≡ terms_of_board self.old }
+        ensures terms { opening_of_board self.new ≡ opening_of_board self.old }
         ensures beside { IsKeptBeside self.old self.new }
         ensures looked { self.new.board.last ≡ Look actor }
-        ensures stands { (es : List (Entry (Doing T))) → StandsFor T.below T.least T.cmp self.old es
-            → StandsFor T.below T.least T.cmp self.new
-            (entry actor (doing (terms_of_board self.old) self.new.board.last) ∷ es) }
+        ensures stands { (es : List (Entry (BoardEvent T))) → StandsFor T.times T.cmp self.old es
+            → StandsFor T.times T.cmp self.new
+            (entry actor (doing (opening_of_board self.old) self.new.board.last) ∷ es) }
         ensures len { IfOk result (λ fronts. length fronts.items ≡ length ports.now) }
-        ensures found { (es : List (Entry (Doing T))) → StandsFor T.below T.least T.cmp self.old es
-            → IfOk result (λ fronts. AreFrontsOf T.below self.old.board.dataflow
-            (left_by T.below T.least self.old.board.dataflow es) ports.now fronts.items) }
-        ensures refused { IfErr result (λ refusal. refusal ≡ OutOfMemory) }
+        ensures found { (es : List (Entry (BoardEvent T))) → StandsFor T.times T.cmp self.old es
+            → IfOk result (λ fronts. AreFrontsOf T.times self.old.board.dataflow
+            (left_by T.times self.old.board.dataflow es) ports.now fronts.items) }
+        ensures refused { OnlyMemory result }
     {
         self.board.known();
         let found = frontiers_of(&mut self.board, ports);
@@ -56,9 +56,9 @@ fn frontiers_of<T: Minimum>(
     requires within { AreWithin board.old.dataflow ports.now }
     ensures kept { board.new ≡ board.old }
     ensures len { IfOk result (λ fronts. length fronts.items ≡ length ports.now) }
-    ensures found { IfOk result (λ fronts. AreFrontsOf T.below board.old.dataflow
+    ensures found { IfOk result (λ fronts. AreFrontsOf T.times board.old.dataflow
         (on_board board.old) ports.now fronts.items) }
-    ensures refused { IfErr result (λ refusal. refusal ≡ OutOfMemory) }
+    ensures refused { OnlyMemory result }
 {
     let mut fronts = Vec::new(board.allocator());
     for site in ports {

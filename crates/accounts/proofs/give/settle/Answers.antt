@@ -4,7 +4,7 @@ use Rattle.progress.specs.Tallies.{SameCounts}
 use Rattle.progress.specs.declared.place.Place.TheVariants.{Held}
 use Rattle.outstanding.specs.Loads.{Lot, lot_of, put_all}
 use Rattle.outstanding.specs.Stations.{lots}
-use Rattle.outstanding.proofs.PlacingLemmas.{wide_put_all}
+use Rattle.outstanding.proofs.PlacedLemmas.{wide_put_all}
 use Rattle.accounts.specs.Accounts.{items_held_by}
 use Rattle.accounts.proofs.EventLemmas.{held_stays}
 use Rattle.accounts.proofs.give.settle.Goals as goal

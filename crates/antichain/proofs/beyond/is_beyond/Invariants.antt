@@ -5,5 +5,5 @@ use Rattle.antichain.proofs.beyond.is_beyond.Given as goal
 -- none of the elements so far is at or before the time
 abbrev pub invariant-loop-f : goal.invariant-loop-f
 invariant-loop-f g l =
-    let below = g.T.PartialOrder.below in
-    is_beyond below (drop l.f-index l.frontier) l.t ≡ is_beyond below l.frontier l.t
+    let times = g.T.PartialOrder.times in
+    is_beyond times (drop l.f-index l.frontier) l.t ≡ is_beyond times l.frontier l.t

@@ -4,4 +4,4 @@ use Rattle.antichain.proofs.edits.remove_above.Goals as goal
 
 pub returns-clause-rest : goal.returns-clause-rest
 returns-clause-rest g c =
-    filter-from_retain _ (λ e. not (g.T.PartialOrder.below c.args.t e)) _ (λ x b f y r. search rules) _ _ c.retain.ensures.filtered
+    filter-from_retain _ (λ e. not (g.T.PartialOrder.times.below c.args.t e)) _ (λ x b f y r. search rules) _ _ c.retain.ensures.filtered

@@ -6,8 +6,8 @@ use Rattle.antichain.proofs.frontier.insert_joins.Given as goal
 -- times still to come
 abbrev pub invariant-loop-g : goal.invariant-loop-g
 invariant-loop-g g l =
-    let below = g.T.PartialOrder.below in
+    let times = g.T.PartialOrder.times in
     record {
-      beyond : (t : g.row.T.Denot) → (is_beyond below l.both t || (below l.f t && is_beyond below (drop l.g-index l.others) t)) ≡ (is_beyond below l.initial.both t || (below l.f t && is_beyond below l.others t));
+      beyond : (t : g.row.T.Denot) → (is_beyond times l.both t || (times.below l.f t && is_beyond times (drop l.g-index l.others) t)) ≡ (is_beyond times l.initial.both t || (times.below l.f t && is_beyond times l.others t));
       few : length l.both ≤ length l.initial.both + l.g-index;
     }

@@ -5,5 +5,5 @@ use Rattle.batch.proofs.builder.are_between.Given as goal
 -- the updates so far are between the frontiers
 abbrev pub invariant-loop-update : goal.invariant-loop-update
 invariant-loop-update g l =
-    let below = g.T.PartialOrder.below in
-    all_between below l.lower l.upper (drop l.update-index l.updates) ≡ all_between below l.lower l.upper l.updates
+    let times = g.T.PartialOrder.times in
+    all_between times l.lower l.upper (drop l.update-index l.updates) ≡ all_between times l.lower l.upper l.updates

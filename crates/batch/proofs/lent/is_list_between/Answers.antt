@@ -7,7 +7,7 @@ use Rattle.batch.proofs.lent.is_list_between.Goals as goal
 
 pub loop-i-preserved : goal.loop-i-preserved
 loop-i-preserved g c =
-    let p : g.row.T.Denot → Bool = is_between g.T.PartialOrder.below c.args.lower.now c.args.upper.now in
+    let p : g.row.T.Denot → Bool = is_between g.T.PartialOrder.times c.args.lower.now c.args.upper.now in
     let us = c.args.list.now in
     let i = c.loop-i.i in
     let next : suc i ≡ i + 1 = omega arith in
@@ -16,7 +16,7 @@ loop-i-preserved g c =
 
 pub returns-then-not-lies_between : goal.returns-then-not-lies_between
 returns-then-not-lies_between g c =
-    let p : g.row.T.Denot → Bool = is_between g.T.PartialOrder.below c.args.lower.now c.args.upper.now in
+    let p : g.row.T.Denot → Bool = is_between g.T.PartialOrder.times c.args.lower.now c.args.upper.now in
     let us = c.args.list.now in
     let i = c.loop-i.i in
     let rest : ℕ → Bool = λ n. list_all (λ (u : Update g.row.T.Denot). p u.time) (drop n us) in

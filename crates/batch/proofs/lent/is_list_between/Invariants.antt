@@ -5,5 +5,5 @@ use Rattle.batch.proofs.lent.is_list_between.Given as goal
 -- the updates so far are between the frontiers
 abbrev pub invariant-loop-i : goal.invariant-loop-i
 invariant-loop-i g l =
-    let below = g.T.PartialOrder.below in
-    all_between below l.lower l.upper (drop l.i l.list) ≡ all_between below l.lower l.upper l.list
+    let times = g.T.PartialOrder.times in
+    all_between times l.lower l.upper (drop l.i l.list) ≡ all_between times l.lower l.upper l.list

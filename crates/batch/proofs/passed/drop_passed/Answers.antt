@@ -5,4 +5,4 @@ use Rattle.batch.proofs.passed.drop_passed.Goals as goal
 
 pub returns : goal.returns
 returns g c =
-    filter_same _ (λ u. is_beyond g.T.PartialOrder.below c.args.upper.now u.time) _ (λ x b f r. search rules) _ _ c.retain.ensures.filtered
+    filter_same _ (λ u. is_beyond g.T.PartialOrder.times c.args.upper.now u.time) _ (λ x b f r. search rules) _ _ c.retain.ensures.filtered

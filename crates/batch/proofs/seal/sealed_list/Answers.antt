@@ -36,7 +36,7 @@ returns-clause-size g c =
 
 pub returns-clause-overflow : goal.returns-clause-overflow
 returns-clause-overflow g c =
-    let moved = moved_large _ _ c.sort_by_row.ensures.moved g.T.PartialOrder.below in (
+    let moved = moved_large _ _ c.sort_by_row.ensures.moved g.T.PartialOrder.times in (
       λ e. moved.1 (c.consolidate_grouped.ensures.overflow.0 e),
       λ l. c.consolidate_grouped.ensures.overflow.1 (moved.0 l),
     )

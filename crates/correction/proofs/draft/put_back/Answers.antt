@@ -6,5 +6,5 @@ loop-update-init g c = appends_none c.args.time c.args.out.now.items
 
 pub loop-update-preserved : goal.loop-update-preserved
 loop-update-preserved g c =
-    given_more c.args.time g.T.PartialOrder.below c.args.out.now.items c.loop-update.out.items c.put_back_one.new.out.items c.args.given.now c.loop-update.update-index c.update-item.result
+    given_more c.args.time g.T.PartialOrder.times c.args.out.now.items c.loop-update.out.items c.put_back_one.new.out.items c.args.given.now c.loop-update.update-index c.update-item.result
     c.loop-update-test.true c.update-item.is c.loop-update.invariant c.in_ok-put_back_one.ensures.put

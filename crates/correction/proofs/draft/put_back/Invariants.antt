@@ -6,4 +6,4 @@ use Rattle.correction.proofs.draft.put_back.Given as goal
 
 -- the updates so far were taken back
 abbrev pub invariant-loop-update : goal.invariant-loop-update
-invariant-loop-update g l = Appends l.time l.fn.out.items l.out.items (map negated_entry (as_of g.T.PartialOrder.below l.time (take l.update-index l.given)))
+invariant-loop-update g l = Appends l.time l.fn.out.items l.out.items (map negated_entry (as_of g.T.PartialOrder.times l.time (take l.update-index l.given)))

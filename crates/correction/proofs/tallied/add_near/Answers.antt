@@ -12,7 +12,7 @@ pub loop-update-preserved : goal.loop-update-preserved
 loop-update-preserved g c =
     let added = c.in_ok-add_seen.ensures.added in
     record {
-      added = update_more g.T.PartialOrder.below c.args.time c.args.base.now c.loop-update.base c.add_seen.new.base c.args.near.now c.loop-update.update-index c.update-item.result
+      added = update_more g.T.PartialOrder.times c.args.time c.args.base.now c.loop-update.base c.add_seen.new.base c.args.near.now c.loop-update.update-index c.update-item.result
           c.loop-update-test.true c.update-item.is c.loop-update.invariant.added (added c.if-not-branch.false);
       undone_is = c.add_seen.ensures.undone ∙ c.loop-update.invariant.undone_is;
       among = λ p all. c.add_seen.ensures.among p (c.loop-update.invariant.among p all);

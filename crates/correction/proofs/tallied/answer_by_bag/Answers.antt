@@ -12,7 +12,7 @@ returns-in_err-rows-clause-refused g c =
 
 pub reduce-requires-clause-keyed : goal.reduce-requires-clause-keyed
 reduce-requires-clause-keyed g c =
-    whole_keyed g.T.PartialOrder.below (length c.args.key.now) c.args.key.now c.args.time c.args.base.now c.args.near.now c.in_ok-rows.rows
+    whole_keyed g.T.PartialOrder.times (length c.args.key.now) c.args.key.now c.args.time c.args.base.now c.args.near.now c.in_ok-rows.rows
     c.in_ok-rows.ensures.bag c.in_ok-rows.ensures.sum c.requires.keyed c.requires.near
 
 pub returns-clause-answer : goal.returns-clause-answer
@@ -30,4 +30,4 @@ returns-clause-answer g c =
 pub returns-in_err-answer-clause-refused : goal.returns-in_err-answer-clause-refused
 returns-in_err-answer-clause-refused g c =
     passed_on c.from_residual-in_err-answer.result c.in_err-answer.field-0.0 _ c.from_residual-in_err-answer.ensures.1
-    (⊎_elim inl (λ h. inr (h.0, inr (large_sum_alike c.in_ok-rows.rows (c.args.base.now ++ as_of g.T.PartialOrder.below c.args.time c.args.near.now) c.in_ok-rows.ensures.sum h.1))) c.in_err-answer.ensures.refused)
+    (⊎_elim inl (λ h. inr (h.0, inr (large_sum_alike c.in_ok-rows.rows (c.args.base.now ++ as_of g.T.PartialOrder.times c.args.time c.args.near.now) c.in_ok-rows.ensures.sum h.1))) c.in_err-answer.ensures.refused)

@@ -26,4 +26,4 @@ pub returns-in_err-answer-clause-refused : goal.returns-in_err-answer-clause-ref
 returns-in_err-answer-clause-refused g c =
     let added = c.in_ok-add_near.ensures.added c.if-not-branch.false in
     passed_on c.from_residual-in_err-answer.result c.in_err-answer.field-0.0 _ c.from_residual-in_err-answer.ensures.1
-    (⊎_elim inl (λ h. inr (h.0, large_sum_alike c.add_near.new.base (c.args.base.now ++ as_of g.T.PartialOrder.below c.args.time c.args.near.now) added h.1)) c.in_err-answer.ensures.refused)
+    (⊎_elim inl (λ h. inr (h.0, large_sum_alike c.add_near.new.base (c.args.base.now ++ as_of g.T.PartialOrder.times c.args.time c.args.near.now) added h.1)) c.in_err-answer.ensures.refused)

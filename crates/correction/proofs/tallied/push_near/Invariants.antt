@@ -4,4 +4,4 @@ use Rattle.correction.proofs.tallied.push_near.Given as goal
 
 -- the sum so far
 abbrev pub invariant-loop-update : goal.invariant-loop-update
-invariant-loop-update g l = l.entries ≡ l.initial.entries ++ as_of g.T.PartialOrder.below l.time (take l.update-index l.near)
+invariant-loop-update g l = l.entries ≡ l.initial.entries ++ as_of g.T.PartialOrder.times l.time (take l.update-index l.near)

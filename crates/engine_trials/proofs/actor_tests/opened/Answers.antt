@@ -2,7 +2,7 @@ use Rattle.std.proofs.Common.{◌≡◌, ◌∙◌, ◌∷◌, ◌++◌, [], suc
 use Rattle.std.specs.Prelude.{option_to_list, slice_get}
 use Rattle.plan.specs.declared.node.Node.{Node}
 use Rattle.plan.specs.declared.node.Node.TheVariants.{Input, Output}
-use Rattle.shared_board.specs.Tenures.{IsFirst, terms_for, terms_in}
+use Rattle.shared_board.specs.Tenures.{IsFirst, opening_for, opening_in}
 use Rattle.engine_trials.proofs.actor_tests.opened.Goals as goal
 
 -- a list of two, from its end
@@ -22,8 +22,8 @@ invariant_of-result g c =
     let e : c.in_ok-actors.actors.items ≡ c.pop.new.self.items ++ c.unwrap-client.result ∷ [] = c.pop.ensures.items ∙ ap (λ o. c.pop.new.self.items ++ option_to_list o) c.unwrap-client.ensures in
     let f : c.pop.new.self.items ≡ c.pop-2.new.self.items ++ c.unwrap-worker.result ∷ [] = c.pop-2.ensures.items ∙ ap (λ o. c.pop-2.new.self.items ++ option_to_list o) c.unwrap-worker.ensures in
     let there = two_of _ _ _ c.unwrap-worker.result c.unwrap-client.result e f c.in_ok-actors.ensures.count in
-    let first = subst (λ (p : List Node). IsFirst (terms_for p 1 1) 0 c.unwrap-worker.result) c.in_ok-viewed.ensures (c.in_ok-actors.ensures.each 0 c.unwrap-worker.result there.0) in
-    (first.numbered, ap terms_in first.seen, c.looks_take_nothing_in_hand.ensures.first (terms_for (Input 1 ∷ Output 0 ∷ []) 1 1) 0 c.unwrap-worker.result first c.known.ensures)
+    let first = subst (λ (p : List Node). IsFirst (opening_for p 1 1) 0 c.unwrap-worker.result) c.in_ok-viewed.ensures (c.in_ok-actors.ensures.each 0 c.unwrap-worker.result there.0) in
+    (first.numbered, ap opening_in first.seen, c.looks_take_nothing_in_hand.ensures.first (opening_for (Input 1 ∷ Output 0 ∷ []) 1 1) 0 c.unwrap-worker.result first c.known.ensures)
 
 -- the client is the second
 pub invariant_of-result-2 : goal.invariant_of-result-2
@@ -31,5 +31,5 @@ invariant_of-result-2 g c =
     let e : c.in_ok-actors.actors.items ≡ c.pop.new.self.items ++ c.unwrap-client.result ∷ [] = c.pop.ensures.items ∙ ap (λ o. c.pop.new.self.items ++ option_to_list o) c.unwrap-client.ensures in
     let f : c.pop.new.self.items ≡ c.pop-2.new.self.items ++ c.unwrap-worker.result ∷ [] = c.pop-2.ensures.items ∙ ap (λ o. c.pop-2.new.self.items ++ option_to_list o) c.unwrap-worker.ensures in
     let there = two_of _ _ _ c.unwrap-worker.result c.unwrap-client.result e f c.in_ok-actors.ensures.count in
-    let first = subst (λ (p : List Node). IsFirst (terms_for p 1 1) 1 c.unwrap-client.result) c.in_ok-viewed.ensures (c.in_ok-actors.ensures.each 1 c.unwrap-client.result there.1) in
-    record { number = first.numbered; knows = ap terms_in first.seen }
+    let first = subst (λ (p : List Node). IsFirst (opening_for p 1 1) 1 c.unwrap-client.result) c.in_ok-viewed.ensures (c.in_ok-actors.ensures.each 1 c.unwrap-client.result there.1) in
+    record { number = first.numbered; knows = ap opening_in first.seen }

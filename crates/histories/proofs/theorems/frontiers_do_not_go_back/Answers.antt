@@ -5,7 +5,7 @@ pub returns : goal.returns
 returns g c =
     let order = g.met.T.PartialOrder.order in
     record {
-      frontiers = λ p q. frontiers_lem _ _ order p q;
-      inputs = λ p q. inputs_lem _ _ order p q;
-      ports = λ p q. ports_lem _ _ order p q;
+      frontiers = λ p q. frontiers_lem g.T.PartialOrder.times order p q;
+      inputs = λ p q. inputs_lem g.T.PartialOrder.times order p q;
+      ports = λ p q. ports_lem g.T.PartialOrder.times order p q;
     }

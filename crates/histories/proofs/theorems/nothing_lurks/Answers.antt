@@ -5,6 +5,6 @@ pub returns : goal.returns
 returns g c =
     let order = g.met.T.PartialOrder.order in
     record {
-      frontiers = λ p q h l n. lurks _ _ order p q h l n;
-      inputs = λ p q. lurks_later _ _ order p q;
+      frontiers = λ p q h l n. lurks g.T.PartialOrder.times order p q h l n;
+      inputs = λ p q. lurks_later g.T.PartialOrder.times order p q;
     }

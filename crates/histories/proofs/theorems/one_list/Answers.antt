@@ -3,6 +3,6 @@ use Rattle.histories.proofs.theorems.one_list.Goals as goal
 
 pub returns : goal.returns
 returns g c = record {
-  differences = λ p q h l n. differences_lem _ _ g.met.T.PartialOrder.order p q h l n _;
-  agree = agree_lem _ _ g.met.T.PartialOrder.order;
+  differences = λ p q h l n. differences_lem g.T.PartialOrder.times g.met.T.PartialOrder.order p q h l n _;
+  agree = agree_lem g.T.PartialOrder.times g.met.T.PartialOrder.order;
 }

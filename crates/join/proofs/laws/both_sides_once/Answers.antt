@@ -3,8 +3,8 @@ use Rattle.join.proofs.laws.both_sides_once.Goals as goal
 
 pub returns : goal.returns
 returns g c =
-    let joined = g.T.Lattice.joined in
+    let times = g.T.PartialOrder.times in
     record {
-      left_first = λ p k. left_first joined k p;
-      right_first = λ p k. right_first joined k p;
+      left_first = λ p k. left_first times k p;
+      right_first = λ p k. right_first times k p;
     }

@@ -4,11 +4,10 @@ use Rattle.join.proofs.laws.compacted_sides_do_not_matter.Goals as goal
 
 pub returns : goal.returns
 returns g c =
-    let below = g.T.PartialOrder.below in
+    let times = g.T.PartialOrder.times in
     let order = g.met.T.PartialOrder.order in
-    let joined = g.T.Lattice.joined in
     let tested = join_below order g.met.T.Lattice.bounds in
     record {
-      right = right_compacted below joined tested order;
-      left = left_compacted below joined tested order;
+      right = right_compacted times tested order;
+      left = left_compacted times tested order;
     }

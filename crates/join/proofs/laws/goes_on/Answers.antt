@@ -8,14 +8,13 @@ use Rattle.join.proofs.laws.goes_on.Goals as goal
 
 pub returns : goal.returns
 returns g c =
-    let below = g.T.PartialOrder.below in
-    let joined = g.T.Lattice.joined in
+    let times = g.T.PartialOrder.times in
     let tested = join_below g.met.T.PartialOrder.order g.met.T.Lattice.bounds in
     record {
       left = λ k l r received after us emitted first second t before row.
-          left_goes_on below joined tested k us (received 0) (received 1) emitted t before row
-          ∙ sym (λ i. count_of (join_output k (as_of below t (first i)) (as_of below t (second i))) row);
+          left_goes_on times tested k us (received 0) (received 1) emitted t before row
+          ∙ sym (λ i. count_of (join_output k (as_of times t (first i)) (as_of times t (second i))) row);
       right = λ k l r received after vs emitted first second t before row.
-          right_goes_on below joined tested k (received 0) vs (received 1) emitted t before row
-          ∙ sym (λ i. count_of (join_output k (as_of below t (first i)) (as_of below t (second i))) row);
+          right_goes_on times tested k (received 0) vs (received 1) emitted t before row
+          ∙ sym (λ i. count_of (join_output k (as_of times t (first i)) (as_of times t (second i))) row);
     }

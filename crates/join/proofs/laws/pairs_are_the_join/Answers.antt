@@ -4,10 +4,9 @@ use Rattle.join.proofs.laws.pairs_are_the_join.Goals as goal
 
 pub returns : goal.returns
 returns g c =
-    let below = g.T.PartialOrder.below in
-    let joined = g.T.Lattice.joined in
+    let times = g.T.PartialOrder.times in
     let tested = join_below g.met.T.PartialOrder.order g.met.T.Lattice.bounds in
     record {
-      sums = λ k us vs t. pairs_at below joined tested k t us vs;
-      size = size_pairs joined;
+      sums = λ k us vs t. pairs_at times tested k t us vs;
+      size = size_pairs times;
     }

@@ -3,9 +3,9 @@ use Rattle.join.proofs.laws.pieces_pair_up.Goals as goal
 
 pub returns : goal.returns
 returns g c =
-    let joined = g.T.Lattice.joined in
+    let times = g.T.PartialOrder.times in
     record {
-      pieces = λ p k. total_pairs-both joined k p;
-      left_order = λ p k. total_pairs-left_order joined k p;
-      right_order = λ p k. total_pairs-right_order joined k p;
+      pieces = λ p k. total_pairs-both times k p;
+      left_order = λ p k. total_pairs-left_order times k p;
+      right_order = λ p k. total_pairs-right_order times k p;
     }

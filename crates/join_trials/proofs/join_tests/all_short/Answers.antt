@@ -1,6 +1,6 @@
 use Rattle.std.proofs.Common.{length, nat_le, rules, IsTrue}
 use Rattle.std.specs.List.{list_all}
-use Rattle.join.proofs.FormingLemmas.{item_at}
+use Rattle.join.proofs.FormedLemmas.{item_at}
 use Rattle.join_trials.proofs.ReadyLemmas.{taken_batch}
 use Rattle.join_trials.proofs.join_tests.all_short.Goals as goal
 

@@ -6,4 +6,4 @@ use Rattle.join_trials.proofs.join_tests.are_ready.Given as goal
 
 abbrev pub invariant-loop-i : goal.invariant-loop-i
 invariant-loop-i g l =
-    IsTrue (list_all (λ u. is_beyond g.B.Time.PartialOrder.below l.since u.time && (is_wide l.k u.row && nat_le (length u.row) 4)) (take l.i (g.B.BatchReader.content l.batch)))
+    IsTrue (list_all (λ u. is_beyond g.B.Time.PartialOrder.times l.since u.time && (is_wide l.k u.row && nat_le (length u.row) 4)) (take l.i (g.B.BatchReader.content l.batch)))

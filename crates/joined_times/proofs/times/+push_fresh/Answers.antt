@@ -1,10 +1,10 @@
 use Rattle.std.proofs.Common.{◌/◌, length, arith}
-use Rattle.joined_times.proofs.AddingLemmas.{appends_none, appends_one, appends_slices}
+use Rattle.joined_times.proofs.AdditionLemmas.{appends_none, appends_one, appends_slices}
 use Rattle.joined_times.proofs.times.+push_fresh.Goals as goal
 
 pub returns-in-empty-clause-appended : goal.returns-in-empty-clause-appended
 returns-in-empty-clause-appended g t c =
-    appends_none g.T.Lattice.joined c.args.new.now c.args.near.now c.args.fresh.now.items (omega arith)
+    appends_none g.T.PartialOrder.times c.args.new.now c.args.near.now c.args.fresh.now.items (omega arith)
 
 pub returns-in_ok-push_joins-in-len1-clause-appended : goal.returns-in_ok-push_joins-in-len1-clause-appended
 returns-in_ok-push_joins-in-len1-clause-appended g t c =

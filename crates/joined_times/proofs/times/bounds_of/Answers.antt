@@ -1,4 +1,4 @@
-use Rattle.joined_times.proofs.AddingLemmas.{between_more}
+use Rattle.joined_times.proofs.AdditionLemmas.{between_more}
 use Rattle.joined_times.proofs.times.bounds_of.Goals as goal
 
 pub loop-t-preserved : goal.loop-t-preserved

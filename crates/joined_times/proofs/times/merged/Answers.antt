@@ -1,5 +1,5 @@
 use Rattle.std.proofs.Common.{[]}
-use Rattle.joined_times.specs.Adding.{IsMerging}
+use Rattle.joined_times.specs.Additions.{IsMerging}
 use Rattle.joined_times.proofs.OrderLemmas.{ends, merged_ascending, merged_members}
 use Rattle.joined_times.proofs.times.merged.Given.{Over}
 use Rattle.joined_times.proofs.times.merged.Goals as goal

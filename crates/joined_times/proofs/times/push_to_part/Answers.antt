@@ -1,5 +1,5 @@
 use Rattle.std.proofs.Common.{IsTrue, sym, ◌∙◌}
-use Rattle.joined_times.proofs.AddingLemmas.{pushed_within, pushed_beyond, pushed_late}
+use Rattle.joined_times.proofs.AdditionLemmas.{pushed_within, pushed_beyond, pushed_late}
 use Rattle.joined_times.proofs.times.push_to_part.Goals as goal
 
 pub returns-in_ok-push_unless_last-clause-members : goal.returns-in_ok-push_unless_last-clause-members
@@ -8,7 +8,7 @@ returns-in_ok-push_unless_last-clause-members g c s =
 
 pub returns-in_ok-push_unless_last-clause-beyond : goal.returns-in_ok-push_unless_last-clause-beyond
 returns-in_ok-push_unless_last-clause-beyond g c =
-    pushed_late (λ r. IsTrue (g.T.PartialOrder.below c.args.join r)) c.args.t c.args.beyond.now.items c.push_unless_last.new.times.items c.in_ok-push_unless_last.ensures.appended
+    pushed_late (λ r. IsTrue (g.T.PartialOrder.times.below c.args.join r)) c.args.t c.args.beyond.now.items c.push_unless_last.new.times.items c.in_ok-push_unless_last.ensures.appended
     (sym c.less_equal.ensures ∙ c.if-less_equal.true)
 
 pub returns-in_ok-push_unless_last-2-clause-members : goal.returns-in_ok-push_unless_last-2-clause-members

@@ -1,5 +1,5 @@
 use Rattle.std.proofs.Common.{◌≤◌, ◌+◌, ◌-◌, length, drop}
-use Rattle.joined_times.specs.Adding.{IsMerging}
+use Rattle.joined_times.specs.Additions.{IsMerging}
 use Rattle.joined_times.proofs.times.take_from_both.Given as goal
 
 abbrev pub invariant-loop-at : goal.invariant-loop-at

@@ -15,7 +15,7 @@ loop-i-preserved g c =
     let end = c.len-i-end.ensures in
     let within : i < length us = omega (arith, test, end) in
     let more = taken_more us i u within c.copy-time.ensures in
-    let f = representative_of g.T.Lattice.joined g.T.Lattice.met c.args.since.now in
+    let f = representative_of g.T.PartialOrder.times c.args.since.now in
     let fits : FitsSigned w64 u.diff = search rules in
     record {
       moved =

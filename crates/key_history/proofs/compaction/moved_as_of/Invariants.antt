@@ -6,6 +6,6 @@ use Rattle.key_history.proofs.compaction.moved_as_of.Given as goal
 
 abbrev pub invariant-loop-i : goal.invariant-loop-i
 invariant-loop-i g l = record {
-  moved : l.out.items ≡ retimed (representative_of g.T.Lattice.joined g.T.Lattice.met l.since) (take l.i l.updates);
+  moved : l.out.items ≡ retimed (representative_of g.T.PartialOrder.times l.since) (take l.i l.updates);
   place : l.place ≡ columns_before l.i l.updates;
 }

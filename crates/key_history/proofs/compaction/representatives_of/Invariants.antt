@@ -3,4 +3,4 @@ use Rattle.lattice.specs.Representatives.{representative_of}
 use Rattle.key_history.proofs.compaction.representatives_of.Given as goal
 
 abbrev pub invariant-loop-time : goal.invariant-loop-time
-invariant-loop-time g l = l.out.items ≡ map (representative_of g.T.Lattice.joined g.T.Lattice.met l.since) (take l.time-index l.times)
+invariant-loop-time g l = l.out.items ≡ map (representative_of g.T.PartialOrder.times l.since) (take l.time-index l.times)

@@ -15,7 +15,7 @@ returns-in_err-answer-clause-refused g c =
     (⊎_elim inl (λ y. inr (
       y.0,
       λ content rows is same. too_large g.met.T.PartialOrder.order (length key) key c.args.time (g.R.Reducer.reduces c.args.reducer.now) content s.had.near.items rows is
-          (too_large_alike (s.base ++ as_of g.T.PartialOrder.below c.args.time s.rows.near.items) (as_of g.T.PartialOrder.below c.args.time rows) same y.1),
+          (too_large_alike (s.base ++ as_of g.T.PartialOrder.times c.args.time s.rows.near.items) (as_of g.T.PartialOrder.times c.args.time rows) same y.1),
     )) refused)
 
 pub returns-clause-corrects : goal.returns-clause-corrects

@@ -7,6 +7,6 @@ use Rattle.key_history.proofs.sweep.meets_of.Given as goal
 abbrev pub invariant-loop-i : goal.invariant-loop-i
 invariant-loop-i g l = record {
   as_many : length l.meets.items ≡ length l.times;
-  before : (j : ℕ) (s d : g.row.T.Denot) → l.i ≤ j → j < length l.times → Member s (drop j l.times) → IsTrue (g.T.PartialOrder.below (get_or l.meets.items j d) s);
+  before : (j : ℕ) (s d : g.row.T.Denot) → l.i ≤ j → j < length l.times → Member s (drop j l.times) → IsTrue (g.T.PartialOrder.times.below (get_or l.meets.items j d) s);
   others : (j : ℕ) (d : g.row.T.Denot) → j < l.i → get_or l.meets.items j d ≡ get_or l.times j d;
 }

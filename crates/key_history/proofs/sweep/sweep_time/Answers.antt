@@ -14,7 +14,7 @@ correct_here-requires-clause-base g c =
     let k = length h.key in
     let given = h.given ++ c.args.sweep.now.given.items in
     let rest = drop 1 c.args.todo.now in
-    let led = subst (λ z. IsLed g.T.PartialOrder.below g.T.Ord.cmp c.args.time z c.args.rows.now given c.lead.new.sweep) c.requires.first
+    let led = subst (λ z. IsLed g.T.PartialOrder.times g.T.Ord.cmp c.args.time z c.args.rows.now given c.lead.new.sweep) c.requires.first
     (c.in_ok-lead.ensures.led c.args.todo.now c.args.rows.now given (subst (Member c.args.time) (sym c.requires.first) (inl refl)) c.requires.meet c.requires.passes) in
     rw (c.columns-key.ensures.columns, c.key.ensures)
     (base_own g.met.T.PartialOrder.order k (g.R.Reducer.reduces c.args.reducer.now) h.key c.args.time rest c.args.rows.now given c.lead.new.sweep led c.requires.rows (both_own k h.key h.given c.args.sweep.now.given.items c.requires.given c.requires.settled))
@@ -25,7 +25,7 @@ correct_here-requires-clause-rows g c =
     let k = length h.key in
     let given = h.given ++ c.args.sweep.now.given.items in
     let rest = drop 1 c.args.todo.now in
-    let led = subst (λ z. IsLed g.T.PartialOrder.below g.T.Ord.cmp c.args.time z c.args.rows.now given c.lead.new.sweep) c.requires.first
+    let led = subst (λ z. IsLed g.T.PartialOrder.times g.T.Ord.cmp c.args.time z c.args.rows.now given c.lead.new.sweep) c.requires.first
     (c.in_ok-lead.ensures.led c.args.todo.now c.args.rows.now given (subst (Member c.args.time) (sym c.requires.first) (inl refl)) c.requires.meet c.requires.passes) in
     rw (c.columns-key.ensures.columns, c.key.ensures)
     (near_own g.met.T.PartialOrder.order k (g.R.Reducer.reduces c.args.reducer.now) h.key c.args.time rest c.args.rows.now given c.lead.new.sweep led c.requires.rows (both_own k h.key h.given c.args.sweep.now.given.items c.requires.given c.requires.settled))
@@ -36,7 +36,7 @@ correct_here-requires-clause-had g c =
     let k = length h.key in
     let given = h.given ++ c.args.sweep.now.given.items in
     let rest = drop 1 c.args.todo.now in
-    let led = subst (λ z. IsLed g.T.PartialOrder.below g.T.Ord.cmp c.args.time z c.args.rows.now given c.lead.new.sweep) c.requires.first
+    let led = subst (λ z. IsLed g.T.PartialOrder.times g.T.Ord.cmp c.args.time z c.args.rows.now given c.lead.new.sweep) c.requires.first
     (c.in_ok-lead.ensures.led c.args.todo.now c.args.rows.now given (subst (Member c.args.time) (sym c.requires.first) (inl refl)) c.requires.meet c.requires.passes) in
     rw (c.columns-key.ensures.columns, c.key.ensures)
     (had_own g.met.T.PartialOrder.order k (g.R.Reducer.reduces c.args.reducer.now) h.key c.args.time rest c.args.rows.now given c.lead.new.sweep led c.requires.rows (both_own k h.key h.given c.args.sweep.now.given.items c.requires.given c.requires.settled))
@@ -47,7 +47,7 @@ correct_here-requires-clause-last g c =
     let k = length h.key in
     let given = h.given ++ c.args.sweep.now.given.items in
     let rest = drop 1 c.args.todo.now in
-    let led = subst (λ z. IsLed g.T.PartialOrder.below g.T.Ord.cmp c.args.time z c.args.rows.now given c.lead.new.sweep) c.requires.first
+    let led = subst (λ z. IsLed g.T.PartialOrder.times g.T.Ord.cmp c.args.time z c.args.rows.now given c.lead.new.sweep) c.requires.first
     (c.in_ok-lead.ensures.led c.args.todo.now c.args.rows.now given (subst (Member c.args.time) (sym c.requires.first) (inl refl)) c.requires.meet c.requires.passes) in
     last_here g.met.T.PartialOrder.order k (g.R.Reducer.reduces c.args.reducer.now) h.key c.args.time rest c.args.rows.now given c.lead.new.sweep led c.requires.rows (both_own k h.key h.given c.args.sweep.now.given.items c.requires.given c.requires.settled)
 
@@ -57,7 +57,7 @@ returns-in_err-more-clause-refused g c =
     let k = length h.key in
     let given = h.given ++ c.args.sweep.now.given.items in
     let rest = drop 1 c.args.todo.now in
-    let led = subst (λ z. IsLed g.T.PartialOrder.below g.T.Ord.cmp c.args.time z c.args.rows.now given c.lead.new.sweep) c.requires.first
+    let led = subst (λ z. IsLed g.T.PartialOrder.times g.T.Ord.cmp c.args.time z c.args.rows.now given c.lead.new.sweep) c.requires.first
     (c.in_ok-lead.ensures.led c.args.todo.now c.args.rows.now given (subst (Member c.args.time) (sym c.requires.first) (inl refl)) c.requires.meet c.requires.passes) in
     let refused = rw (c.columns-key.ensures.columns, c.key.ensures) at c.in_err-more.ensures.refused in
     passed_on c.from_residual-in_err-more.result c.in_err-more.field-0.0 _ c.from_residual-in_err-more.ensures.1
@@ -75,7 +75,7 @@ returns-clause-steps g c content rows =
     let k = length h.key in
     let given = h.given ++ c.args.sweep.now.given.items in
     let rest = drop 1 c.args.todo.now in
-    let led = subst (λ z. IsLed g.T.PartialOrder.below g.T.Ord.cmp c.args.time z c.args.rows.now given c.lead.new.sweep) c.requires.first
+    let led = subst (λ z. IsLed g.T.PartialOrder.times g.T.Ord.cmp c.args.time z c.args.rows.now given c.lead.new.sweep) c.requires.first
     (c.in_ok-lead.ensures.led c.args.todo.now c.args.rows.now given (subst (Member c.args.time) (sym c.requires.first) (inl refl)) c.requires.meet c.requires.passes) in
     let more = c.in_ok-more.field-0.given.items in
     let corrects = rw (c.columns-key.ensures.columns, c.key.ensures) at c.in_ok-more.ensures.corrects in
@@ -96,13 +96,13 @@ returns-clause-passes g c =
     let k = length h.key in
     let given = h.given ++ c.args.sweep.now.given.items in
     let rest = drop 1 c.args.todo.now in
-    let led = subst (λ z. IsLed g.T.PartialOrder.below g.T.Ord.cmp c.args.time z c.args.rows.now given c.lead.new.sweep) c.requires.first
+    let led = subst (λ z. IsLed g.T.PartialOrder.times g.T.Ord.cmp c.args.time z c.args.rows.now given c.lead.new.sweep) c.requires.first
     (c.in_ok-lead.ensures.led c.args.todo.now c.args.rows.now given (subst (Member c.args.time) (sym c.requires.first) (inl refl)) c.requires.meet c.requires.passes) in
     let more = c.in_ok-more.field-0.given.items in
     let same = c.correct_here.ensures.same in
     let s = c.correct_here.new.sweep in
     let s2 : Sweep g.row.T.Denot = record { given = c.append.new.self; due = s.due; last = Some c.in_ok-more.field-0.evaluation; base = s.base; rows = s.rows; had = c.push_copies.new.self } in
-    subst (λ z. IsSweep g.T.PartialOrder.below g.T.Ord.cmp rest c.args.rows.now z s2)
+    subst (λ z. IsSweep g.T.PartialOrder.times g.T.Ord.cmp rest c.args.rows.now z s2)
     (append_assoc h.given c.args.sweep.now.given.items more ∙ ap (λ z. h.given ++ z) (sym (c.in_ok-append.ensures.items ∙ (ap (λ s. s.given.items ++ more) same ∙ ap (λ v. v.items ++ more) c.lead.ensures.given))))
     (passed g.met.T.PartialOrder.order k (g.R.Reducer.reduces c.args.reducer.now) h.key c.args.time rest c.args.rows.now given c.lead.new.sweep led c.requires.rows (both_own k h.key h.given c.args.sweep.now.given.items c.requires.given c.requires.settled)
     more c.in_ok-more.field-0.evaluation s2 c.in_ok-more.ensures.time c.in_ok-more.ensures.evaluation refl (ap (λ s. s.base) same) (ap (λ s. s.rows) same)

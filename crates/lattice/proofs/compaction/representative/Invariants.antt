@@ -6,5 +6,5 @@ use Rattle.lattice.proofs.compaction.representative.Given as goal
 -- the meet so far, met with the joins still to come, is the representative
 abbrev pub invariant-loop-f : goal.invariant-loop-f
 invariant-loop-f g l =
-    let m = g.T.Lattice in
-    fold m.met l.met (map (m.joined l.t) (drop l.f-index l.rest)) ≡ representative_of m.joined m.met l.frontier l.t
+    let m = g.T.PartialOrder.times in
+    fold m.met l.met (map (m.joined l.t) (drop l.f-index l.rest)) ≡ representative_of m l.frontier l.t

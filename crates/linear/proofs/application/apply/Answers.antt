@@ -8,7 +8,7 @@ use Rattle.linear.proofs.application.apply.Goals as goal
 
 pub returns-clause-sums : goal.returns-clause-sums
 returns-clause-sums g c k port t h row =
-    ap (λ us. count_of (as_of g.T.PartialOrder.below t us) row) c.in_ok-overwrite.ensures.applied ∙ applied_sums g.T.PartialOrder.below t k c.args.node.now c.requires.linear port h c.args.updates.now.items row
+    ap (λ us. count_of (as_of g.T.PartialOrder.times t us) row) c.in_ok-overwrite.ensures.applied ∙ applied_sums g.T.PartialOrder.times t k c.args.node.now c.requires.linear port h c.args.updates.now.items row
 
 pub returns-clause-times : goal.returns-clause-times
 returns-clause-times g c p h =

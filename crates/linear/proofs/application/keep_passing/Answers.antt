@@ -2,7 +2,7 @@ use Rattle.std.proofs.Common.{length, ◌∙◌, sym, arith}
 use Rattle.std.proofs.lemmas.Bool.{and_parts}
 use Rattle.std.proofs.lemmas.List.Filters.{FiltersInPlace-more_swap, FiltersInPlace-more_no}
 use Rattle.row.specs.Projection.{is_within}
-use Rattle.row.specs.Testing.{is_test_within}
+use Rattle.row.specs.Filters.{is_test_within}
 use Rattle.linear.proofs.LoopLemmas.{read_passes_from}
 use Rattle.linear.proofs.application.keep_passing.Goals as goal
 

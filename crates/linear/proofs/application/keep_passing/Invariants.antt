@@ -1,5 +1,5 @@
 use Rattle.std.proofs.lemmas.List.Filters.{FiltersInPlace}
-use Rattle.row.specs.Testing.{passes}
+use Rattle.row.specs.Filters.{passes}
 use Rattle.linear.proofs.application.keep_passing.Given as goal
 
 -- the updates so far that pass are at the front, and the others are unchanged from `next` on

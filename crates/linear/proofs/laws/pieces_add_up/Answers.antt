@@ -6,10 +6,10 @@ pub returns-clause-pieces : goal.returns-clause-pieces
 returns-clause-pieces g c = linear_output-append
 
 pub returns-clause-sums : goal.returns-clause-sums
-returns-clause-sums g c = λ k node l port h us t. applied_sums g.T.PartialOrder.below t k node l port h us
+returns-clause-sums g c = λ k node l port h us t. applied_sums g.T.PartialOrder.times t k node l port h us
 
 pub returns-clause-goes_on : goal.returns-clause-goes_on
-returns-clause-goes_on g c = λ k node l port h received emitted us t before. applied_goes_on g.T.PartialOrder.below t k node l port h received emitted us before
+returns-clause-goes_on g c = λ k node l port h received emitted us t before. applied_goes_on g.T.PartialOrder.times t k node l port h received emitted us before
 
 pub returns-clause-size : goal.returns-clause-size
 returns-clause-size g c = size_applied

@@ -4,4 +4,4 @@ use Rattle.operator.proofs.frontier.drop_later.Goals as goal
 
 pub returns : goal.returns
 returns g c =
-    filter_same _ (λ e. not (g.T.PartialOrder.below c.args.t e)) _ (λ x b f r. search rules) _ _ c.retain.ensures.filtered
+    filter_same _ (λ e. not (g.T.PartialOrder.times.below c.args.t e)) _ (λ x b f r. search rules) _ _ c.retain.ensures.filtered

@@ -9,19 +9,19 @@ use Rattle.operator.proofs.frontier.front_of_open.Goals.{then-is_beyond+in_ok-pu
 
 pub loop-update-preserved : goal.loop-update-preserved
 loop-update-preserved g c t =
-    let below = g.T.PartialOrder.below in
+    let times = g.T.PartialOrder.times in
     let upper = c.args.upper.now in
     let us = c.args.updates.now in
     let i = c.loop-update.update-index in
     let u = c.update-item.result in
-    let whole = is_beyond below (times_of (open_updates below upper us)) t in
-    let rest = is_beyond below (times_of (open_updates below upper (drop (i + 1) us))) t in
+    let whole = is_beyond times (times_of (open_updates times upper us)) t in
+    let rest = is_beyond times (times_of (open_updates times upper (drop (i + 1) us))) t in
     let before = c.loop-update.invariant t in
     elim c.if-is_beyond.branch [
       | then-is_beyond+in_ok-put_in w ↦
-          subst (λ F. (is_beyond below F t || rest) ≡ whole) (sym (ap vec_items w.front-is))
-          (open_loop below upper c.loop-update.front.items w.put_in.new.front.items us i u t whole c.loop-update-test.true c.update-item.is (sym c.is_beyond.ensures ∙ w.if-is_beyond.true) (w.in_ok-put_in.ensures.beyond t) before)
+          subst (λ F. (is_beyond times F t || rest) ≡ whole) (sym (ap vec_items w.front-is))
+          (open_loop times upper c.loop-update.front.items w.put_in.new.front.items us i u t whole c.loop-update-test.true c.update-item.is (sym c.is_beyond.ensures ∙ w.if-is_beyond.true) (w.in_ok-put_in.ensures.beyond t) before)
       | else-is_beyond w ↦
-          subst (λ F. (is_beyond below F t || rest) ≡ whole) (sym (ap vec_items w.front-is))
-          (passed_loop below upper c.loop-update.front.items us i u t whole c.loop-update-test.true c.update-item.is (sym c.is_beyond.ensures ∙ w.if-is_beyond.false) before)
+          subst (λ F. (is_beyond times F t || rest) ≡ whole) (sym (ap vec_items w.front-is))
+          (passed_loop times upper c.loop-update.front.items us i u t whole c.loop-update-test.true c.update-item.is (sym c.is_beyond.ensures ∙ w.if-is_beyond.false) before)
     ]

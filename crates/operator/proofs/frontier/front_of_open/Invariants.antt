@@ -8,5 +8,5 @@ use Rattle.operator.proofs.frontier.front_of_open.Given as goal
 -- none of them
 abbrev pub invariant-loop-update : goal.invariant-loop-update
 invariant-loop-update g l =
-    let below = g.T.PartialOrder.below in
-    (t : g.row.T.Denot) → (is_beyond below l.front.items t || is_beyond below (times_of (open_updates below l.upper (drop l.update-index l.updates))) t) ≡ is_beyond below (times_of (open_updates below l.upper l.updates)) t
+    let times = g.T.PartialOrder.times in
+    (t : g.row.T.Denot) → (is_beyond times l.front.items t || is_beyond times (times_of (open_updates times l.upper (drop l.update-index l.updates))) t) ≡ is_beyond times (times_of (open_updates times l.upper l.updates)) t

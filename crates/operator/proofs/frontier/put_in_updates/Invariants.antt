@@ -7,5 +7,5 @@ use Rattle.operator.proofs.frontier.put_in_updates.Given as goal
 -- of them
 abbrev pub invariant-loop-update : goal.invariant-loop-update
 invariant-loop-update g l =
-    let below = g.T.PartialOrder.below in
-    (t : g.row.T.Denot) → (is_beyond below l.front.items t || is_beyond below (times_of (drop l.update-index l.updates)) t) ≡ (is_beyond below l.fn.front.items t || is_beyond below (times_of l.updates) t)
+    let times = g.T.PartialOrder.times in
+    (t : g.row.T.Denot) → (is_beyond times l.front.items t || is_beyond times (times_of (drop l.update-index l.updates)) t) ≡ (is_beyond times l.fn.front.items t || is_beyond times (times_of l.updates) t)

@@ -6,10 +6,10 @@ use Rattle.operator.proofs.reduction.sealed.Goals as goal
 
 pub returns-clause-refused : goal.returns-clause-refused
 returns-clause-refused g c =
-    let below = g.T.PartialOrder.below in
+    let times = g.T.PartialOrder.times in
     let us = c.args.updates.now in
-    let whole = subst (λ z. is_interval_of below c.args.start.now z us ≡ true) (sym c.new-end.ensures) (subst (λ z. is_interval_of below z [] us ≡ true) (sym c.requires.start) (from_start below (g.T.Minimum.least ∷ []) us (sym (times_beyond below (g.T.Minimum.least ∷ []) us) ∙ c.requires.later))) in
-    seal_refused c.seal_list.result (λ e. c.seal_list.ensures.stray.0 e whole) (λ e. large_size below us (c.seal_list.ensures.overflow e)) c.seal_list.ensures.only
+    let whole = subst (λ z. is_interval_of times c.args.start.now z us ≡ true) (sym c.new-end.ensures) (subst (λ z. is_interval_of times z [] us ≡ true) (sym c.requires.start) (from_start times (g.T.PartialOrder.times.least ∷ []) us (sym (times_beyond times (g.T.PartialOrder.times.least ∷ []) us) ∙ c.requires.later))) in
+    seal_refused c.seal_list.result (λ e. c.seal_list.ensures.stray.0 e whole) (λ e. large_size times us (c.seal_list.ensures.overflow e)) c.seal_list.ensures.only
 
 pub returns-clause-same : goal.returns-clause-same
 returns-clause-same g c =

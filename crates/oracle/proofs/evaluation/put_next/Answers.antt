@@ -9,7 +9,7 @@ pub returns-in-Some-clause-bags : goal.returns-in-Some-clause-bags
 returns-in-Some-clause-bags g c =
     let p = c.args.plan.now in
     let bags = c.args.bags.now in
-    let inputs = sums_at g.T.PartialOrder.below p (map (λ v. v.items) c.args.changes.now) c.args.t in
+    let inputs = sums_at g.T.PartialOrder.times p (map (λ v. v.items) c.args.changes.now) c.args.t in
     let source = c.in-Some.source in
     let here = c.new.ensures ∙ c.len.ensures in
     let passes : passed_on (node_at p (length bags)) ≡ Some source =
@@ -23,7 +23,7 @@ pub returns-in_ok-bag-in-None-clause-bags : goal.returns-in_ok-bag-in-None-claus
 returns-in_ok-bag-in-None-clause-bags g c =
     let p = c.args.plan.now in
     let bags = c.args.bags.now in
-    let inputs = sums_at g.T.PartialOrder.below p (map (λ v. v.items) c.args.changes.now) c.args.t in
+    let inputs = sums_at g.T.PartialOrder.times p (map (λ v. v.items) c.args.changes.now) c.args.t in
     let next = are_more p inputs c.args.view bags c.in_ok-bag-in-None.bag c.requires.bags c.in_ok-bag-in-None.ensures.wide c.in_ok-bag-in-None.ensures.query in
     on_ok_weaker c.push.result
     (λ more. subst (AreBags p inputs c.args.view) (sym more) next)

@@ -7,8 +7,8 @@ use Rattle.oracle.proofs.join_closure.with_joins.Goals as goal
 pub loop-t-init : goal.loop-t-init
 loop-t-init g c = record {
   ascending = subst (λ xs. IsStrictlySortedBy g.T.Ord.cmp xs) (sym c.new-join_closure.ensures.items) (sorted_none g.T.Ord.cmp);
-  closed = subst (IsClosed g.T.PartialOrder.below g.T.Lattice.joined c.args.frontier.now) (sym c.new-join_closure.ensures.items) (closed_none g.T.PartialOrder.below g.T.Lattice.joined c.args.frontier.now);
-  passed = subst (HavePassed g.T.PartialOrder.below c.args.frontier.now) (sym c.new-join_closure.ensures.items) (passed_none g.T.PartialOrder.below c.args.frontier.now);
+  closed = subst (IsClosed g.T.PartialOrder.times c.args.frontier.now) (sym c.new-join_closure.ensures.items) (closed_none g.T.PartialOrder.times c.args.frontier.now);
+  passed = subst (HavePassed g.T.PartialOrder.times c.args.frontier.now) (sym c.new-join_closure.ensures.items) (passed_none g.T.PartialOrder.times c.args.frontier.now);
   kept = λ k d l. absurd (omega (arith, l));
 }
 

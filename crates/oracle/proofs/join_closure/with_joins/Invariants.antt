@@ -8,7 +8,7 @@ use Rattle.oracle.proofs.join_closure.with_joins.Given as goal
 abbrev pub invariant-loop-t : goal.invariant-loop-t
 invariant-loop-t g l = record {
   ascending : IsStrictlySortedBy g.T.Ord.cmp l.join_closure.items;
-  closed : IsClosed g.T.PartialOrder.below g.T.Lattice.joined l.frontier l.join_closure.items;
-  passed : HavePassed g.T.PartialOrder.below l.frontier l.join_closure.items;
+  closed : IsClosed g.T.PartialOrder.times l.frontier l.join_closure.items;
+  passed : HavePassed g.T.PartialOrder.times l.frontier l.join_closure.items;
   kept : All (Contains l.join_closure.items) (take l.t-index l.times);
 }

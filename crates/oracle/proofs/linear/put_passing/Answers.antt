@@ -1,7 +1,7 @@
 use Rattle.std.proofs.Common.{◌≡◌, ◌<◌, ◌∙◌, List, ℤ, length, slice_index_or, IsTrue, ap, sym, subst, arith}
 use Rattle.std.proofs.lemmas.Bool.{and_parts}
 use Rattle.row.specs.Projection.{is_within}
-use Rattle.row.specs.Testing.{passes, is_test_within}
+use Rattle.row.specs.Filters.{passes, is_test_within}
 use Rattle.oracle.proofs.PutLemmas.{no_entry, passes_at, put_kept, put_left}
 use Rattle.oracle.proofs.linear.put_passing.Goals as goal
 

@@ -1,6 +1,6 @@
 use Rattle.std.proofs.Common.{◌≡◌, ◌∙◌, List, map, ap, sym, subst, inl, ◌⊎◌}
 use Rattle.std.specs.List.{filter}
-use Rattle.row.specs.Testing.{passes}
+use Rattle.row.specs.Filters.{passes}
 use Rattle.update.specs.Bags.{Entry, HasLargeCount}
 use Rattle.update.specs.Updates.{as_of}
 use Rattle.plan.specs.Nodes.{node_at, key_width}
@@ -74,7 +74,7 @@ returns-in-Input-clause-refused g c =
     let p = c.args.plan.now in
     let id = c.args.id in
     let bags = nth_bag c.args.bags.now in
-    let outside = as_of g.T.PartialOrder.below c.args.t c.args.own.now in
+    let outside = as_of g.T.PartialOrder.times c.args.t c.args.own.now in
     let e : node_at p id ≡ Input c.in-Input.width = sym c.node.ensures ∙ c.in-Input.is in
     err_more (IsMemoryOrOverflow (HasLargeCount outside)) (IsMemoryOrOverflow (HasLargeAt p id outside bags))
     (λ r refused. refused_by (HasLargeCount outside) (HasLargeAt p id outside bags) r (λ large. large_of p id outside bags (Input c.in-Input.width) e (inl large)) refused)
@@ -85,7 +85,7 @@ returns-in-Map-clause-refused g c =
     let p = c.args.plan.now in
     let id = c.args.id in
     let bags = nth_bag c.args.bags.now in
-    let outside = as_of g.T.PartialOrder.below c.args.t c.args.own.now in
+    let outside = as_of g.T.PartialOrder.times c.args.t c.args.own.now in
     let e : node_at p id ≡ Map c.in-Map.source c.in-Map.items = sym c.node.ensures ∙ c.in-Map.is in
     let same : map (mapped_entry c.as_slice.result.now) c.bag_at.result.now ≡ map (mapped_entry c.in-Map.items) (bags c.in-Map.source) = λ i. map (mapped_entry (c.as_slice.ensures i)) (c.bag_at.ensures i) in
     let given = map (mapped_entry c.as_slice.result.now) c.bag_at.result.now in
@@ -98,7 +98,7 @@ returns-in-Filter-clause-refused g c =
     let p = c.args.plan.now in
     let id = c.args.id in
     let bags = nth_bag c.args.bags.now in
-    let outside = as_of g.T.PartialOrder.below c.args.t c.args.own.now in
+    let outside = as_of g.T.PartialOrder.times c.args.t c.args.own.now in
     let e : node_at p id ≡ Filter c.in-Filter.source c.in-Filter.test = sym c.node.ensures ∙ c.in-Filter.is in
     let same : filter (λ (e : Entry). passes c.in-Filter.test e.row) c.bag_at-in-Filter.result.now ≡ filter (λ (e : Entry). passes c.in-Filter.test e.row) (bags c.in-Filter.source) = λ i. filter (λ (e : Entry). passes c.in-Filter.test e.row) (c.bag_at-in-Filter.ensures i) in
     let given = filter (λ (e : Entry). passes c.in-Filter.test e.row) c.bag_at-in-Filter.result.now in
@@ -111,7 +111,7 @@ returns-in-Join-clause-refused g c =
     let p = c.args.plan.now in
     let id = c.args.id in
     let bags = nth_bag c.args.bags.now in
-    let outside = as_of g.T.PartialOrder.below c.args.t c.args.own.now in
+    let outside = as_of g.T.PartialOrder.times c.args.t c.args.own.now in
     let left = c.in-Join.left in
     let right = c.in-Join.right in
     let e : node_at p id ≡ Join c.in-Join.left c.in-Join.right = sym c.node.ensures ∙ c.in-Join.is in

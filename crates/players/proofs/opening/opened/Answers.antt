@@ -1,6 +1,6 @@
 use Rattle.std.proofs.Common.{rules, ◌≡◌, ◌∙◌, ◌∷◌, ◌++◌, [], List, Some, length, refl, ap}
 use Rattle.std.specs.Prelude.{option_to_list, slice_get}
-use Rattle.shared_board.specs.Tenures.{terms_in}
+use Rattle.shared_board.specs.Tenures.{opening_in}
 use Rattle.players.proofs.opening.opened.Goals as goal
 
 -- the last of a list
@@ -16,4 +16,4 @@ new-requires g c =
     let there : slice_get c.in_ok-clients.clients.items (length before) ≡ Some client = ap (λ xs. slice_get xs (length before)) all ∙ slice_get-seam before client in
     let first = c.in_ok-clients.ensures.opened.each_client (length before) client there in
     let plan : c.args.plan.now ≡ c.in_ok-clone.field-0 = search rules in
-    record { knows = ap (λ es. (terms_in es).dataflow.nodes) first.seen ∙ plan }
+    record { knows = ap (λ es. (opening_in es).dataflow.nodes) first.seen ∙ plan }

@@ -1,6 +1,6 @@
 use Rattle.std.proofs.Common.{◌≡◌, ◌||◌, drop}
 use Rattle.lattice.specs.Frontiers.{is_beyond}
-use Rattle.progress.specs.Placing.{items_in}
+use Rattle.progress.specs.PlacedCounts.{items_in}
 use Rattle.progress.specs.Scopes.{is_in_scope}
 use Rattle.progress.specs.Tallies.{times_where}
 use Rattle.progress.proofs.counts.insert_placed.Given as goal
@@ -8,5 +8,5 @@ use Rattle.progress.proofs.counts.insert_placed.Given as goal
 -- a time is beyond the frontier so far and the places still to come if it is beyond all
 abbrev pub invariant-loop-counts : goal.invariant-loop-counts
 invariant-loop-counts g l =
-    let below = g.T.PartialOrder.below in
-    (t : g.row.T.Denot) → (is_beyond below l.found.items t || is_beyond below (times_where (is_in_scope l.graph l.scope) (items_in (drop l.counts-index l.places))) t) ≡ (is_beyond below l.fn.found.items t || is_beyond below (times_where (is_in_scope l.graph l.scope) (items_in l.places)) t)
+    let times = g.T.PartialOrder.times in
+    (t : g.row.T.Denot) → (is_beyond times l.found.items t || is_beyond times (times_where (is_in_scope l.graph l.scope) (items_in (drop l.counts-index l.places))) t) ≡ (is_beyond times l.fn.found.items t || is_beyond times (times_where (is_in_scope l.graph l.scope) (items_in l.places)) t)

@@ -1,7 +1,7 @@
 use Rattle.std.proofs.Common.{ap, ◌∙◌}
 use Rattle.progress.specs.declared.counts.PlaceCounts.{PlaceCounts}
-use Rattle.progress.specs.Placing.{items_in}
-use Rattle.progress.proofs.PlacingLemmas.{nothing_more}
+use Rattle.progress.specs.PlacedCounts.{items_in}
+use Rattle.progress.proofs.PlacedLemmas.{nothing_more}
 use Rattle.progress.proofs.counts.push_place.Goals as goal
 
 pub returns-clause-items : goal.returns-clause-items

@@ -1,6 +1,6 @@
 use Rattle.std.proofs.Common.{arith}
 use Rattle.antichain.proofs.Lists.{among_contains}
-use Rattle.progress.specs.Counting.{listed}
+use Rattle.progress.specs.CountLists.{listed}
 use Rattle.progress.proofs.EntryLemmas.{no_entry}
 use Rattle.progress.proofs.entries.entry_of.Goals as goal
 

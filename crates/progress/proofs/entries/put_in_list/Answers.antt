@@ -1,7 +1,7 @@
 use Rattle.std.proofs.Common.{◌≡◌, ◌<◌, ℕ, List, length, subst, sym, ap, ◌∙◌, arith}
 use Rattle.std.specs.List.{filter}
 use Rattle.std.specs.Prelude.{slice_index_or}
-use Rattle.progress.specs.Counting.{listed}
+use Rattle.progress.specs.CountLists.{listed}
 use Rattle.progress.proofs.EntryLemmas.{added, number_fits, one_up}
 use Rattle.progress.proofs.entries.put_in_list.Goals as goal
 

@@ -2,8 +2,8 @@ use Rattle.std.proofs.Common.{◌≡◌, suc, ◌+◌, ◌∷◌, None, Some, le
 use Rattle.std.specs.BTreeMap.{insert_entry, is_at}
 use Rattle.std.specs.List.{filter}
 use Rattle.std.specs.Map.{lookup, set_value}
-use Rattle.progress.specs.Counting.{listed}
-use Rattle.progress.proofs.CountingLemmas.{entered, fits, same_value, written}
+use Rattle.progress.specs.CountLists.{listed}
+use Rattle.progress.proofs.CountListLemmas.{entered, fits, same_value, written}
 use Rattle.progress.proofs.TieLemmas.{tied_one}
 use Rattle.progress.proofs.entries.put_in_tree.Goals as goal
 

@@ -1,7 +1,7 @@
 use Rattle.std.proofs.Common.{◌≡◌, ◌<◌, ◌∷◌, ℕ, List, length, subst, ap, ◌∙◌, arith}
 use Rattle.std.specs.List.{filter}
 use Rattle.std.specs.Prelude.{slice_index_or}
-use Rattle.progress.specs.Counting.{listed}
+use Rattle.progress.specs.CountLists.{listed}
 use Rattle.progress.proofs.EntryLemmas.{let_go, one_down, same_entry}
 use Rattle.progress.proofs.entries.take_from_list.Goals as goal
 

@@ -3,8 +3,8 @@ use Rattle.std.specs.BTreeMap.{is_at}
 use Rattle.std.specs.List.{filter}
 use Rattle.std.specs.Map.{lookup, remove_entry, set_value}
 use Rattle.antichain.proofs.Lists.{among_contains}
-use Rattle.progress.specs.Counting.{listed}
-use Rattle.progress.proofs.CountingLemmas.{dropped, missing, same_value, written}
+use Rattle.progress.specs.CountLists.{listed}
+use Rattle.progress.proofs.CountListLemmas.{dropped, missing, same_value, written}
 use Rattle.progress.proofs.TieLemmas.{one_tied, tied_one}
 use Rattle.progress.proofs.entries.take_from_tree.Goals as goal
 

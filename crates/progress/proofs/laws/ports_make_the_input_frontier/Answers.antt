@@ -3,4 +3,4 @@ use Rattle.progress.proofs.laws.ports_make_the_input_frontier.Goals as goal
 
 pub returns : goal.returns
 returns g c nodes xs n t plan placed reads =
-    ports_pass nodes plan n reads g.T.PartialOrder.below g.met.T.PartialOrder.order xs t placed
+    ports_pass nodes plan n reads g.T.PartialOrder.times g.met.T.PartialOrder.order xs t placed

@@ -1,10 +1,10 @@
 use Rattle.std.proofs.Common.{◌≡◌, ◌||◌}
 use Rattle.lattice.specs.Frontiers.{is_beyond}
-use Rattle.progress.specs.Counting.{listed}
+use Rattle.progress.specs.CountLists.{listed}
 use Rattle.progress.proofs.scan.insert_listed.Given as goal
 
 -- a time is beyond the frontier so far and the entries still to come if it is beyond all
 abbrev pub invariant-loop-entry : goal.invariant-loop-entry
 invariant-loop-entry g l =
-    let below = g.T.PartialOrder.below in
-    (s : g.row.T.Denot) → (is_beyond below l.found.items s || is_beyond below (listed l.entry-iterator) s) ≡ (is_beyond below l.fn.found.items s || is_beyond below (listed l.more.entries) s)
+    let times = g.T.PartialOrder.times in
+    (s : g.row.T.Denot) → (is_beyond times l.found.items s || is_beyond times (listed l.entry-iterator) s) ≡ (is_beyond times l.fn.found.items s || is_beyond times (listed l.more.entries) s)

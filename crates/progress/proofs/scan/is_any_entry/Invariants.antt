@@ -1,10 +1,10 @@
 use Rattle.std.proofs.Common.{◌≡◌, drop}
 use Rattle.lattice.specs.Frontiers.{is_beyond}
-use Rattle.progress.specs.Counting.{listed}
+use Rattle.progress.specs.CountLists.{listed}
 use Rattle.progress.proofs.scan.is_any_entry.Given as goal
 
 -- the time is beyond the entries still to come if it is beyond any
 abbrev pub invariant-loop-entry : goal.invariant-loop-entry
 invariant-loop-entry g l =
-    let below = g.T.PartialOrder.below in
-    is_beyond below (listed (drop l.entry-index l.few)) l.t ≡ is_beyond below (listed l.few) l.t
+    let times = g.T.PartialOrder.times in
+    is_beyond times (listed (drop l.entry-index l.few)) l.t ≡ is_beyond times (listed l.few) l.t

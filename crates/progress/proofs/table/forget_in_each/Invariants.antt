@@ -4,4 +4,4 @@ use Rattle.progress.proofs.table.forget_in_each.Given as goal
 
 -- the nodes so far have changed
 abbrev pub invariant-loop-number : goal.invariant-loop-number
-invariant-loop-number g l = HaveChangedAt (IsForgotten g.T.PartialOrder.below l.graph l.place l.t) (take l.number l.asked) l.fn.kept.items l.kept.items
+invariant-loop-number g l = HaveChangedAt (IsForgotten g.T.PartialOrder.times l.graph l.place l.t) (take l.number l.asked) l.fn.kept.items l.kept.items

@@ -2,9 +2,9 @@ use Rattle.std.proofs.Common.{◌≡◌, ◌<◌, false, ◌∷◌, ◌++◌, le
 use Rattle.std.specs.List.{filter, remove}
 use Rattle.std.specs.Prelude.{Contains, slice_index_or}
 use Rattle.antichain.proofs.Lists.{among_contains, contains_among}
-use Rattle.progress.specs.Counting.{CountAlike}
+use Rattle.progress.specs.CountLists.{CountAlike}
 use Rattle.progress.proofs.CountLemmas.{removed}
-use Rattle.progress.proofs.CountingLemmas.{among_both, carried}
+use Rattle.progress.proofs.CountListLemmas.{among_both, carried}
 use Rattle.progress.proofs.time_counts.take.Goals as goal
 
 pub position-number-requires : goal.position-number-requires

@@ -8,45 +8,43 @@ use Rattle.reduce.proofs.histories.compact_all.Goals as goal
 
 pub loop-i-init : goal.loop-i-init
 loop-i-init g c =
-    let folded = IsFolded g.T.PartialOrder.below g.T.Lattice.joined g.T.Lattice.met c.args.since.now g.T.Ord.cmp in
+    let folded = IsFolded g.T.PartialOrder.times c.args.since.now g.T.Ord.cmp in
     record {
-      moved = all_itself g.T.PartialOrder.below g.T.Ord.cmp g.T.Lattice.joined c.args.since.now c.args.histories.now.items;
+      moved = all_itself g.T.PartialOrder.times g.T.Ord.cmp c.args.since.now c.args.histories.now.items;
       folded = folded_none folded c.args.histories.now.items;
     }
 
 pub compact-requires : goal.compact-requires
 compact-requires g c =
-    let same = compacted_length g.T.PartialOrder.below g.T.Ord.cmp g.T.Lattice.joined c.args.since.now c.args.histories.now.items c.loop-i.histories.items c.loop-i.invariant.moved in
+    let same = compacted_length g.T.PartialOrder.times g.T.Ord.cmp c.args.since.now c.args.histories.now.items c.loop-i.histories.items c.loop-i.invariant.moved in
     let len = c.len-i-end.ensures.len in
     let lt = c.loop-i-test.true in
     omega (arith, same, len, lt)
 
 pub loop-i-preserved : goal.loop-i-preserved
 loop-i-preserved g c =
-    let below = g.T.PartialOrder.below in
+    let times = g.T.PartialOrder.times in
     let cmp = g.T.Ord.cmp in
-    let joined = g.T.Lattice.joined in
     let since = c.args.since.now in
     let step = c.in_ok-compact.ensures in
     let mid = c.loop-i.histories.items in
-    let same = compacted_length below cmp joined since c.args.histories.now.items mid c.loop-i.invariant.moved in
+    let same = compacted_length times cmp since c.args.histories.now.items mid c.loop-i.invariant.moved in
     let within : c.loop-i.i < length mid = let len = c.len-i-end.ensures.len in let lt = c.loop-i-test.true in omega (arith, same, len, lt) in
-    let one = subst (λ (hs : List (HistoryState g.row.T.Denot)). AreCompacted below cmp joined since mid hs) (sym step.3) (one_compacted below cmp joined since mid c.loop-i.i step.0 step.1 step.2 step.4) in
+    let one = subst (λ (hs : List (HistoryState g.row.T.Denot)). AreCompacted times cmp since mid hs) (sym step.3) (one_compacted times cmp since mid c.loop-i.i step.0 step.1 step.2 step.4) in
     record {
-      moved = all_through below cmp joined since c.args.histories.now.items mid c.compact.new.self.items c.loop-i.invariant.moved one;
-      folded = folded_next (IsFolded below joined g.T.Lattice.met since cmp) c.loop-i.i c.args.histories.now.items mid c.compact.new.self.items step.1 within step.3 step.5 c.loop-i.invariant.folded;
+      moved = all_through times cmp since c.args.histories.now.items mid c.compact.new.self.items c.loop-i.invariant.moved one;
+      folded = folded_next (IsFolded times since cmp) c.loop-i.i c.args.histories.now.items mid c.compact.new.self.items step.1 within step.3 step.5 c.loop-i.invariant.folded;
     }
 
 pub returns-in_err-compact-clause-items : goal.returns-in_err-compact-clause-items
 returns-in_err-compact-clause-items g c =
-    let below = g.T.PartialOrder.below in
+    let times = g.T.PartialOrder.times in
     let cmp = g.T.Ord.cmp in
-    let joined = g.T.Lattice.joined in
     let since = c.args.since.now in
     let step = c.in_err-compact.ensures in
     let mid = c.loop-i.histories.items in
-    let one = subst (λ (hs : List (HistoryState g.row.T.Denot)). AreCompacted below cmp joined since mid hs) (sym step.3) (one_compacted below cmp joined since mid c.loop-i.i step.0 step.1 step.2 step.4) in
-    all_through below cmp joined since c.args.histories.now.items mid c.compact.new.self.items c.loop-i.invariant.moved one
+    let one = subst (λ (hs : List (HistoryState g.row.T.Denot)). AreCompacted times cmp since mid hs) (sym step.3) (one_compacted times cmp since mid c.loop-i.i step.0 step.1 step.2 step.4) in
+    all_through times cmp since c.args.histories.now.items mid c.compact.new.self.items c.loop-i.invariant.moved one
 
 pub returns-in_err-compact-clause-refused : goal.returns-in_err-compact-clause-refused
 returns-in_err-compact-clause-refused g c =
@@ -60,6 +58,6 @@ returns-clause-items g c = c.loop-i.invariant.moved
 
 pub returns-clause-folded : goal.returns-clause-folded
 returns-clause-folded g c =
-    let same = compacted_length g.T.PartialOrder.below g.T.Ord.cmp g.T.Lattice.joined c.args.since.now c.args.histories.now.items c.loop-i.histories.items c.loop-i.invariant.moved in
+    let same = compacted_length g.T.PartialOrder.times g.T.Ord.cmp c.args.since.now c.args.histories.now.items c.loop-i.histories.items c.loop-i.invariant.moved in
     let many : length c.loop-i.histories.items ≤ c.loop-i.i = let len = c.len-i-end.ensures.len in let lt = c.loop-i-test.false in omega (arith, same, len, lt) in
-    folded_all (IsFolded g.T.PartialOrder.below g.T.Lattice.joined g.T.Lattice.met c.args.since.now g.T.Ord.cmp) c.loop-i.i c.args.histories.now.items c.loop-i.histories.items many c.loop-i.invariant.folded
+    folded_all (IsFolded g.T.PartialOrder.times c.args.since.now g.T.Ord.cmp) c.loop-i.i c.args.histories.now.items c.loop-i.histories.items many c.loop-i.invariant.folded

@@ -7,6 +7,6 @@ use Rattle.reduce.proofs.histories.compact_all.Given as goal
 abbrev pub invariant-loop-i : goal.invariant-loop-i
 invariant-loop-i g l =
     record {
-      moved : AreCompacted g.T.PartialOrder.below g.T.Ord.cmp g.T.Lattice.joined l.since l.fn.histories.items l.histories.items;
-      folded : AreFoldedTo (IsFolded g.T.PartialOrder.below g.T.Lattice.joined g.T.Lattice.met l.since g.T.Ord.cmp) l.i l.fn.histories.items l.histories.items;
+      moved : AreCompacted g.T.PartialOrder.times g.T.Ord.cmp l.since l.fn.histories.items l.histories.items;
+      folded : AreFoldedTo (IsFolded g.T.PartialOrder.times l.since g.T.Ord.cmp) l.i l.fn.histories.items l.histories.items;
     }

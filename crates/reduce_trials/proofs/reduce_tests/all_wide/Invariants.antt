@@ -1,5 +1,5 @@
 use Rattle.std.proofs.Common.{IsTrue, take}
-use Rattle.reduce.specs.Standing.{are_wide}
+use Rattle.reduce.specs.Duties.{are_wide}
 use Rattle.reduce_trials.proofs.reduce_tests.all_wide.Given as goal
 
 abbrev pub invariant-loop-i : goal.invariant-loop-i

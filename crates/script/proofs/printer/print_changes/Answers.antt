@@ -1,7 +1,7 @@
 use Rattle.std.proofs.Common.{suc, ◌+◌, ◌++◌, length, take, drop, codes}
 use Rattle.std.specs.List.{flat_map}
 use Rattle.std.proofs.lemmas.Result.{err_from_is_err_and}
-use Rattle.output.specs.Printing.{count_text, update_text}
+use Rattle.output.specs.Lines.{count_text, update_text}
 use Rattle.output.proofs.OutLemmas.{wrote_more, broke_more}
 use Rattle.script.proofs.PrinterLemmas.{item_here, printed_more, printed_all}
 use Rattle.script.proofs.printer.print_changes.Goals as goal

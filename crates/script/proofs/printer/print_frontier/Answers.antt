@@ -3,7 +3,7 @@ use Rattle.std.specs.List.{flat_map}
 use Rattle.std.proofs.lemmas.Result.{err_from_is_err_and}
 use Rattle.std.proofs.lemmas.List.{get_or_default}
 use Rattle.lattice.specs.Pairs.{make_pair}
-use Rattle.output.specs.Printing.{count_text, element_text}
+use Rattle.output.specs.Lines.{count_text, element_text}
 use Rattle.output.proofs.OutLemmas.{wrote_more, broke_more}
 use Rattle.script.proofs.PrinterLemmas.{item_here, printed_more, printed_all}
 use Rattle.script.proofs.printer.print_frontier.Goals as goal

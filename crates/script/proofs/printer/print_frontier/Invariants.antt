@@ -1,7 +1,7 @@
 use Rattle.std.proofs.Common.{◌++◌, length, take, codes}
 use Rattle.std.specs.List.{flat_map}
 use Rattle.output.specs.Outs.{Wrote}
-use Rattle.output.specs.Printing.{count_text, element_text}
+use Rattle.output.specs.Lines.{count_text, element_text}
 use Rattle.script.proofs.printer.print_frontier.Given as goal
 
 -- the header and the lines so far are written

@@ -5,7 +5,7 @@ use Rattle.std.specs.Prelude.{FitsSigned}
 use Rattle.std.specs.Int.{w64}
 use Rattle.std.proofs.Common.{rules}
 use Rattle.update.specs.Text.{entry_text, bag_text}
-use Rattle.output.specs.Printing.{read_text}
+use Rattle.output.specs.Lines.{read_text}
 use Rattle.output.proofs.OutLemmas.{wrote_more, broke_more}
 use Rattle.script.proofs.PrinterLemmas.{entry_here, printed_more, printed_all}
 use Rattle.script.proofs.printer.print_rows.Goals as goal

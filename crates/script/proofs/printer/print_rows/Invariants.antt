@@ -1,7 +1,7 @@
 use Rattle.std.proofs.Common.{◌++◌, length, take}
 use Rattle.update.specs.Text.{bag_text}
 use Rattle.output.specs.Outs.{Wrote}
-use Rattle.output.specs.Printing.{read_text}
+use Rattle.output.specs.Lines.{read_text}
 use Rattle.script.proofs.printer.print_rows.Given as goal
 
 -- the header and the rows so far are written

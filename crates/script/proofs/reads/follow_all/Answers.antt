@@ -1,7 +1,8 @@
-use Rattle.std.proofs.Common.{◌≡◌, ◌+◌, ◌<◌, ◌∙◌, List, length, get_or, take, sym, subst, arith}
+use Rattle.std.proofs.Common.{◌≡◌, ◌<◌, ◌∙◌, List, length, get_or, take, sym, subst}
 use Rattle.plan.specs.declared.node.Node.{Node}
 use Rattle.grammar.specs.declared.command.CommandLine.{CommandLine}
-use Rattle.script.specs.Text.{BitemporalSession, after_command, after_lines}
+use Rattle.engines.specs.Bitemporal.{BitemporalSession}
+use Rattle.script.specs.Text.{after_command, after_lines}
 use Rattle.script.proofs.TextLemmas.{after_more}
 use Rattle.script.proofs.reads.follow_all.Goals as goal
 

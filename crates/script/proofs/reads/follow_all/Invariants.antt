@@ -1,5 +1,6 @@
 use Rattle.std.proofs.Common.{◌≡◌, take}
-use Rattle.script.specs.Text.{BitemporalSession, after_lines}
+use Rattle.engines.specs.Bitemporal.{BitemporalSession}
+use Rattle.script.specs.Text.{after_lines}
 use Rattle.script.proofs.reads.follow_all.Given as goal
 
 -- the engine stands for the session after the lines so far

@@ -1,20 +1,20 @@
-use Rattle.std.proofs.Common.{◌≡◌, ℕ, List, Result, Ok, Err, ◌⊎◌, inl, inr, sym, subst, ◌∙◌, ap}
+use Rattle.std.proofs.Common.{◌≡◌, ℕ, List, Result, Ok, Err, ◌⊎◌, inl, subst, ◌∙◌, ap}
 use Rattle.std.specs.Prelude.{IfOk, IfErr}
-use Rattle.lattice.specs.Bitimes.{bitime_below}
-use Rattle.lattice.specs.Pairs.{make_pair}
+use Rattle.lattice.specs.Bitimes.{bitime_times}
 use Rattle.lattice.specs.declared.product.Pair.{Pair}
 use Rattle.update.specs.Bags.{Entry}
 use Rattle.update.specs.declared.refusal.Refusal.{Refusal}
 use Rattle.update.specs.declared.refusal.Refusal.TheVariants.{NoThread, BadWorkers}
 use Rattle.plan.specs.declared.node.Node.{Node}
-use Rattle.script.specs.Answers.{FindsRows}
-use Rattle.script.specs.Bounds.{EndsByBound}
+use Rattle.engines.specs.Answers.{FindsRows}
+use Rattle.engines.specs.Bounds.{EndsByBound}
 use Rattle.script.specs.Reads.{last_session}
-use Rattle.script.specs.Standing.{StandsAs}
-use Rattle.script.specs.Text.{BitemporalSession, opening_session}
+use Rattle.engines.specs.BoardStates.{StandsAs}
+use Rattle.engines.specs.Bitemporal.{BitemporalSession, opening_session}
 use Rattle.script.proofs.reads.read_twice.Goals as goal
 
--- the plan under which an answer is right is replaced by an equal one, and one answer of two is taken
+-- the plan under which an answer is right is replaced by an equal one, and one answer of two is
+-- taken
 module _ (s : BitemporalSession) (view : ℕ) (first second : Pair ℕ ℕ) where
   abbrev finds : List Node → Pair ℕ ℕ → Result (List Entry) Refusal → Type 0
   finds p time = FindsRows (λ refusal. ⊥) p s view time
@@ -35,7 +35,7 @@ ended s p q (Err refusal) e h = inl (subst (λ (plan : List Node). EndsByBound p
 pub returns-clause-first : goal.returns-clause-first
 returns-clause-first g c =
     let t = c.args.script.now in
-    let opened = subst (λ (p : List Node). StandsAs bitime_below (make_pair 0 0) c.in_ok-crew.crew (opening_session p)) c.plan.ensures.plan c.in_ok-crew.ensures.stands in
+    let opened = subst (λ (p : List Node). StandsAs bitime_times c.in_ok-crew.crew (opening_session p)) c.plan.ensures.plan c.in_ok-crew.ensures.stands in
     let ahead = c.run_ahead.ensures.stands (last_session t) (c.in_ok-follow_all.ensures.stands (opening_session t.plan) opened) in
     first_of (last_session t) c.args.reads.view c.args.reads.first c.args.reads.second _ t.plan c.ask_twice.result
     (ap (λ flow. flow.nodes) c.run_ahead.ensures.plan ∙ c.follow_all.ensures.plan ∙ c.in_ok-crew.ensures.plan ∙ c.plan.ensures.plan)
@@ -44,7 +44,7 @@ returns-clause-first g c =
 pub returns-clause-second : goal.returns-clause-second
 returns-clause-second g c =
     let t = c.args.script.now in
-    let opened = subst (λ (p : List Node). StandsAs bitime_below (make_pair 0 0) c.in_ok-crew.crew (opening_session p)) c.plan.ensures.plan c.in_ok-crew.ensures.stands in
+    let opened = subst (λ (p : List Node). StandsAs bitime_times c.in_ok-crew.crew (opening_session p)) c.plan.ensures.plan c.in_ok-crew.ensures.stands in
     let ahead = c.run_ahead.ensures.stands (last_session t) (c.in_ok-follow_all.ensures.stands (opening_session t.plan) opened) in
     second_of (last_session t) c.args.reads.view c.args.reads.first c.args.reads.second _ t.plan c.ask_twice.result
     (ap (λ flow. flow.nodes) c.run_ahead.ensures.plan ∙ c.follow_all.ensures.plan ∙ c.in_ok-crew.ensures.plan ∙ c.plan.ensures.plan)
@@ -53,7 +53,7 @@ returns-clause-second g c =
 pub returns-clause-refused : goal.returns-clause-refused
 returns-clause-refused g c =
     let t = c.args.script.now in
-    let opened = subst (λ (p : List Node). StandsAs bitime_below (make_pair 0 0) c.in_ok-crew.crew (opening_session p)) c.plan.ensures.plan c.in_ok-crew.ensures.stands in
+    let opened = subst (λ (p : List Node). StandsAs bitime_times c.in_ok-crew.crew (opening_session p)) c.plan.ensures.plan c.in_ok-crew.ensures.stands in
     let ahead = c.run_ahead.ensures.stands (last_session t) (c.in_ok-follow_all.ensures.stands (opening_session t.plan) opened) in
     ended (last_session t) _ t.plan c.ask_twice.result
     (ap (λ flow. flow.nodes) c.run_ahead.ensures.plan ∙ c.follow_all.ensures.plan ∙ c.in_ok-crew.ensures.plan ∙ c.plan.ensures.plan)

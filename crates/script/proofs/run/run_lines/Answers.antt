@@ -1,7 +1,8 @@
 use Rattle.std.proofs.Common.{◌≡◌, suc, ◌+◌, ◌<◌, List, length, get_or, take, drop, take-append-drop, refl, sym, subst, arith}
 use Rattle.std.proofs.lemmas.Result.{err_from_is_err_and}
 use Rattle.grammar.specs.declared.command.CommandLine.{CommandLine}
-use Rattle.script.specs.Text.{BitemporalSession, HoldsAlong, after_command, after_lines, piece, lines_text}
+use Rattle.engines.specs.Bitemporal.{BitemporalSession}
+use Rattle.script.specs.Text.{HoldsAlong, after_command, after_lines, piece, lines_text}
 use Rattle.script.proofs.EndLemmas.{end_weaker, cause_of_end}
 use Rattle.output.proofs.OutLemmas.{wrote_more, broke_more, wrote_all}
 use Rattle.script.proofs.TextLemmas.{all_lines, after_more, text_more, text_all}

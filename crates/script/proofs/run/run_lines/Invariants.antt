@@ -1,6 +1,7 @@
 use Rattle.std.proofs.Common.{◌≡◌, take}
 use Rattle.output.specs.Outs.{Wrote}
-use Rattle.script.specs.Text.{BitemporalSession, after_lines, lines_text}
+use Rattle.engines.specs.Bitemporal.{BitemporalSession}
+use Rattle.script.specs.Text.{after_lines, lines_text}
 use Rattle.script.proofs.run.run_lines.Given as goal
 
 -- the engine stands for the session after the lines so far, and the text of these lines is written

@@ -6,6 +6,6 @@ use Rattle.spine.proofs.policy.cheapest_pair.Given as goal
 abbrev pub invariant-loop-next : goal.invariant-loop-next
 invariant-loop-next g l =
     record {
-      some : IfSome l.best (λ i. MayMerge g.T.PartialOrder.below l.holds l.batches false i);
-      none : l.best ≡ None → (k : ℕ) → suc k < l.next → IsTrue (is_barred g.T.PartialOrder.below l.holds l.batches false k);
+      some : IfSome l.best (λ i. MayMerge g.T.PartialOrder.times l.holds l.batches false i);
+      none : l.best ≡ None → (k : ℕ) → suc k < l.next → IsTrue (is_barred g.T.PartialOrder.times l.holds l.batches false k);
     }

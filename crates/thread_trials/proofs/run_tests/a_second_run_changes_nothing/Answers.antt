@@ -1,6 +1,6 @@
 use denote.Exit.{no}
 use denote.Param.Send.{param_send, arg_send}
-use Rattle.session.proofs.CrossingLemmas.{board_worker, board_worker_send}
+use Rattle.session.proofs.CrossLemmas.{board_worker, board_worker_send}
 use Rattle.thread_trials.proofs.run_tests.a_second_run_changes_nothing.Goals as goal
 
 pub run_threads-requires-send-W : goal.run_threads-requires-send-W

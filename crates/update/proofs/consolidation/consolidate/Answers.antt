@@ -26,7 +26,7 @@ returns-clause-totals g c =
 pub returns-clause-sums : goal.returns-clause-sums
 returns-clause-sums g c =
     IfOk-weaker c.consolidate_grouped.result _ _
-    (λ out same t row. same t row ∙ moved_sum _ _ c.sort_unstable.ensures.permutation g.T.PartialOrder.below t row)
+    (λ out same t row. same t row ∙ moved_sum _ _ c.sort_unstable.ensures.permutation g.T.PartialOrder.times t row)
     c.consolidate_grouped.ensures.sums
 
 pub returns-clause-among : goal.returns-clause-among
@@ -43,7 +43,7 @@ returns-clause-size g c =
 
 pub returns-clause-overflow : goal.returns-clause-overflow
 returns-clause-overflow g c =
-    let moved = moved_large _ _ c.sort_unstable.ensures.permutation g.T.PartialOrder.below in (
+    let moved = moved_large _ _ c.sort_unstable.ensures.permutation g.T.PartialOrder.times in (
       λ e. moved.1 (c.consolidate_grouped.ensures.overflow.0 e),
       λ l. c.consolidate_grouped.ensures.overflow.1 (moved.0 l),
     )

@@ -20,15 +20,15 @@ returns-clause-consolidated g c =
 pub returns-clause-sums : goal.returns-clause-sums
 returns-clause-sums g c =
     IfOk-weaker c.consolidate_grouped.result _ _
-    (λ out same t row. same t row ∙ moved_sum _ _ c.in_ok-sort.ensures.permutation g.T.PartialOrder.below t row)
+    (λ out same t row. same t row ∙ moved_sum _ _ c.in_ok-sort.ensures.permutation g.T.PartialOrder.times t row)
     c.consolidate_grouped.ensures.sums
 
 pub returns-clause-fits : goal.returns-clause-fits
 returns-clause-fits g c =
-    let moved = moved_large _ _ c.in_ok-sort.ensures.permutation g.T.PartialOrder.below in
+    let moved = moved_large _ _ c.in_ok-sort.ensures.permutation g.T.PartialOrder.times in
     ok_fits c.consolidate_grouped.result _ (λ l. c.consolidate_grouped.ensures.overflow.1 (moved.0 l))
 
 pub returns-clause-refused : goal.returns-clause-refused
 returns-clause-refused g c =
-    let moved = moved_large _ _ c.in_ok-sort.ensures.permutation g.T.PartialOrder.below in
+    let moved = moved_large _ _ c.in_ok-sort.ensures.permutation g.T.PartialOrder.times in
     err_large c.consolidate_grouped.result _ (λ e. moved.1 (c.consolidate_grouped.ensures.overflow.0 e)) c.consolidate_grouped.ensures.only

@@ -11,5 +11,5 @@ pub loop-position-preserved : goal.loop-position-preserved
 loop-position-preserved g c row =
     let i = c.loop-position in
     let within : i.position-index < length c.args.positions.now = search rules in
-    sums_of_more g.T.PartialOrder.below c.args.t.now c.args.captured.now (take i.position-index c.args.positions.now) _ (map entry i.arrived.items) (map entry c.push_if_arrived.new.arrived.items) i.invariant c.in_ok-run.ensures.more row
-    ∙ ap (λ ks. count_of (flat_map (λ k. as_of g.T.PartialOrder.below c.args.t.now (update_at c.args.captured.now k)) ks) row) (sym (take_more c.args.positions.now i.position-index 0 within))
+    sums_of_more g.T.PartialOrder.times c.args.t.now c.args.captured.now (take i.position-index c.args.positions.now) _ (map entry i.arrived.items) (map entry c.push_if_arrived.new.arrived.items) i.invariant c.in_ok-run.ensures.more row
+    ∙ ap (λ ks. count_of (flat_map (λ k. as_of g.T.PartialOrder.times c.args.t.now (update_at c.args.captured.now k)) ks) row) (sym (take_more c.args.positions.now i.position-index 0 within))

@@ -7,4 +7,4 @@ use Rattle.views.proofs.last_read.arrived_at.Given as goal
 
 -- those at the positions so far are added up
 abbrev pub invariant-loop-position : goal.invariant-loop-position
-invariant-loop-position g l = Alike (map entry l.arrived.items) (flat_map (λ k. as_of g.T.PartialOrder.below l.t (update_at l.captured k)) (take l.position-index l.positions))
+invariant-loop-position g l = Alike (map entry l.arrived.items) (flat_map (λ k. as_of g.T.PartialOrder.times l.t (update_at l.captured k)) (take l.position-index l.positions))

@@ -5,4 +5,4 @@ use Rattle.views.proofs.last_read.push_arrived.Given as goal
 
 -- those of the part up to the position are added up
 abbrev pub invariant-loop-position : goal.invariant-loop-position
-invariant-loop-position g l = Alike (map entry l.arrived.items) (map entry l.fn.arrived.items ++ as_of g.T.PartialOrder.below l.t (drop l.initial.position (take l.position l.captured)))
+invariant-loop-position g l = Alike (map entry l.arrived.items) (map entry l.fn.arrived.items ++ as_of g.T.PartialOrder.times l.t (drop l.initial.position (take l.position l.captured)))

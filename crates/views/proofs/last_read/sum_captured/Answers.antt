@@ -10,7 +10,7 @@ pub returns-clause-sum : goal.returns-clause-sum
 returns-clause-sum g c row =
     let us = c.args.captured.now in
     let none = c.in_ok-none.none in
-    let whole = all_came g.T.PartialOrder.below c.args.t us none (map entry c.in_ok-arrived.arrived.items) (map entry c.push_arrived.new.arrived.items) c.len.result c.len.ensures
+    let whole = all_came g.T.PartialOrder.times c.args.t us none (map entry c.in_ok-arrived.arrived.items) (map entry c.push_arrived.new.arrived.items) c.len.result c.len.ensures
     (subst (Alike none) c.new.ensures c.in_ok-none.ensures.sum) (ap (map entry) c.in_ok-arrived.ensures.items) c.in_ok-push_arrived.ensures.more in
     c.in_ok-bag.ensures.sum row ∙ ap (λ vs. count_of (none ++ map entry vs) row) c.deref.ensures.value ∙ whole row
 
@@ -27,7 +27,7 @@ pub returns-in_err-bag-clause-refused : goal.returns-in_err-bag-clause-refused
 returns-in_err-bag-clause-refused g c =
     let us = c.args.captured.now in
     let none = c.in_ok-none.none in
-    let whole = all_came g.T.PartialOrder.below c.args.t us none (map entry c.in_ok-arrived.arrived.items) (map entry c.push_arrived.new.arrived.items) c.len.result c.len.ensures
+    let whole = all_came g.T.PartialOrder.times c.args.t us none (map entry c.in_ok-arrived.arrived.items) (map entry c.push_arrived.new.arrived.items) c.len.result c.len.ensures
     (subst (Alike none) c.new.ensures c.in_ok-none.ensures.sum) (ap (map entry) c.in_ok-arrived.ensures.items) c.in_ok-push_arrived.ensures.more in
     let seen = λ (row : _). ap (λ vs. count_of (none ++ map entry vs) row) c.deref.ensures.value ∙ whole row in
     let got = err_from_is_err_and c.from_residual-in_err-bag.result c.from_residual-in_err-bag.ensures.1 in

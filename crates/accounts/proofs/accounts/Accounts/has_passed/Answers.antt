@@ -9,5 +9,5 @@ pub returns-clause-value : goal.returns-clause-value
 returns-clause-value g c =
     let tally = c.self.inside.tally in
     c.has_passed.ensures.value
-    ∙ (ap not (beyond_there g.T.PartialOrder.below g.met.T.PartialOrder.order (is_upstream tally.nodes c.args.node) tally.items _ c.self.invariant.counts c.args.t.now)
-    ∙ ap (λ (a : AccountState g.row.T.Denot). has_passed g.T.PartialOrder.below (front_of g.T.PartialOrder.below a c.args.node) c.args.t.now) c.self.view_is)
+    ∙ (ap not (beyond_there g.T.PartialOrder.times g.met.T.PartialOrder.order (is_upstream tally.nodes c.args.node) tally.items _ c.self.invariant.counts c.args.t.now)
+    ∙ ap (λ (a : AccountState g.row.T.Denot). has_passed g.T.PartialOrder.times (front_of g.T.PartialOrder.times a c.args.node) c.args.t.now) c.self.view_is)

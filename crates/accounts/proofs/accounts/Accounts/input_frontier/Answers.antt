@@ -10,11 +10,11 @@ use Rattle.accounts.proofs.accounts.Accounts.input_frontier.Goals as goal
 pub returns-clause-least : goal.returns-clause-least
 returns-clause-least g c =
     let tally = c.self.inside.tally in
-    subst (λ (a : AccountState g.row.T.Denot). IfOk c.input_frontier_of.result (λ found. SameElements found (input_front_of g.T.PartialOrder.below a c.args.node))) c.self.view_is
-    (if_ok c.input_frontier_of.result _ _ (λ found h. found_there g.T.PartialOrder.below g.met.T.PartialOrder.order (is_input_upstream tally.nodes c.args.node) tally.items _ c.self.invariant.counts found h) c.input_frontier_of.ensures.least)
+    subst (λ (a : AccountState g.row.T.Denot). IfOk c.input_frontier_of.result (λ found. SameElements found (input_front_of g.T.PartialOrder.times a c.args.node))) c.self.view_is
+    (if_ok c.input_frontier_of.result _ _ (λ found h. found_there g.T.PartialOrder.times g.met.T.PartialOrder.order (is_input_upstream tally.nodes c.args.node) tally.items _ c.self.invariant.counts found h) c.input_frontier_of.ensures.least)
 
 pub returns-clause-beyond : goal.returns-clause-beyond
 returns-clause-beyond g c =
     let tally = c.self.inside.tally in
-    subst (λ (a : AccountState g.row.T.Denot). IfOk c.input_frontier_of.result (λ found. (t : g.row.T.Denot) → is_beyond g.T.PartialOrder.below found t ≡ is_beyond g.T.PartialOrder.below (input_front_of g.T.PartialOrder.below a c.args.node) t)) c.self.view_is
-    (if_ok c.input_frontier_of.result _ _ (λ found h t. h t ∙ beyond_there g.T.PartialOrder.below g.met.T.PartialOrder.order (is_input_upstream tally.nodes c.args.node) tally.items _ c.self.invariant.counts t) c.input_frontier_of.ensures.beyond)
+    subst (λ (a : AccountState g.row.T.Denot). IfOk c.input_frontier_of.result (λ found. (t : g.row.T.Denot) → is_beyond g.T.PartialOrder.times found t ≡ is_beyond g.T.PartialOrder.times (input_front_of g.T.PartialOrder.times a c.args.node) t)) c.self.view_is
+    (if_ok c.input_frontier_of.result _ _ (λ found h t. h t ∙ beyond_there g.T.PartialOrder.times g.met.T.PartialOrder.order (is_input_upstream tally.nodes c.args.node) tally.items _ c.self.invariant.counts t) c.input_frontier_of.ensures.beyond)

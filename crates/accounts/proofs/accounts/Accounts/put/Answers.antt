@@ -11,7 +11,7 @@ use Rattle.accounts.proofs.accounts.Accounts.put.Goals as goal
 pub remove-requires : goal.remove-requires
 remove-requires g c =
     subst (λ p. Contains c.add.new.self.items (record { place = p; time = c.args.update.time })) (c.port_of.ensures ∙ sym c.port_of-in-Err.ensures)
-    (first_is_there g.T.PartialOrder.below g.met.T.PartialOrder.order (record { place = c.port_of.result; time = c.args.update.time }) c.self.inside.tally.items c.add.new.self.items c.in_ok-add.ensures.counted)
+    (first_is_there g.T.PartialOrder.times g.met.T.PartialOrder.order (record { place = c.port_of.result; time = c.args.update.time }) c.self.inside.tally.items c.add.new.self.items c.in_ok-add.ensures.counted)
 
 pub invariant_of-self-in_default : goal.invariant_of-self-in_default
 invariant_of-self-in_default g c =

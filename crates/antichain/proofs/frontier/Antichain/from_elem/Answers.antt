@@ -7,4 +7,4 @@ pub invariant_of-result : goal.invariant_of-result
 invariant_of-result g c =
     let items : c.unwrap.result.items ≡ c.args.t ∷ [] = grind (arith, common_steps) in
     let room : 4 ≤ c.unwrap.result.capacity = grind (arith, common_steps) in
-    (rw items (frontier_one_time g.T.PartialOrder.below g.T.Ord.cmp c.args.t), room)
+    (rw items (frontier_one_time g.T.PartialOrder.times g.T.Ord.cmp c.args.t), room)

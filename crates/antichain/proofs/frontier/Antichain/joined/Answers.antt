@@ -18,7 +18,7 @@ returns-in_err-insert_joins-clause-small g c =
 
 pub loop-f-preserved : goal.loop-f-preserved
 loop-f-preserved g c =
-    let below = g.T.PartialOrder.below in
+    let times = g.T.PartialOrder.times in
     let items = c.as_slice-f-items.result.now in
     let other = c.args.other.now in
     let rest = drop (c.loop-f.f-index + 1) items in
@@ -26,7 +26,7 @@ loop-f-preserved g c =
     let others = c.elements.ensures.value in
     record {
       beyond = λ s.
-          let all = is_beyond below items s && is_beyond below other s in
+          let all = is_beyond times items s && is_beyond times other s in
           let inserted = rw others at (c.in_ok-insert_joins.ensures.beyond s) in
           let so_far = rw left at (c.loop-f.invariant.beyond s) in
           joined_step g.met.T.PartialOrder.order c.loop-f.both c.insert_joins.new.both rest other c.f-item.result s all inserted so_far;

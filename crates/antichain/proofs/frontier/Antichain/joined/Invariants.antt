@@ -6,8 +6,8 @@ use Rattle.antichain.proofs.frontier.Antichain.joined.Given as goal
 -- to come and beyond the other antichain
 abbrev pub invariant-loop-f : goal.invariant-loop-f
 invariant-loop-f g l =
-    let below = g.T.PartialOrder.below in
+    let times = g.T.PartialOrder.times in
     record {
-      beyond : (t : g.row.T.Denot) → (is_beyond below l.both t || (is_beyond below (drop l.f-index l.f-items) t && is_beyond below l.other t)) ≡ (is_beyond below l.f-items t && is_beyond below l.other t);
+      beyond : (t : g.row.T.Denot) → (is_beyond times l.both t || (is_beyond times (drop l.f-index l.f-items) t && is_beyond times l.other t)) ≡ (is_beyond times l.f-items t && is_beyond times l.other t);
       few : length l.both ≤ l.f-index * length l.other;
     }

@@ -7,9 +7,9 @@ use Rattle.antichain.proofs.frontier.Antichain.least_of.Given as goal
 -- still to come
 abbrev pub invariant-loop-t : goal.invariant-loop-t
 invariant-loop-t g l =
-    let below = g.T.PartialOrder.below in
+    let times = g.T.PartialOrder.times in
     record {
-      beyond : (s : g.row.T.Denot) → (is_beyond below l.frontier s || is_beyond below (drop l.t-index l.times) s) ≡ is_beyond below l.times s;
-      frontier : IsFrontier below g.T.Ord.cmp l.frontier;
+      beyond : (s : g.row.T.Denot) → (is_beyond times l.frontier s || is_beyond times (drop l.t-index l.times) s) ≡ is_beyond times l.times s;
+      frontier : IsFrontier times g.T.Ord.cmp l.frontier;
       few : length l.frontier ≤ l.t-index;
     }

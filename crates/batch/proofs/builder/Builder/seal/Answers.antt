@@ -12,7 +12,7 @@ use Rattle.batch.proofs.builder.Builder.seal.Given.{Over}
 use Rattle.batch.proofs.builder.Builder.seal.Goals as goal
 
 -- the updates lie between the frontiers
-whole : (g : Over) (c : goal.After-drop-sealed-2 g) → IsTrue (is_interval_of g.T.PartialOrder.below c.args.lower.now c.args.upper.now c.self.inside.updates.items)
+whole : (g : Over) (c : goal.After-drop-sealed-2 g) → IsTrue (is_interval_of g.T.PartialOrder.times c.args.lower.now c.args.upper.now c.self.inside.updates.items)
 whole g c = search rules
 
 -- the columns of the batch have the sealed updates
@@ -37,20 +37,20 @@ returns-in_err-columns-clause-overflow g c =
 
 pub of-requires-clause-still : goal.of-requires-clause-still
 of-requires-clause-still g c e =
-    let below = g.T.PartialOrder.below in
+    let times = g.T.PartialOrder.times in
     let lower = c.args.lower.now in
     let upper = c.args.upper.now in
     let made = c.in_ok-description.ensures.made in
     let same = sym (ap (λ d. d.lower) made) ∙ e ∙ ap (λ d. d.upper) made in
-    let inside : IsTrue (is_interval_of below lower upper c.self.inside.updates.items) = search rules in
-    c.in_ok-columns.ensures.made ∙ c.as_slice-2.ensures.value ∙ nothing_between below lower upper same _ (c.in_ok-sealed.ensures.among (λ _ t. is_between below lower upper t) (and_parts _ _ inside).1)
+    let inside : IsTrue (is_interval_of times lower upper c.self.inside.updates.items) = search rules in
+    c.in_ok-columns.ensures.made ∙ c.as_slice-2.ensures.value ∙ nothing_between times lower upper same _ (c.in_ok-sealed.ensures.among (λ _ t. is_between times lower upper t) (and_parts _ _ inside).1)
 
 pub returns-clause-between : goal.returns-clause-between
 returns-clause-between g c =
-    let below = g.T.PartialOrder.below in
+    let times = g.T.PartialOrder.times in
     let lower = c.args.lower.now in
     let upper = c.args.upper.now in
-    rw (c.of.ensures, made g c) (c.in_ok-sealed.ensures.among (λ _ t. is_between below lower upper t) (and_parts _ _ (whole g c)).1)
+    rw (c.of.ensures, made g c) (c.in_ok-sealed.ensures.among (λ _ t. is_between times lower upper t) (and_parts _ _ (whole g c)).1)
 
 pub returns-clause-totals : goal.returns-clause-totals
 returns-clause-totals g c p = rw (c.of.ensures, made g c, ← c.self.view_is) (c.in_ok-sealed.ensures.totals p)
@@ -59,7 +59,7 @@ pub returns-clause-among : goal.returns-clause-among
 returns-clause-among g c p = rw (c.of.ensures, made g c, ← c.self.view_is) (c.in_ok-sealed.ensures.among p)
 
 pub returns-clause-sums : goal.returns-clause-sums
-returns-clause-sums g c = sums_from_totals _ _ _ (returns-clause-totals g c)
+returns-clause-sums g c = sums_from_totals g.T.PartialOrder.times _ _ (returns-clause-totals g c)
 
 pub returns-clause-overflow : goal.returns-clause-overflow
 returns-clause-overflow g c = rw (← c.self.view_is) ((λ e. cc), (λ h. absurd (true≢false (sym (c.in_ok-sealed.ensures.overflow.1 h.1)))))
@@ -78,7 +78,7 @@ returns-clause-stray g c = rw (← c.self.view_is) ((λ e. cc), (λ n. absurd (n
 
 pub of-requires-clause-compacted : goal.of-requires-clause-compacted
 of-requires-clause-compacted g c =
-    let below = g.T.PartialOrder.below in
+    let times = g.T.PartialOrder.times in
     let updates = c.in_ok-sealed.sealed.items in
-    let times : IsTrue (list_all (λ u. below g.T.Minimum.least u.time) updates) = rw (← c.as_slice.ensures.value) c.known_times.ensures in
-    rw (c.in_ok-description.ensures.made, c.in_ok-columns.ensures.made, c.as_slice-2.ensures.value) (from_compacted g.met.T.PartialOrder.order g.met.T.Lattice.bounds g.T.Minimum.least updates times)
+    let ts : IsTrue (list_all (λ u. times.below g.T.PartialOrder.times.least u.time) updates) = rw (← c.as_slice.ensures.value) c.known_times.ensures in
+    rw (c.in_ok-description.ensures.made, c.in_ok-columns.ensures.made, c.as_slice-2.ensures.value) (from_compacted g.met.T.PartialOrder.order g.met.T.Lattice.bounds g.T.PartialOrder.times.least updates ts)

@@ -17,7 +17,7 @@ returns-in_err-finish_row-clause-refused g c =
       p.2 ∙ r.0,
       λ next e us vs xs ys m n.
           let other = said_of (λ (u : Update g.row.T.Denot). (c.args.self.now.in_hand.items ≡ []) ⊎ (u.row ≢ c.args.self.now.row)) c.args.source.now c.args.place next e (c.has_row.ensures.no (search rules)) in
-          large_before g.T.PartialOrder.below g.T.Ord.cmp g.T.Lattice.joined g.T.Lattice.met c.args.since.now us vs c.args.self.now.finished xs ys next c.args.self.now.row c.args.self.now.in_hand.items other m n r.1,
+          large_before g.T.PartialOrder.times g.T.Ord.cmp c.args.since.now us vs c.args.self.now.finished xs ys next c.args.self.now.row c.args.self.now.in_hand.items other m n r.1,
     ))
     c.in_err-finish_row.ensures.refused)
 
@@ -26,4 +26,4 @@ returns-clause-kept g c next e us vs xs ys m n =
     let other = said_of (λ (u : Update g.row.T.Denot). (c.args.self.now.in_hand.items ≡ []) ⊎ (u.row ≢ c.args.self.now.row)) c.args.source.now c.args.place next e (c.has_row.ensures.no (search rules)) in
     let row = said_of (λ (u : Update g.row.T.Denot). c.row_near.result ≡ u.row) c.args.source.now c.args.place next e c.row_near.ensures in
     let w = c.in_ok-finish_row.ensures.written in
-    (row, settled_before g.T.PartialOrder.below g.T.Ord.cmp g.T.Lattice.joined g.T.Lattice.met c.args.since.now us vs c.args.self.now.finished w.0 c.finish_row.new.self.finished xs ys next c.args.self.now.row c.row_near.result c.args.self.now.in_hand.items c.finish_row.new.self.in_hand.items other w.1 c.in_ok-finish_row.ensures.emptied w.2 w.3 c.in_ok-finish_row.ensures.fits m n)
+    (row, settled_before g.T.PartialOrder.times g.T.Ord.cmp c.args.since.now us vs c.args.self.now.finished w.0 c.finish_row.new.self.finished xs ys next c.args.self.now.row c.row_near.result c.args.self.now.in_hand.items c.finish_row.new.self.in_hand.items other w.1 c.in_ok-finish_row.ensures.emptied w.2 w.3 c.in_ok-finish_row.ensures.fits m n)

@@ -26,9 +26,7 @@ unreachable-requires g c =
 pub returns-clause-laid : goal.returns-clause-laid
 returns-clause-laid g c =
     let inside = c.self.inside in
-    let below = g.T.PartialOrder.below in
-    let joined = g.T.Lattice.joined in
-    let least = g.T.Minimum.least in
+    let times = g.T.PartialOrder.times in
     let d : DeskView g.row.T.Denot = record {
       gathered = inside.gathered.items;
       arrangements = inside.arrangements.items;
@@ -40,8 +38,8 @@ returns-clause-laid g c =
     let mine = found_at inside.arrangements.items c.number.result c.args.node c.index_mut.result.now (Some r.0) c.number.ensures c.index_mut.ensures.value there in
     let here = there ∙ ap Some (sym mine ∙ c.in-Some.is) in
     on_ok_by c.move_into.result (λ waiting p source key at.
-    subst (λ x. IsLaidIn below joined least p c.args.node c.args.list.now x (record d { arrangements = set d.arrangements c.number.result (Some c.move_into.new.arrangement) })) c.self.view_is
-    (arranged_after below joined least p c.args.node d c.in-Some.arrangement c.move_into.new.arrangement c.args.list.now c.number.result c.number.ensures here
+    subst (λ x. IsLaidIn times p c.args.node c.args.list.now x (record d { arrangements = set d.arrangements c.number.result (Some c.move_into.new.arrangement) })) c.self.view_is
+    (arranged_after times p c.args.node d c.in-Some.arrangement c.move_into.new.arrangement c.args.list.now c.number.result c.number.ensures here
     waiting source key at)) c.move_into.ensures.waiting
 
 pub returns-clause-same : goal.returns-clause-same

@@ -7,25 +7,21 @@ use Rattle.desk.proofs.desk.Desk.compute.Goals as goal
 
 pub settle-requires-2 : goal.settle-requires-2
 settle-requires-2 g c =
-    let below = g.T.PartialOrder.below in
-    let joined = g.T.Lattice.joined in
-    let least = g.T.Minimum.least in (
+    let times = g.T.PartialOrder.times in (
       search rules,
       (
-        someones_then below joined least c.args.plan.now c.args.self.now c.begin.new.self c.args.hand.now c.begin.new.hand c.begin.ensures.leads c.requires.someones,
+        someones_then times c.args.plan.now c.args.self.now c.begin.new.self c.args.hand.now c.begin.new.hand c.begin.ensures.leads c.requires.someones,
         c.in_ok-begin.ensures.computed,
       ),
     )
 
 pub returns-clause-leads : goal.returns-clause-leads
 returns-clause-leads g c =
-    leads_then g.T.PartialOrder.below g.T.Lattice.joined g.T.Minimum.least c.args.plan.now c.args.self.now c.begin.new.self c.args.hand.now c.begin.new.hand c.begin.ensures.leads c.settle-2.new.self c.settle-2.new.hand c.settle-2.ensures.leads
+    leads_then g.T.PartialOrder.times c.args.plan.now c.args.self.now c.begin.new.self c.args.hand.now c.begin.new.hand c.begin.ensures.leads c.settle-2.new.self c.settle-2.new.hand c.settle-2.ensures.leads
 
 pub returns-clause-refused : goal.returns-clause-refused
 returns-clause-refused g c =
-    let below = g.T.PartialOrder.below in
-    let joined = g.T.Lattice.joined in
-    let least = g.T.Minimum.least in
+    let times = g.T.PartialOrder.times in
     let p = c.args.plan.now in
-    if_err_from c.settle-2.result (IsMemoryOrOverflow (IsTooLarge below joined least g.T.Ord.cmp p c.begin.new.self c.begin.new.hand)) (IsMemoryOrOverflow (IsTooLarge below joined least g.T.Ord.cmp p c.args.self.now c.args.hand.now))
-    (λ e m. memory_or (large_before below joined least p c.args.self.now c.begin.new.self c.args.hand.now c.begin.new.hand c.begin.ensures.leads g.T.Ord.cmp) m) c.settle-2.ensures.refused
+    if_err_from c.settle-2.result (IsMemoryOrOverflow (IsTooLarge times g.T.Ord.cmp p c.begin.new.self c.begin.new.hand)) (IsMemoryOrOverflow (IsTooLarge times g.T.Ord.cmp p c.args.self.now c.args.hand.now))
+    (λ e m. memory_or (large_before times p c.args.self.now c.begin.new.self c.args.hand.now c.begin.new.hand c.begin.ensures.leads g.T.Ord.cmp) m) c.settle-2.ensures.refused

@@ -13,7 +13,7 @@ use Rattle.desk_laws.specs.Own.{DeskView}
 use Rattle.desk_laws.specs.declared.hand.Hand.TheVariants.{Ready, Turned}
 use Rattle.desk.specs.Desks.{IsTooLarge, Leads}
 use Rattle.desk.proofs.PlaceLemmas.{found_at, set_same}
-use Rattle.desk.proofs.FindingLemmas.{found_large, found_ok, pending_readable}
+use Rattle.desk.proofs.AnswerLemmas.{found_large, found_ok, pending_readable}
 use Rattle.desk.proofs.ResultLemmas.{if_err_from, if_ok_by, memory_or, on_err_by}
 use Rattle.desk.proofs.desk.Desk.find.Goals as goal
 
@@ -31,12 +31,12 @@ index_mut-requires g c =
 
 pub ready-requires-clause-begun : goal.ready-requires-clause-begun
 ready-requires-clause-begun g c =
-    subst (λ (s : SpineState g.row.T.Denot). IsTrue (all_beyond g.T.PartialOrder.below (g.T.Minimum.least ∷ []) s.since)) (sym c.trace-source.ensures.value) c.trace-source.ensures.known.begun
+    subst (λ (s : SpineState g.row.T.Denot). IsTrue (all_beyond g.T.PartialOrder.times (g.T.PartialOrder.times.least ∷ []) s.since)) (sym c.trace-source.ensures.value) c.trace-source.ensures.known.begun
 
 pub ready-requires-clause-held : goal.ready-requires-clause-held
 ready-requires-clause-held g c =
     let inside = c.self.inside in
-    let below = g.T.PartialOrder.below in
+    let times = g.T.PartialOrder.times in
     let n = c.args.node in
     let r = c.requires.there in
     let there = subst (λ (x : DeskView g.row.T.Denot). slice_get x.reductions n ≡ Some (Some r.0)) (sym c.self.view_is) r.1 in
@@ -44,8 +44,8 @@ ready-requires-clause-held g c =
     let here = r.1 ∙ ap Some (sym mine ∙ c.in-Some.is) in
     let a = c.arrangement_at.result.now in
     let read = subst (λ (x : DeskView g.row.T.Denot). slice_get x.arrangements c.args.source ≡ Some (Some a)) c.self.view_is c.arrangement_at.ensures.there in
-    subst (λ (s : SpineState g.row.T.Denot). IsTrue (all_beyond below s.since (pending_of c.in-Some.reduction))) (sym c.trace-source.ensures.value)
-    (pending_readable below g.T.Lattice.joined g.T.Minimum.least c.args.plan.now c.args.self.now n c.args.upper.now c.requires.someones c.requires.reduces.0 c.args.source c.requires.reduces.1 g.met.T.PartialOrder.order c.in-Some.reduction here a read c.trace-source.ensures.known)
+    subst (λ (s : SpineState g.row.T.Denot). IsTrue (all_beyond times s.since (pending_of c.in-Some.reduction))) (sym c.trace-source.ensures.value)
+    (pending_readable times c.args.plan.now c.args.self.now n c.args.upper.now c.requires.someones c.requires.reduces.0 c.args.source c.requires.reduces.1 g.met.T.PartialOrder.order c.in-Some.reduction here a read c.trace-source.ensures.known)
 
 pub unreachable-requires : goal.unreachable-requires
 unreachable-requires g c =
@@ -57,9 +57,7 @@ unreachable-requires g c =
 pub returns-clause-leads : goal.returns-clause-leads
 returns-clause-leads g c =
     let inside = c.self.inside in
-    let below = g.T.PartialOrder.below in
-    let joined = g.T.Lattice.joined in
-    let least = g.T.Minimum.least in
+    let times = g.T.PartialOrder.times in
     let n = c.args.node in
     let d : DeskView g.row.T.Denot = record {
       gathered = inside.gathered.items;
@@ -73,8 +71,8 @@ returns-clause-leads g c =
     let here = there ∙ ap Some (sym mine ∙ c.in-Some.is) in
     let after = record d { reductions = set d.reductions c.number.result (Some c.ready.new.self) } in
     let x = c.ready.ensures in
-    if_ok_by c.ready.result (λ out leads. subst (λ y. Leads below joined least c.args.plan.now y (Turned n c.args.upper.now) after (Ready n out)) c.self.view_is leads)
-    (found_ok below joined g.T.Lattice.met least g.met.T.PartialOrder.order g.met.T.Lattice.bounds c.args.plan.now d n c.requires.reduces.0 c.args.source c.requires.reduces.1 c.args.upper.now c.in-Some.reduction c.ready.new.self here c.arrangement_at.result.now c.arrangement_at.ensures.there
+    if_ok_by c.ready.result (λ out leads. subst (λ y. Leads times c.args.plan.now y (Turned n c.args.upper.now) after (Ready n out)) c.self.view_is leads)
+    (found_ok times g.met.T.PartialOrder.order g.met.T.Lattice.bounds c.args.plan.now d n c.requires.reduces.0 c.args.source c.requires.reduces.1 c.args.upper.now c.in-Some.reduction c.ready.new.self here c.arrangement_at.result.now c.arrangement_at.ensures.there
     c.trace-source.result.now c.trace-source.ensures.value c.number.result c.number.ensures c.ready.result x.kept x.stands x.settled x.later x.out_beyond x.rest_beyond)
 
 pub returns-clause-same : goal.returns-clause-same
@@ -93,9 +91,7 @@ returns-clause-same g c =
 pub returns-clause-refused : goal.returns-clause-refused
 returns-clause-refused g c =
     let inside = c.self.inside in
-    let below = g.T.PartialOrder.below in
-    let joined = g.T.Lattice.joined in
-    let least = g.T.Minimum.least in
+    let times = g.T.PartialOrder.times in
     let n = c.args.node in
     let upper = c.args.upper.now in
     let d : DeskView g.row.T.Denot = record {
@@ -110,10 +106,10 @@ returns-clause-refused g c =
     let here = there ∙ ap Some (sym mine ∙ c.in-Some.is) in
     let trace = c.trace-source.result.now in
     let reduction = c.in-Some.reduction in
-    let too_large = IsTooLarge below joined least g.T.Ord.cmp c.args.plan.now c.args.self.now (Turned n upper) in
+    let too_large = IsTooLarge times g.T.Ord.cmp c.args.plan.now c.args.self.now (Turned n upper) in
     if_err_from c.ready.result
-    (IsMemoryOrOverflow ((inserted : List (Insertion g.row.T.Denot)) (received emitted : List (Update g.row.T.Denot)) → Stands below trace inserted → SumsToReceived below upper (all_updates inserted) received → IsReduced below joined least reduction received emitted → IsTrue (list_all (λ u. has_passed below upper u.time) emitted) → IsOverfullWith below reduction received upper))
+    (IsMemoryOrOverflow ((inserted : List (Insertion g.row.T.Denot)) (received emitted : List (Update g.row.T.Denot)) → Stands times trace inserted → SumsToReceived times upper (all_updates inserted) received → IsReduced times reduction received emitted → IsTrue (list_all (λ u. has_passed times upper u.time) emitted) → IsOverfullWith times reduction received upper))
     (IsMemoryOrOverflow too_large)
     (λ e m. memory_or (λ cause.
-    subst (λ y. IsTooLarge below joined least g.T.Ord.cmp c.args.plan.now y (Turned n upper)) c.self.view_is
-    (found_large below joined least g.met.T.PartialOrder.order g.T.Ord.cmp c.args.plan.now d n c.requires.reduces.0 c.args.source c.requires.reduces.1 upper reduction here c.arrangement_at.result.now c.arrangement_at.ensures.there trace c.trace-source.ensures.value cause)) m) c.ready.ensures.refused
+    subst (λ y. IsTooLarge times g.T.Ord.cmp c.args.plan.now y (Turned n upper)) c.self.view_is
+    (found_large times g.met.T.PartialOrder.order g.T.Ord.cmp c.args.plan.now d n c.requires.reduces.0 c.args.source c.requires.reduces.1 upper reduction here c.arrangement_at.result.now c.arrangement_at.ensures.there trace c.trace-source.ensures.value cause)) m) c.ready.ensures.refused

@@ -9,13 +9,13 @@ use Rattle.desk.proofs.desk.Desk.first_join.Goals as goal
 
 pub add_reader_at-requires : goal.add_reader_at-requires
 add_reader_at-requires g c =
-    left_there g.T.PartialOrder.below g.T.Lattice.joined g.T.Minimum.least g.met.T.PartialOrder.order c.args.plan.now c.known.ensures.plan c.args.node c.requires.within c.args.left c.args.right c.requires.join
-    c.self.inside.gathered.items c.self.inside.arrangements.items c.self.inside.joins.items c.self.inside.reductions.items (subst (λ d. IsLaidOut g.T.PartialOrder.below g.T.Lattice.joined g.T.Minimum.least c.args.plan.now d c.args.node) (sym c.self.view_is) c.requires.before)
+    left_there g.T.PartialOrder.times g.met.T.PartialOrder.order c.args.plan.now c.known.ensures.plan c.args.node c.requires.within c.args.left c.args.right c.requires.join
+    c.self.inside.gathered.items c.self.inside.arrangements.items c.self.inside.joins.items c.self.inside.reductions.items (subst (λ d. IsLaidOut g.T.PartialOrder.times c.args.plan.now d c.args.node) (sym c.self.view_is) c.requires.before)
 
 pub add_reader_at-requires-2 : goal.add_reader_at-requires-2
 add_reader_at-requires-2 g c =
-    right_there g.T.PartialOrder.below g.T.Lattice.joined g.T.Minimum.least g.met.T.PartialOrder.order c.args.plan.now c.known.ensures.plan c.args.node c.requires.within c.args.left c.args.right c.requires.join
-    c.self.inside.gathered.items c.self.inside.arrangements.items c.self.inside.joins.items c.self.inside.reductions.items (subst (λ d. IsLaidOut g.T.PartialOrder.below g.T.Lattice.joined g.T.Minimum.least c.args.plan.now d c.args.node) (sym c.self.view_is) c.requires.before)
+    right_there g.T.PartialOrder.times g.met.T.PartialOrder.order c.args.plan.now c.known.ensures.plan c.args.node c.requires.within c.args.left c.args.right c.requires.join
+    c.self.inside.gathered.items c.self.inside.arrangements.items c.self.inside.joins.items c.self.inside.reductions.items (subst (λ d. IsLaidOut g.T.PartialOrder.times c.args.plan.now d c.args.node) (sym c.self.view_is) c.requires.before)
     c.add_reader_at.new.arrangements.items c.in_ok-left_hold.left_hold c.in_ok-left_hold.ensures.added
 
 pub width-left_width-requires : goal.width-left_width-requires
@@ -36,8 +36,8 @@ new-requires g c =
 pub returns-clause-laid_out : goal.returns-clause-laid_out
 returns-clause-laid_out g c =
     on_ok_always c.new.result
-    (laid_last g.T.PartialOrder.below g.T.Lattice.joined g.T.Minimum.least g.met.T.PartialOrder.order c.args.plan.now c.known.ensures.plan c.args.node c.requires.within c.args.left c.args.right c.requires.join
-    c.self.inside.gathered.items c.self.inside.arrangements.items c.self.inside.joins.items c.self.inside.reductions.items (subst (λ d. IsLaidOut g.T.PartialOrder.below g.T.Lattice.joined g.T.Minimum.least c.args.plan.now d c.args.node) (sym c.self.view_is) c.requires.before)
+    (laid_last g.T.PartialOrder.times g.met.T.PartialOrder.order c.args.plan.now c.known.ensures.plan c.args.node c.requires.within c.args.left c.args.right c.requires.join
+    c.self.inside.gathered.items c.self.inside.arrangements.items c.self.inside.joins.items c.self.inside.reductions.items (subst (λ d. IsLaidOut g.T.PartialOrder.times c.args.plan.now d c.args.node) (sym c.self.view_is) c.requires.before)
     c.add_reader_at.new.arrangements.items c.in_ok-left_hold.left_hold c.in_ok-left_hold.ensures.added c.add_reader_at-2.new.arrangements.items c.in_ok-right_hold.right_hold c.in_ok-right_hold.ensures.added)
 
 pub returns-clause-made : goal.returns-clause-made
@@ -50,8 +50,8 @@ returns-clause-made g c =
         left = ap (λ (z : JoiningView _). z.state.left) made;
         right = ap (λ (z : JoiningView _). z.state.right) made;
       },
-      own_holds g.T.PartialOrder.below g.T.Lattice.joined g.T.Minimum.least g.met.T.PartialOrder.order c.args.plan.now c.known.ensures.plan c.args.node c.requires.within c.args.left c.args.right c.requires.join
-          c.self.inside.gathered.items c.self.inside.arrangements.items c.self.inside.joins.items c.self.inside.reductions.items (subst (λ d. IsLaidOut g.T.PartialOrder.below g.T.Lattice.joined g.T.Minimum.least c.args.plan.now d c.args.node) (sym c.self.view_is) c.requires.before)
+      own_holds g.T.PartialOrder.times g.met.T.PartialOrder.order c.args.plan.now c.known.ensures.plan c.args.node c.requires.within c.args.left c.args.right c.requires.join
+          c.self.inside.gathered.items c.self.inside.arrangements.items c.self.inside.joins.items c.self.inside.reductions.items (subst (λ d. IsLaidOut g.T.PartialOrder.times c.args.plan.now d c.args.node) (sym c.self.view_is) c.requires.before)
           c.add_reader_at.new.arrangements.items c.in_ok-left_hold.left_hold c.in_ok-left_hold.ensures.added c.add_reader_at-2.new.arrangements.items c.in_ok-right_hold.right_hold c.in_ok-right_hold.ensures.added
           j (ap (λ (z : JoiningView _). z.left_hold) made) (ap (λ (z : JoiningView _). z.right_hold) made),
     )) c.new.ensures.made

@@ -2,7 +2,7 @@ use Rattle.std.proofs.Common.{rules, arith, ◌≡◌, ℕ, List, Some, slice_ge
 use Rattle.std.proofs.lemmas.Option.{none-some, same_Some}
 use Rattle.antichain.specs.Antichains.{IsFrontier}
 use Rattle.desk_laws.specs.Own.{DeskView, boundary_at, hold_at, other_port}
-use Rattle.desk.specs.Tidying.{HasMoved, MayMove, front_of_port}
+use Rattle.desk.specs.Upkeep.{HasMoved, MayMove, front_of_port}
 use Rattle.desk.proofs.PlaceLemmas.{found_at, get_inside, some_same}
 use Rattle.desk.proofs.ResultLemmas.{on_err_by, on_ok_by}
 use Rattle.desk.proofs.desk.Desk.follow.Goals as goal
@@ -16,8 +16,7 @@ index-requires g c =
 
 pub move_hold_at-requires : goal.move_hold_at-requires
 move_hold_at-requires g c =
-    let below = g.T.PartialOrder.below in
-    let least = g.T.Minimum.least in
+    let times = g.T.PartialOrder.times in
     let port = c.args.port in
     let r = c.requires.may in
     let there = subst (λ (x : DeskView g.row.T.Denot). slice_get x.joins c.args.node ≡ Some (Some r.0)) (sym c.self.view_is) r.1 in
@@ -27,8 +26,8 @@ move_hold_at-requires g c =
     let number = ap (hold_at port) same ∙ sym c.hold_on.ensures in
     let boundary = ap (boundary_at port) same ∙ sym c.boundary_on.ensures.value in
     let logical : front_of_port c.args.fronts.now c.args.node (other_port port) ≡ c.front_of.result.now = ap (front_of_port c.args.fronts.now c.args.node) (sym c.other.ensures.value) ∙ sym c.front_of.ensures.value in
-    let may : MayMove below least r.2 c.hold_on.result c.front_of.result.now c.boundary_on.result.now = subst (λ (z : ℕ × List g.row.T.Denot × List g.row.T.Denot). MayMove below least r.2 z.0 z.1 z.2) (λ i. (number i, logical i, boundary i)) r.4 in
-    (search rules, ((r.2, own, may), (c.front_of.ensures.frontier, subst (λ F. IsFrontier below g.T.Ord.cmp F) (sym c.boundary_on.ensures.value) c.boundary_on.ensures.frontier)))
+    let may : MayMove times r.2 c.hold_on.result c.front_of.result.now c.boundary_on.result.now = subst (λ (z : ℕ × List g.row.T.Denot × List g.row.T.Denot). MayMove times r.2 z.0 z.1 z.2) (λ i. (number i, logical i, boundary i)) r.4 in
+    (search rules, ((r.2, own, may), (c.front_of.ensures.frontier, subst (λ F. IsFrontier times g.T.Ord.cmp F) (sym c.boundary_on.ensures.value) c.boundary_on.ensures.frontier)))
 
 pub unreachable-requires : goal.unreachable-requires
 unreachable-requires g c =
@@ -41,8 +40,7 @@ pub returns-clause-moved : goal.returns-clause-moved
 returns-clause-moved g c j at a own =
     let inside = c.self.inside in
     let d : DeskView g.row.T.Denot = record { gathered = inside.gathered.items; arrangements = inside.arrangements.items; joins = inside.joins.items; reductions = inside.reductions.items } in
-    let below = g.T.PartialOrder.below in
-    let least = g.T.Minimum.least in
+    let times = g.T.PartialOrder.times in
     let port = c.args.port in
     let s = c.args.source in
     let r = c.requires.may in
@@ -56,7 +54,7 @@ returns-clause-moved g c j at a own =
     on_ok_by c.move_hold_at.result (λ m. (
       m.0,
       (λ i. record d { arrangements = m.1 i }) ∙ ap (λ (z : DeskView g.row.T.Denot). record z { arrangements = set z.arrangements s (Some m.0) }) c.self.view_is,
-      subst (λ (z : ℕ × List g.row.T.Denot × List g.row.T.Denot). HasMoved below z.0 z.1 z.2 a m.0) (λ i. (number i, logical i, boundary i)) m.2,
+      subst (λ (z : ℕ × List g.row.T.Denot × List g.row.T.Denot). HasMoved times z.0 z.1 z.2 a m.0) (λ i. (number i, logical i, boundary i)) m.2,
     )) (c.move_hold_at.ensures.moved a here)
 
 pub returns-clause-same : goal.returns-clause-same

@@ -10,7 +10,7 @@ follow-requires g c =
       (
         search rules,
         (
-          there_to_follow g.T.PartialOrder.below g.T.Lattice.joined g.T.Minimum.least c.args.plan.now c.args.fronts.now g.met.T.PartialOrder.order c.args.self.now c.args.node c.args.port c.args.source c.requires.may c.requires.reads,
+          there_to_follow g.T.PartialOrder.times c.args.plan.now c.args.fronts.now g.met.T.PartialOrder.order c.args.self.now c.args.node c.args.port c.args.source c.requires.may c.requires.reads,
           omega (arith, few, within),
         ),
       ),
@@ -19,17 +19,17 @@ follow-requires g c =
 pub returns-clause-leads : goal.returns-clause-leads
 returns-clause-leads g c =
     let reads = c.requires.reads in
-    leads_followed g.T.PartialOrder.below g.T.Lattice.joined g.T.Minimum.least c.args.plan.now c.args.fronts.now g.met.T.PartialOrder.order c.args.self.now c.args.node c.args.port c.args.source c.requires.may reads c.follow.new.self c.follow.result
+    leads_followed g.T.PartialOrder.times c.args.plan.now c.args.fronts.now g.met.T.PartialOrder.order c.args.self.now c.args.node c.args.port c.args.source c.requires.may reads c.follow.new.self c.follow.result
     (c.follow.ensures.moved reads.0 reads.1.there) c.follow.ensures.same
 
 pub returns-clause-here : goal.returns-clause-here
 returns-clause-here g c =
     let reads = c.requires.reads in
-    here_followed g.T.PartialOrder.below g.T.Lattice.joined g.T.Minimum.least c.args.plan.now c.args.fronts.now g.met.T.PartialOrder.order c.args.self.now c.args.node c.args.port c.args.source c.requires.may reads c.follow.new.self c.follow.result
+    here_followed g.T.PartialOrder.times c.args.plan.now c.args.fronts.now g.met.T.PartialOrder.order c.args.self.now c.args.node c.args.port c.args.source c.requires.may reads c.follow.new.self c.follow.result
     (c.follow.ensures.moved reads.0 reads.1.there)
 
 pub returns-clause-stays : goal.returns-clause-stays
 returns-clause-stays g c =
     let reads = c.requires.reads in
-    still_followed g.T.PartialOrder.below g.T.Lattice.joined g.T.Minimum.least c.args.plan.now c.args.fronts.now g.met.T.PartialOrder.order c.args.self.now c.args.node c.args.port c.args.source c.requires.may reads c.follow.new.self c.follow.result
+    still_followed g.T.PartialOrder.times c.args.plan.now c.args.fronts.now g.met.T.PartialOrder.order c.args.self.now c.args.node c.args.port c.args.source c.requires.may reads c.follow.new.self c.follow.result
     (c.follow.ensures.moved reads.0 reads.1.there) c.follow.ensures.same

@@ -23,9 +23,7 @@ returns-in_err-take_in-clause-same g c =
 pub returns-clause-laid : goal.returns-clause-laid
 returns-clause-laid g c p at =
     let inside = c.self.inside in
-    let below = g.T.PartialOrder.below in
-    let joined = g.T.Lattice.joined in
-    let least = g.T.Minimum.least in
+    let times = g.T.PartialOrder.times in
     let d : DeskView g.row.T.Denot = record {
       gathered = inside.gathered.items;
       arrangements = inside.arrangements.items;
@@ -34,5 +32,5 @@ returns-clause-laid g c p at =
     } in
     let made = linear_output c.args.operator.now c.args.list.now in
     let within = subst (λ (x : DeskView g.row.T.Denot). c.args.node < length x.gathered) (sym c.self.view_is) c.requires.place in
-    subst (λ x. IsLaidIn below joined least p c.args.node made x (record d { gathered = set d.gathered c.number.result c.take_in.new.self })) c.self.view_is
-    (gathered_after below joined least p c.args.node d c.args.operator.now at c.requires.plain c.number.result c.number.ensures within c.index_mut.result.now c.take_in.new.self made c.index_mut.ensures.value c.in_ok-take_in.ensures.more)
+    subst (λ x. IsLaidIn times p c.args.node made x (record d { gathered = set d.gathered c.number.result c.take_in.new.self })) c.self.view_is
+    (gathered_after times p c.args.node d c.args.operator.now at c.requires.plain c.number.result c.number.ensures within c.index_mut.result.now c.take_in.new.self made c.index_mut.ensures.value c.in_ok-take_in.ensures.more)

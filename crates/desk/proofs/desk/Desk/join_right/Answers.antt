@@ -17,15 +17,14 @@ index_mut-requires g c =
 
 pub pair_right-requires : goal.pair_right-requires
 pair_right-requires g c =
-    let below = g.T.PartialOrder.below in
-    let least = g.T.Minimum.least in
+    let times = g.T.PartialOrder.times in
     let us = c.args.list.now in
     let r = c.requires.next in
     let there = subst (λ (x : DeskView g.row.T.Denot). slice_get x.joins c.args.node ≡ Some (Some r.0)) (sym c.self.view_is) r.1 in
     let mine = found_at c.self.inside.joins.items c.number.result c.args.node c.index_mut.result.now (Some r.0) c.number.ensures c.index_mut.ensures.value there in
     let same = same_Some r.0 c.in-Some.joining (sym mine ∙ c.in-Some.is) in
-    let next = subst (λ (x : DeskView g.row.T.Denot). IsNextAt below least 1 x.arrangements c.args.right c.args.left r.0 us) (sym c.self.view_is) r.2 in
-    (search rules, subst (λ j. IsNextAt below least 1 c.self.inside.arrangements.items c.args.right c.args.left j us) same next)
+    let next = subst (λ (x : DeskView g.row.T.Denot). IsNextAt times 1 x.arrangements c.args.right c.args.left r.0 us) (sym c.self.view_is) r.2 in
+    (search rules, subst (λ j. IsNextAt times 1 c.self.inside.arrangements.items c.args.right c.args.left j us) same next)
 
 pub unreachable-requires : goal.unreachable-requires
 unreachable-requires g c =
@@ -37,9 +36,7 @@ unreachable-requires g c =
 pub returns-clause-joined : goal.returns-clause-joined
 returns-clause-joined g c =
     let inside = c.self.inside in
-    let below = g.T.PartialOrder.below in
-    let joined = g.T.Lattice.joined in
-    let least = g.T.Minimum.least in
+    let times = g.T.PartialOrder.times in
     let cmp = g.T.Ord.cmp in
     let us = c.args.list.now in
     let d : DeskView g.row.T.Denot = record {
@@ -53,13 +50,13 @@ returns-clause-joined g c =
     let mine = found_at inside.joins.items c.number.result c.args.node c.index_mut.result.now (Some r.0) c.number.ensures c.index_mut.ensures.value there in
     let here = there ∙ ap Some (sym mine ∙ c.in-Some.is) in
     let i = c.pair_right.new.joining in
-    if_ok_from c.pair_right.result (λ out. IsJoinedWith below least joined cmp 1 c.args.node c.args.right c.args.left us out.items c.args.self.now (record d { joins = set d.joins c.number.result (Some i) })) (λ out e.
-    subst (λ x. IsJoinedWith below least joined cmp 1 c.args.node c.args.right c.args.left us out.items x (record d { joins = set d.joins c.number.result (Some i) })) c.self.view_is (record {
+    if_ok_from c.pair_right.result (λ out. IsJoinedWith times cmp 1 c.args.node c.args.right c.args.left us out.items c.args.self.now (record d { joins = set d.joins c.number.result (Some i) })) (λ out e.
+    subst (λ x. IsJoinedWith times cmp 1 c.args.node c.args.right c.args.left us out.items x (record d { joins = set d.joins c.number.result (Some i) })) c.self.view_is (record {
       before = c.in-Some.joining;
       after = i;
       was = here;
       desk = ap (λ n. record d { joins = set d.joins n (Some i) }) c.number.ensures;
-      paired = if_ok_back c.pair_right.result (λ out. IsPaired below least joined cmp 1 inside.arrangements.items c.args.right c.args.left c.in-Some.joining us out.items i) out e c.pair_right.ensures.paired;
+      paired = if_ok_back c.pair_right.result (λ out. IsPaired times cmp 1 inside.arrangements.items c.args.right c.args.left c.in-Some.joining us out.items i) out e c.pair_right.ensures.paired;
     }))
 
 pub returns-clause-same : goal.returns-clause-same
@@ -77,13 +74,12 @@ returns-clause-same g c =
 
 pub returns-clause-refused : goal.returns-clause-refused
 returns-clause-refused g c =
-    let below = g.T.PartialOrder.below in
-    let least = g.T.Minimum.least in
+    let times = g.T.PartialOrder.times in
     let us = c.args.list.now in
     let r = c.requires.next in
     let there = subst (λ (x : DeskView g.row.T.Denot). slice_get x.joins c.args.node ≡ Some (Some r.0)) (sym c.self.view_is) r.1 in
     let mine = found_at c.self.inside.joins.items c.number.result c.args.node c.index_mut.result.now (Some r.0) c.number.ensures c.index_mut.ensures.value there in
     let same = same_Some r.0 c.in-Some.joining (sym mine ∙ c.in-Some.is) in
-    if_err_from c.pair_right.result _ (IsMemoryOrOverflow ((j : JoiningView g.row.T.Denot) → slice_get c.args.self.now.joins c.args.node ≡ Some (Some j) → ArePairsLarge below least 1 c.args.self.now.arrangements c.args.left j us)) (λ refusal refused. memory_or {Q = (j : JoiningView g.row.T.Denot) → slice_get c.args.self.now.joins c.args.node ≡ Some (Some j) → ArePairsLarge below least 1 c.args.self.now.arrangements c.args.left j us} (λ large j own.
-    subst (λ (x : DeskView g.row.T.Denot). ArePairsLarge below least 1 x.arrangements c.args.left j us) c.self.view_is
-    (subst (λ i. ArePairsLarge below least 1 c.self.inside.arrangements.items c.args.left i us) (sym same ∙ some_same r.0 j (sym r.1 ∙ own)) large)) refused) c.pair_right.ensures.refused
+    if_err_from c.pair_right.result _ (IsMemoryOrOverflow ((j : JoiningView g.row.T.Denot) → slice_get c.args.self.now.joins c.args.node ≡ Some (Some j) → ArePairsLarge times 1 c.args.self.now.arrangements c.args.left j us)) (λ refusal refused. memory_or {Q = (j : JoiningView g.row.T.Denot) → slice_get c.args.self.now.joins c.args.node ≡ Some (Some j) → ArePairsLarge times 1 c.args.self.now.arrangements c.args.left j us} (λ large j own.
+    subst (λ (x : DeskView g.row.T.Denot). ArePairsLarge times 1 x.arrangements c.args.left j us) c.self.view_is
+    (subst (λ i. ArePairsLarge times 1 c.self.inside.arrangements.items c.args.left i us) (sym same ∙ some_same r.0 j (sym r.1 ∙ own)) large)) refused) c.pair_right.ensures.refused

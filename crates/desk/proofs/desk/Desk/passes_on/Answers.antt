@@ -4,7 +4,7 @@ use Rattle.std.specs.List.{slice_get}
 use Rattle.std.proofs.lemmas.Bool.{eqb-true}
 use Rattle.plan.specs.Nodes.{arranged_by, is_linear, node_at}
 use Rattle.desk_laws.specs.Own.{DeskView, gathered_in}
-use Rattle.desk.proofs.PassingLemmas.{none_lies, none_of}
+use Rattle.desk.proofs.PassedOnLemmas.{none_lies, none_of}
 use Rattle.desk.proofs.desk.Desk.passes_on.Goals as goal
 
 pub returns-then-len-ge-MANY : goal.returns-then-len-ge-MANY

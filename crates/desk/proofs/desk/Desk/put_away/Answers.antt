@@ -6,29 +6,25 @@ use Rattle.desk.proofs.desk.Desk.put_away.Goals as goal
 
 pub insert_at-requires : goal.insert_at-requires
 insert_at-requires g c =
-    let below = g.T.PartialOrder.below in
-    let joined = g.T.Lattice.joined in
-    let least = g.T.Minimum.least in
-    there_to_put below joined least (record { gathered = c.self.inside.gathered.items; arrangements = c.self.inside.arrangements.items; joins = c.self.inside.joins.items; reductions = c.self.inside.reductions.items }) c.args.node c.args.batch
-    (subst (λ (d : DeskView g.row.T.Denot). (p : _) × IsNextBatch below joined least p d c.args.node c.args.batch) (sym c.self.view_is) c.requires.next)
+    let times = g.T.PartialOrder.times in
+    there_to_put times (record { gathered = c.self.inside.gathered.items; arrangements = c.self.inside.arrangements.items; joins = c.self.inside.joins.items; reductions = c.self.inside.reductions.items }) c.args.node c.args.batch
+    (subst (λ (d : DeskView g.row.T.Denot). (p : _) × IsNextBatch times p d c.args.node c.args.batch) (sym c.self.view_is) c.requires.next)
 
 pub returns-then-len-eq0 : goal.returns-then-len-eq0
 returns-then-len-eq0 g c = record {
   away = λ p next.
-      none_put g.T.PartialOrder.below g.T.Lattice.joined g.T.Minimum.least p c.args.self.now c.args.node c.args.batch (empty _ (sym c.len.ensures.len ∙ c.if-len-eq0.true));
+      none_put g.T.PartialOrder.times p c.args.self.now c.args.node c.args.batch (empty _ (sym c.len.ensures.len ∙ c.if-len-eq0.true));
 }
 
 pub returns : goal.returns
 returns g c = record {
   away = λ p next.
-      let below = g.T.PartialOrder.below in
-      let joined = g.T.Lattice.joined in
-      let least = g.T.Minimum.least in
+      let times = g.T.PartialOrder.times in
       let n = c.args.node in
       let batch = c.args.batch in
       let d : DeskView g.row.T.Denot = record { gathered = c.self.inside.gathered.items; arrangements = c.self.inside.arrangements.items; joins = c.self.inside.joins.items; reductions = c.self.inside.reductions.items } in
       let xs = c.insert_at.new.arrangements.items in
-      subst (λ (e : DeskView g.row.T.Denot). IsPutAway below joined least p n batch e (record d { arrangements = xs })) c.self.view_is
-      (put_away_by below joined least d n batch xs c.insert_at.ensures (λ e. c.if-len-eq0.false (c.len.ensures.len ∙ ap length e)) p
-      (subst (λ (e : DeskView g.row.T.Denot). IsNextBatch below joined least p e n batch) (sym c.self.view_is) next));
+      subst (λ (e : DeskView g.row.T.Denot). IsPutAway times p n batch e (record d { arrangements = xs })) c.self.view_is
+      (put_away_by times d n batch xs c.insert_at.ensures (λ e. c.if-len-eq0.false (c.len.ensures.len ∙ ap length e)) p
+      (subst (λ (e : DeskView g.row.T.Denot). IsNextBatch times p e n batch) (sym c.self.view_is) next));
 }

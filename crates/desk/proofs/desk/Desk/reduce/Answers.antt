@@ -1,7 +1,5 @@
-use Rattle.std.proofs.Common.{rules, ◌≡◌, List, [], ◌∷◌, Option, Some, set, get_or, slice_get, IsTrue, sym, subst, ap, ◌∙◌}
+use Rattle.std.proofs.Common.{rules, ◌≡◌, List, [], Option, Some, set, get_or, slice_get, IsTrue, sym, subst, ap, ◌∙◌}
 use Rattle.std.proofs.lemmas.Option.{none-some, same_Some}
-use Rattle.lattice.specs.Frontiers.{all_beyond}
-use Rattle.histories.specs.Histories.States.{times}
 use Rattle.operator.specs.Reductions.{ReducingView, have_width}
 use Rattle.desk_laws.specs.Own.{DeskView}
 use Rattle.desk.specs.Desks.{IsReducedWith}
@@ -37,9 +35,7 @@ unreachable-requires g c =
 pub returns-clause-reduced : goal.returns-clause-reduced
 returns-clause-reduced g c =
     let inside = c.self.inside in
-    let below = g.T.PartialOrder.below in
-    let joined = g.T.Lattice.joined in
-    let least = g.T.Minimum.least in
+    let times = g.T.PartialOrder.times in
     let n = c.args.node in
     let d : DeskView g.row.T.Denot = record {
       gathered = inside.gathered.items;
@@ -53,8 +49,8 @@ returns-clause-reduced g c =
     let here = there ∙ ap Some (sym mine ∙ c.in-Some.is) in
     let after = record d { reductions = set d.reductions c.number.result (Some c.take.new.self) } in
     on_ok_three c.take.result (λ kept stands pending.
-    subst (λ x. IsReducedWith below joined least n c.args.list.now x after) c.self.view_is
-    (reduced_after below joined least n d c.in-Some.reduction c.take.new.self c.args.list.now g.met.T.PartialOrder.order c.number.result c.number.ensures here kept stands pending))
+    subst (λ x. IsReducedWith times n c.args.list.now x after) c.self.view_is
+    (reduced_after times n d c.in-Some.reduction c.take.new.self c.args.list.now g.met.T.PartialOrder.order c.number.result c.number.ensures here kept stands pending))
     c.take.ensures.kept c.take.ensures.stands c.take.ensures.pending
 
 pub returns-clause-same : goal.returns-clause-same

@@ -9,14 +9,12 @@ use Rattle.desk.proofs.desk.Desk.settle.Goals as goal
 pub returns-in_err-gathered-clause-refused : goal.returns-in_err-gathered-clause-refused
 returns-in_err-gathered-clause-refused g c =
     let p = err_from_is_err_and c.from_residual.result c.from_residual.ensures.1 in
-    if_err_at c.from_residual.result (IsMemoryOrOverflow (IsTooLarge g.T.PartialOrder.below g.T.Lattice.joined g.T.Minimum.least g.T.Ord.cmp c.args.plan.now c.args.self.now c.args.hand.now)) c.in_err-gathered.field-0.0 p.0 p.1 (cc p.2)
+    if_err_at c.from_residual.result (IsMemoryOrOverflow (IsTooLarge g.T.PartialOrder.times g.T.Ord.cmp c.args.plan.now c.args.self.now c.args.hand.now)) c.in_err-gathered.field-0.0 p.0 p.1 (cc p.2)
     (memory_or (λ large. large c.args.hand.now) c.in_err-gathered.ensures.refused)
 
 pub returns-clause-leads : goal.returns-clause-leads
 returns-clause-leads g c p q e es legal k x =
-    let below = g.T.PartialOrder.below in
-    let joined = g.T.Lattice.joined in
-    let least = g.T.Minimum.least in
-    let w = state_after below least p es in
-    subst (λ h. IsRight below joined least p w k c.take_gathered.new.self h) (sym (c.take_in_hand.ensures ∙ c.ready.ensures))
-    (c.in_ok-gathered.ensures.kept c.in-Kept.more p q e es legal k (subst (λ h. IsRight below joined least p w k c.args.self.now h) c.in-Kept.is x))
+    let times = g.T.PartialOrder.times in
+    let w = state_after times p es in
+    subst (λ h. IsRight times p w k c.take_gathered.new.self h) (sym (c.take_in_hand.ensures ∙ c.ready.ensures))
+    (c.in_ok-gathered.ensures.kept c.in-Kept.more p q e es legal k (subst (λ h. IsRight times p w k c.args.self.now h) c.in-Kept.is x))

@@ -4,13 +4,13 @@ use Rattle.update.specs.Updates.{HasLargeTotal}
 use Rattle.update.specs.Refusals.{IsMemoryOrOverflow}
 use Rattle.update.specs.declared.change.Update.{Update}
 use Rattle.linear.specs.Widths.{are_wide}
-use Rattle.operator_laws.specs.Gathering.{IsSplit}
+use Rattle.operator_laws.specs.GatheredUpdates.{IsSplit}
 use Rattle.desk_laws.specs.Own.{DeskView, gathered_in}
 use Rattle.desk_laws.specs.declared.hand.Hand.{Hand}
 use Rattle.desk_laws.specs.declared.hand.Hand.TheVariants.{Kept, Ready, Turned}
 use Rattle.desk.specs.Desks.{IsTakenOut, IsTooLarge, Leads}
 use Rattle.desk.proofs.PlaceLemmas.{read_at, set_same}
-use Rattle.desk.proofs.FindingLemmas.{gathered_large, kept_leads, taken_after, turned_leads}
+use Rattle.desk.proofs.AnswerLemmas.{gathered_large, kept_leads, taken_after, turned_leads}
 use Rattle.desk.proofs.ResultLemmas.{if_err_from, if_ok_back, if_ok_from, memory_or, on_err_by, on_ok_back}
 use Rattle.desk.proofs.desk.Desk.take_gathered.Given.{Over}
 use Rattle.desk.proofs.desk.Desk.take_gathered.Goals as goal
@@ -29,35 +29,31 @@ within g c = subst (λ (x : DeskView g.row.T.Denot). c.args.node < length x.gath
 
 -- all was taken out
 taken : (g : Over) (c : goal.After-self-1 g) (out : _) → c.take_summed.result ≡ Ok out
-    → IsTakenOut g.T.PartialOrder.below g.T.Lattice.joined g.T.Minimum.least c.args.node out.items (desk g c) (record (desk g c) { gathered = set c.self.inside.gathered.items c.number.result c.take_summed.new.self })
+    → IsTakenOut g.T.PartialOrder.times c.args.node out.items (desk g c) (record (desk g c) { gathered = set c.self.inside.gathered.items c.number.result c.take_summed.new.self })
 taken g c out is =
     let r = c.take_summed.result in
-    taken_after g.T.PartialOrder.below g.T.Lattice.joined g.T.Minimum.least (desk g c) c.args.node c.number.result c.number.ensures (within g c) c.index_mut.result.now c.take_summed.new.self out.items c.index_mut.ensures.value
+    taken_after g.T.PartialOrder.times (desk g c) c.args.node c.number.result c.number.ensures (within g c) c.index_mut.result.now c.take_summed.new.self out.items c.index_mut.ensures.value
     (on_ok_back r out is c.take_summed.ensures.left)
-    (if_ok_back r (λ out. IsSplit g.T.PartialOrder.below c.index_mut.result.now out.items []) out is c.take_summed.ensures.split)
+    (if_ok_back r (λ out. IsSplit g.T.PartialOrder.times c.index_mut.result.now out.items []) out is c.take_summed.ensures.split)
     (λ width h. if_ok_back r (λ out. IsTrue (are_wide width out.items)) out is (c.take_summed.ensures.wide width h))
 
 pub returns-clause-kept : goal.returns-clause-kept
 returns-clause-kept g c =
-    let below = g.T.PartialOrder.below in
-    let joined = g.T.Lattice.joined in
-    let least = g.T.Minimum.least in
+    let times = g.T.PartialOrder.times in
     let n = c.args.node in
     let after = record (desk g c) { gathered = set c.self.inside.gathered.items c.number.result c.take_summed.new.self } in
-    if_ok_from c.take_summed.result (λ out. (more : Bool) → Leads below joined least c.args.plan.now c.args.self.now (Kept n more) after (Ready n out.items)) (λ out is more.
-    subst (λ x. Leads below joined least c.args.plan.now x (Kept n more) after (Ready n out.items)) c.self.view_is
-    (kept_leads below joined least g.met.T.PartialOrder.order c.args.plan.now n (desk g c) after c.requires.within c.requires.plain c.requires.other out.items (taken g c out is) more))
+    if_ok_from c.take_summed.result (λ out. (more : Bool) → Leads times c.args.plan.now c.args.self.now (Kept n more) after (Ready n out.items)) (λ out is more.
+    subst (λ x. Leads times c.args.plan.now x (Kept n more) after (Ready n out.items)) c.self.view_is
+    (kept_leads times g.met.T.PartialOrder.order c.args.plan.now n (desk g c) after c.requires.within c.requires.plain c.requires.other out.items (taken g c out is) more))
 
 pub returns-clause-turned : goal.returns-clause-turned
 returns-clause-turned g c =
-    let below = g.T.PartialOrder.below in
-    let joined = g.T.Lattice.joined in
-    let least = g.T.Minimum.least in
+    let times = g.T.PartialOrder.times in
     let n = c.args.node in
     let after = record (desk g c) { gathered = set c.self.inside.gathered.items c.number.result c.take_summed.new.self } in
-    if_ok_from c.take_summed.result (λ out. (upper : List g.row.T.Denot) → Leads below joined least c.args.plan.now c.args.self.now (Turned n upper) after (Ready n out.items)) (λ out is upper.
-    subst (λ x. Leads below joined least c.args.plan.now x (Turned n upper) after (Ready n out.items)) c.self.view_is
-    (turned_leads below joined least g.met.T.PartialOrder.order c.args.plan.now n (desk g c) after c.requires.within c.requires.plain c.requires.other out.items (taken g c out is) upper))
+    if_ok_from c.take_summed.result (λ out. (upper : List g.row.T.Denot) → Leads times c.args.plan.now c.args.self.now (Turned n upper) after (Ready n out.items)) (λ out is upper.
+    subst (λ x. Leads times c.args.plan.now x (Turned n upper) after (Ready n out.items)) c.self.view_is
+    (turned_leads times g.met.T.PartialOrder.order c.args.plan.now n (desk g c) after c.requires.within c.requires.plain c.requires.other out.items (taken g c out is) upper))
 
 pub returns-clause-same : goal.returns-clause-same
 returns-clause-same g c =
@@ -73,13 +69,11 @@ returns-clause-same g c =
 
 pub returns-clause-refused : goal.returns-clause-refused
 returns-clause-refused g c =
-    let below = g.T.PartialOrder.below in
-    let joined = g.T.Lattice.joined in
-    let least = g.T.Minimum.least in
+    let times = g.T.PartialOrder.times in
     let n = c.args.node in
     let p = c.args.plan.now in
     let there = read_at c.self.inside.gathered.items c.number.result n c.index_mut.result.now c.number.ensures (within g c) c.index_mut.ensures.value in
-    if_err_from c.take_summed.result (IsMemoryOrOverflow (HasLargeTotal below c.index_mut.result.now)) (IsMemoryOrOverflow ((h : Hand g.row.T.Denot) → IsTooLarge below joined least g.T.Ord.cmp p c.args.self.now h))
+    if_err_from c.take_summed.result (IsMemoryOrOverflow (HasLargeTotal times c.index_mut.result.now)) (IsMemoryOrOverflow ((h : Hand g.row.T.Denot) → IsTooLarge times g.T.Ord.cmp p c.args.self.now h))
     (λ e m. memory_or (λ large h.
-    subst (λ x. IsTooLarge below joined least g.T.Ord.cmp p x h) c.self.view_is
-    (gathered_large below joined least g.met.T.PartialOrder.order p n (desk g c) (desk g c) c.requires.within c.requires.plain c.requires.other g.T.Ord.cmp (subst (λ us. HasLargeTotal below (gathered_in us)) (sym there) large) h)) m) c.take_summed.ensures.refused
+    subst (λ x. IsTooLarge times g.T.Ord.cmp p x h) c.self.view_is
+    (gathered_large times g.met.T.PartialOrder.order p n (desk g c) (desk g c) c.requires.within c.requires.plain c.requires.other g.T.Ord.cmp (subst (λ us. HasLargeTotal times (gathered_in us)) (sym there) large) h)) m) c.take_summed.ensures.refused

@@ -1,7 +1,7 @@
 use Rattle.std.proofs.Common.{◌≡◌, ◌∙◌, ◌++◌, ◌∷◌, [], ap, map, string_bytes, None, rules}
 use Rattle.std.specs.List.{position}
 use Rattle.std.specs.Str.{bytes_eq}
-use Rattle.dictionary.specs.Naming.{number_in}
+use Rattle.dictionary.specs.Names.{number_in}
 use Rattle.dictionary.proofs.NameLemmas.{added_name}
 use Rattle.dictionary.proofs.names.Names.add.Goals as goal
 

@@ -1,6 +1,6 @@
 use Rattle.std.proofs.Common.{◌∙◌, ap, sym, string_bytes}
 use Rattle.std.specs.Str.{bytes_eq}
-use Rattle.dictionary.specs.Naming.{number_in}
+use Rattle.dictionary.specs.Names.{number_in}
 use Rattle.dictionary.proofs.NameLemmas.{position-map}
 use Rattle.dictionary.proofs.names.Names.find.Goals as goal
 

@@ -8,8 +8,8 @@ use Rattle.update.specs.Updates.{as_of, size}
 use Rattle.update.specs.declared.change.Update.{Update}
 use Rattle.trace.specs.Readings.{IsReadable, all_content}
 use Rattle.join.specs.Pairs.{pairs}
-use Rattle.join.specs.declared.forming.Side.TheVariants.{Left}
-use Rattle.join.specs.Forming.{StandsIn}
+use Rattle.join.specs.declared.formed.Side.TheVariants.{Left}
+use Rattle.join.specs.FormedPairs.{StandsIn}
 use Rattle.join.specs.Sides.{WereInserted}
 use Rattle.join.proofs.AnswerLemmas.{answer_sums, answer_totals, answer_exact, found_readable, larger_product, left_beyond, pairs_width, left_keys}
 use Rattle.join.proofs.FitLemmas.{stored_fit}
@@ -37,7 +37,7 @@ module _ (g : Over) (c : goal.After-self-1 g) where
   out = c.in_ok-formed.formed.updates.items
 
   abbrev of : List (Update g.row.T.Denot) → List (Update g.row.T.Denot)
-  of got = pairs g.T.Lattice.joined c.args.self.now.key us got
+  of got = pairs g.T.PartialOrder.times c.args.self.now.key us got
 
   abbrev Got : List (Update g.row.T.Denot) → Type 0
   Got got = WereInserted (g.R.Trace.stands c.args.right.now) (g.R.Trace.start c.args.right.now) c.args.self.now.right got
@@ -45,15 +45,15 @@ module _ (g : Over) (c : goal.After-self-1 g) where
   standing : StandsIn out (of vs)
   standing = rw (ap (λ s. s.key) c.self.view_is) at c.in_ok-formed.ensures.stands
 
-  readable : (got : List (Update g.row.T.Denot)) → Got got → IsReadable g.T.PartialOrder.below (g.R.Trace.held c.args.right.now) vs got
+  readable : (got : List (Update g.row.T.Denot)) → Got got → IsReadable g.T.PartialOrder.times (g.R.Trace.held c.args.right.now) vs got
   readable got w =
-      found_readable g.T.PartialOrder.below (g.R.Trace.held c.args.right.now) (g.R.Trace.stands c.args.right.now) (g.R.Trace.start c.args.right.now) c.args.self.now.right vs
+      found_readable g.T.PartialOrder.times (g.R.Trace.held c.args.right.now) (g.R.Trace.stands c.args.right.now) (g.R.Trace.start c.args.right.now) c.args.self.now.right vs
       (rw (c.unwrap-others.ensures, c.as_slice.ensures.value, ap (λ s. s.right) c.self.view_is) at c.through.ensures.reads)
       got w
 
-  same : (got : List (Update g.row.T.Denot)) → Got got → (t : g.row.T.Denot) → Alike (as_of g.T.PartialOrder.below t (of vs)) (as_of g.T.PartialOrder.below t (of got))
+  same : (got : List (Update g.row.T.Denot)) → Got got → (t : g.row.T.Denot) → Alike (as_of g.T.PartialOrder.times t (of vs)) (as_of g.T.PartialOrder.times t (of got))
   same got w =
-      right_compacted g.T.PartialOrder.below g.T.Lattice.joined (join_below g.met.T.PartialOrder.order g.met.T.Lattice.bounds) g.met.T.PartialOrder.order
+      right_compacted g.T.PartialOrder.times (join_below g.met.T.PartialOrder.order g.met.T.Lattice.bounds) g.met.T.PartialOrder.order
       c.args.self.now.key (g.R.Trace.held c.args.right.now) us vs got c.requires.later (readable got w).sums
 
 pub returns-clause-sums : goal.returns-clause-sums
@@ -70,24 +70,24 @@ returns-clause-exact g c got w =
 pub returns-clause-load : goal.returns-clause-load
 returns-clause-load g c got w =
     let smaller = (standing g c).smaller in
-    let within = size_pairs g.T.Lattice.joined c.args.self.now.key (us g c) (vs g c) in
+    let within = size_pairs g.T.PartialOrder.times c.args.self.now.key (us g c) (vs g c) in
     larger_product (size (out g c)) (size (us g c)) (size (vs g c)) (size got) (omega (arith, smaller, within)) (readable g c got w).smaller
 
 pub returns-clause-beyond : goal.returns-clause-beyond
 returns-clause-beyond g c G a =
-    (standing g c).among (λ row t. is_beyond g.T.PartialOrder.below G t)
-    (left_beyond g.met.T.PartialOrder.order g.T.Lattice.joined g.met.T.Lattice.bounds.join_left g.met.T.Lattice.bounds.join_right c.args.self.now.key G (us g c) (vs g c) a)
+    (standing g c).among (λ row t. is_beyond g.T.PartialOrder.times G t)
+    (left_beyond g.met.T.PartialOrder.order g.met.T.Lattice.bounds.join_left g.met.T.Lattice.bounds.join_right c.args.self.now.key G (us g c) (vs g c) a)
 
 pub returns-clause-width : goal.returns-clause-width
 returns-clause-width g c w v a b =
     (standing g c).among (λ row t. eqb (length row) (w + (v - c.args.self.now.key)))
-    (pairs_width g.T.Lattice.joined c.args.self.now.key w v (us g c) (vs g c) a
+    (pairs_width g.T.PartialOrder.times c.args.self.now.key w v (us g c) (vs g c) a
     ((rw c.unwrap-others.ensures at c.through.ensures.stored) (λ row t. eqb (length row) v) b))
 
 pub returns-clause-rows : goal.returns-clause-rows
 returns-clause-rows g c =
     (standing g c).among (λ row t. list_any (λ u. same_row (take c.args.self.now.key row) (take c.args.self.now.key u.row)) (us g c))
-    (left_keys g.T.Lattice.joined c.args.self.now.key (us g c) (vs g c) c.requires.wide)
+    (left_keys g.T.PartialOrder.times c.args.self.now.key (us g c) (vs g c) c.requires.wide)
 
 pub returns-clause-looked : goal.returns-clause-looked
 returns-clause-looked g c =
@@ -102,17 +102,17 @@ returns-in_err-formed-clause-refused g c =
 
 pub returns-in_err-formed-clause-large : goal.returns-in_err-formed-clause-large
 returns-in_err-formed-clause-large g c =
-    let below = g.T.PartialOrder.below in
+    let times = g.T.PartialOrder.times in
     let us = g.L.Batch.BatchReader.content c.args.batch.now in
     let vs = all_content g.R.Batch.BatchReader.content c.unwrap-others.result.now in
     let reads = rw (c.unwrap-others.ensures, c.as_slice.ensures.value, ap (λ s. s.right) c.self.view_is) at c.through.ensures.reads in
-    let within = size_pairs g.T.Lattice.joined c.self.inside.key us vs in
+    let within = size_pairs g.T.PartialOrder.times c.self.inside.key us vs in
     let p = err_from_is_err_and c.from_residual-in_err-formed.result c.from_residual-in_err-formed.ensures.1 in
     rw (p.1, p.2)
     (λ over got w.
     overflow_more _ _ c.in_err-formed.field-0.0
     (λ h.
-    let large = large_part_size below (pairs g.T.Lattice.joined c.self.inside.key us vs) h in
+    let large = large_part_size times (pairs g.T.PartialOrder.times c.self.inside.key us vs) h in
     larger_product (2 ^ 63) (size us) (size vs) (size got) (omega (arith, large, within))
-    (found_readable below (g.R.Trace.held c.args.right.now) (g.R.Trace.stands c.args.right.now) (g.R.Trace.start c.args.right.now) c.args.self.now.right vs reads got w).smaller)
+    (found_readable times (g.R.Trace.held c.args.right.now) (g.R.Trace.stands c.args.right.now) (g.R.Trace.start c.args.right.now) c.args.self.now.right vs reads got w).smaller)
     c.in_err-formed.ensures.refused over)

@@ -9,15 +9,15 @@ use Rattle.update.specs.Updates.{as_of, size}
 use Rattle.update.specs.declared.change.Update.{Update}
 use Rattle.trace.specs.Readings.{IsReadable, all_content}
 use Rattle.join.specs.Pairs.{pairs}
-use Rattle.join.specs.declared.forming.Side.TheVariants.{Right}
-use Rattle.join.specs.Forming.{StandsIn, formed_all}
+use Rattle.join.specs.declared.formed.Side.TheVariants.{Right}
+use Rattle.join.specs.FormedPairs.{StandsIn, formed_all}
 use Rattle.join.specs.Sides.{WereInserted}
 use Rattle.join.proofs.AnswerLemmas.{answer_sums, answer_totals, answer_exact, large_moved, found_readable, larger_product_left, right_beyond, pairs_width, right_keys}
 use Rattle.join.proofs.FitLemmas.{stored_fit, turned_fit}
 use Rattle.join.proofs.LargeLemmas.{refused_more, overflow_more}
 use Rattle.join.proofs.PairLemmas.{size_pairs}
 use Rattle.join.proofs.PartLemmas.{large_more, large_part_size}
-use Rattle.join.proofs.StandingLemmas.{stands_in_turn}
+use Rattle.join.proofs.StandLemmas.{stands_in_turn}
 use Rattle.join.proofs.TurnedLemmas.{turned, turned_moves, turned_part}
 use Rattle.join.proofs.VisibleLemmas.{left_compacted}
 use Rattle.join.proofs.state.JoinState.take_right.Given.{Over}
@@ -42,29 +42,29 @@ module _ (g : Over) (c : goal.After-self-1 g) where
   out = c.in_ok-formed.formed.updates.items
 
   abbrev of : List (Update g.row.T.Denot) → List (Update g.row.T.Denot)
-  of got = pairs g.T.Lattice.joined c.args.self.now.key got us
+  of got = pairs g.T.PartialOrder.times c.args.self.now.key got us
 
   abbrev Got : List (Update g.row.T.Denot) → Type 0
   Got got = WereInserted (g.L.Trace.stands c.args.left.now) (g.L.Trace.start c.args.left.now) c.args.self.now.left got
 
   abbrev formed : List (Update g.row.T.Denot)
-  formed = formed_all Right g.T.Lattice.joined c.args.self.now.key us vs
+  formed = formed_all Right g.T.PartialOrder.times c.args.self.now.key us vs
 
   standing : StandsIn out (of vs)
   standing =
       stands_in_turn out formed (of vs)
       (rw (ap (λ s. s.key) c.self.view_is) at c.in_ok-formed.ensures.stands)
-      (turned g.T.Lattice.joined c.args.self.now.key us vs)
+      (turned g.T.PartialOrder.times c.args.self.now.key us vs)
 
-  readable : (got : List (Update g.row.T.Denot)) → Got got → IsReadable g.T.PartialOrder.below (g.L.Trace.held c.args.left.now) vs got
+  readable : (got : List (Update g.row.T.Denot)) → Got got → IsReadable g.T.PartialOrder.times (g.L.Trace.held c.args.left.now) vs got
   readable got w =
-      found_readable g.T.PartialOrder.below (g.L.Trace.held c.args.left.now) (g.L.Trace.stands c.args.left.now) (g.L.Trace.start c.args.left.now) c.args.self.now.left vs
+      found_readable g.T.PartialOrder.times (g.L.Trace.held c.args.left.now) (g.L.Trace.stands c.args.left.now) (g.L.Trace.start c.args.left.now) c.args.self.now.left vs
       (rw (c.unwrap-others.ensures, c.as_slice.ensures.value, ap (λ s. s.left) c.self.view_is) at c.through.ensures.reads)
       got w
 
-  same : (got : List (Update g.row.T.Denot)) → Got got → (t : g.row.T.Denot) → Alike (as_of g.T.PartialOrder.below t (of vs)) (as_of g.T.PartialOrder.below t (of got))
+  same : (got : List (Update g.row.T.Denot)) → Got got → (t : g.row.T.Denot) → Alike (as_of g.T.PartialOrder.times t (of vs)) (as_of g.T.PartialOrder.times t (of got))
   same got w =
-      left_compacted g.T.PartialOrder.below g.T.Lattice.joined (join_below g.met.T.PartialOrder.order g.met.T.Lattice.bounds) g.met.T.PartialOrder.order
+      left_compacted g.T.PartialOrder.times (join_below g.met.T.PartialOrder.order g.met.T.Lattice.bounds) g.met.T.PartialOrder.order
       c.args.self.now.key (g.L.Trace.held c.args.left.now) vs got us c.requires.later (readable got w).sums
 
 pub returns-clause-sums : goal.returns-clause-sums
@@ -78,61 +78,61 @@ returns-clause-exact g c got w =
     answer_exact g.met.T.PartialOrder.order (out g c) (of g c (vs g c)) (of g c got) (standing g c) (same g c got w)
     (λ large.
     (rw (ap (λ s. s.key) c.self.view_is) at c.in_ok-formed.ensures.exact)
-    (large_moved g.T.PartialOrder.below (formed g c) (of g c (vs g c)) (turned g.T.Lattice.joined c.args.self.now.key (us g c) (vs g c)) large))
+    (large_moved g.T.PartialOrder.times (formed g c) (of g c (vs g c)) (turned g.T.PartialOrder.times c.args.self.now.key (us g c) (vs g c)) large))
 
 pub returns-clause-load : goal.returns-clause-load
 returns-clause-load g c got w =
     let smaller = (standing g c).smaller in
-    let within = size_pairs g.T.Lattice.joined c.args.self.now.key (vs g c) (us g c) in
+    let within = size_pairs g.T.PartialOrder.times c.args.self.now.key (vs g c) (us g c) in
     larger_product_left (size (out g c)) (size (us g c)) (size (vs g c)) (size got) (omega (arith, smaller, within)) (readable g c got w).smaller
 
 pub returns-clause-beyond : goal.returns-clause-beyond
 returns-clause-beyond g c G a =
-    (standing g c).among (λ row t. is_beyond g.T.PartialOrder.below G t)
-    (right_beyond g.met.T.PartialOrder.order g.T.Lattice.joined g.met.T.Lattice.bounds.join_left g.met.T.Lattice.bounds.join_right c.args.self.now.key G (vs g c) (us g c) a)
+    (standing g c).among (λ row t. is_beyond g.T.PartialOrder.times G t)
+    (right_beyond g.met.T.PartialOrder.order g.met.T.Lattice.bounds.join_left g.met.T.Lattice.bounds.join_right c.args.self.now.key G (vs g c) (us g c) a)
 
 pub returns-clause-width : goal.returns-clause-width
 returns-clause-width g c w v a b =
     (standing g c).among (λ row t. eqb (length row) (w + (v - c.args.self.now.key)))
-    (pairs_width g.T.Lattice.joined c.args.self.now.key w v (vs g c) (us g c)
+    (pairs_width g.T.PartialOrder.times c.args.self.now.key w v (vs g c) (us g c)
     ((rw c.unwrap-others.ensures at c.through.ensures.stored) (λ row t. eqb (length row) w) a) b)
 
 pub returns-clause-rows : goal.returns-clause-rows
 returns-clause-rows g c =
     (standing g c).among (λ row t. list_any (λ u. same_row (take c.args.self.now.key row) (take c.args.self.now.key u.row)) (us g c))
-    (right_keys g.T.Lattice.joined c.args.self.now.key (vs g c) (us g c) c.requires.wide)
+    (right_keys g.T.PartialOrder.times c.args.self.now.key (vs g c) (us g c) c.requires.wide)
 
 pub returns-clause-looked : goal.returns-clause-looked
 returns-clause-looked g c =
     let value = rw (c.unwrap-others.ensures, c.as_slice.ensures.value, ap (λ s. s.left) c.self.view_is) at c.through.ensures.value in
-    let long = length_permutation (of g c (vs g c)) (formed g c) (turned_moves g.T.Lattice.joined c.args.self.now.key (us g c) (vs g c)) in
+    let long = length_permutation (of g c (vs g c)) (formed g c) (turned_moves g.T.PartialOrder.times c.args.self.now.key (us g c) (vs g c)) in
     rw value at (rw (ap (λ s. s.key) c.self.view_is, ap (λ s. s.looked) c.self.view_is, long) at c.in_ok-formed.ensures.looked)
 
 pub returns-in_err-formed-clause-refused : goal.returns-in_err-formed-clause-refused
 returns-in_err-formed-clause-refused g c =
-    let below = g.T.PartialOrder.below in
+    let times = g.T.PartialOrder.times in
     let us = g.R.Batch.BatchReader.content c.args.batch.now in
     let vs = all_content g.L.Batch.BatchReader.content c.unwrap-others.result.now in
     let value = rw (c.unwrap-others.ensures, c.as_slice.ensures.value, ap (λ s. s.left) c.self.view_is) at c.through.ensures.value in
     let p = err_from_is_err_and c.from_residual-in_err-formed.result c.from_residual-in_err-formed.ensures.1 in
-    let large = large_more below (formed_all Right g.T.Lattice.joined c.self.inside.key us vs) (pairs g.T.Lattice.joined c.self.inside.key vs us) (turned_part g.T.Lattice.joined c.self.inside.key us vs) in
+    let large = large_more times (formed_all Right g.T.PartialOrder.times c.self.inside.key us vs) (pairs g.T.PartialOrder.times c.self.inside.key vs us) (turned_part g.T.PartialOrder.times c.self.inside.key us vs) in
     rw (p.1, p.2) (rw (ap (λ s. s.key) c.self.view_is, value) at (refused_more _ _ c.in_err-formed.field-0.0 large c.in_err-formed.ensures.refused))
 
 pub returns-in_err-formed-clause-large : goal.returns-in_err-formed-clause-large
 returns-in_err-formed-clause-large g c =
-    let below = g.T.PartialOrder.below in
+    let times = g.T.PartialOrder.times in
     let us = g.R.Batch.BatchReader.content c.args.batch.now in
     let vs = all_content g.L.Batch.BatchReader.content c.unwrap-others.result.now in
     let reads = rw (c.unwrap-others.ensures, c.as_slice.ensures.value, ap (λ s. s.left) c.self.view_is) at c.through.ensures.reads in
-    let within = size_pairs g.T.Lattice.joined c.self.inside.key vs us in
+    let within = size_pairs g.T.PartialOrder.times c.self.inside.key vs us in
     let p = err_from_is_err_and c.from_residual-in_err-formed.result c.from_residual-in_err-formed.ensures.1 in
     rw (p.1, p.2)
     (λ over got w.
     overflow_more _ _ c.in_err-formed.field-0.0
     (λ h.
-    let formed = formed_all Right g.T.Lattice.joined c.self.inside.key us vs in
-    let ps = pairs g.T.Lattice.joined c.self.inside.key vs us in
-    let large = large_part_size below ps (large_more below formed ps (turned_part g.T.Lattice.joined c.self.inside.key us vs) h) in
+    let formed = formed_all Right g.T.PartialOrder.times c.self.inside.key us vs in
+    let ps = pairs g.T.PartialOrder.times c.self.inside.key vs us in
+    let large = large_part_size times ps (large_more times formed ps (turned_part g.T.PartialOrder.times c.self.inside.key us vs) h) in
     larger_product_left (2 ^ 63) (size us) (size vs) (size got) (omega (arith, large, within))
-    (found_readable below (g.L.Trace.held c.args.left.now) (g.L.Trace.stands c.args.left.now) (g.L.Trace.start c.args.left.now) c.args.self.now.left vs reads got w).smaller)
+    (found_readable times (g.L.Trace.held c.args.left.now) (g.L.Trace.stands c.args.left.now) (g.L.Trace.start c.args.left.now) c.args.self.now.left vs reads got w).smaller)
     c.in_err-formed.ensures.refused over)

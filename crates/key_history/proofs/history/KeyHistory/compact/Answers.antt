@@ -8,24 +8,24 @@ pub returns-in_err-compact_times-clause-compacted : goal.returns-in_err-compact_
 returns-in_err-compact_times-clause-compacted g c =
     let was = c.self.inside in
     let new : HistoryState g.row.T.Denot = record { key = was.key; times = c.compact_times.new.times.items; due = was.due.items; given = was.given } in
-    subst (λ h. IsCompacted g.T.PartialOrder.below g.T.Ord.cmp g.T.Lattice.joined c.args.since.now h new) c.self.view_is
+    subst (λ h. IsCompacted g.T.PartialOrder.times g.T.Ord.cmp c.args.since.now h new) c.self.view_is
     (record {
       key_is = refl;
       due_is = refl;
-      times = c.compact_times.ensures.alike;
+      alike = c.compact_times.ensures.alike;
       ascending = c.compact_times.ensures.ascending;
-      given = beyond_itself g.T.PartialOrder.below c.args.since.now was.given;
+      given = beyond_itself g.T.PartialOrder.times c.args.since.now was.given;
     })
 
 pub returns-in_err-compact_given-clause-compacted : goal.returns-in_err-compact_given-clause-compacted
 returns-in_err-compact_given-clause-compacted g c =
     let was = c.self.inside in
     let new : HistoryState g.row.T.Denot = record { key = was.key; times = c.compact_times.new.times.items; due = was.due.items; given = c.compact_given.new.given } in
-    subst (λ h. IsCompacted g.T.PartialOrder.below g.T.Ord.cmp g.T.Lattice.joined c.args.since.now h new) c.self.view_is
+    subst (λ h. IsCompacted g.T.PartialOrder.times g.T.Ord.cmp c.args.since.now h new) c.self.view_is
     (record {
       key_is = refl;
       due_is = refl;
-      times = c.compact_times.ensures.alike;
+      alike = c.compact_times.ensures.alike;
       ascending = c.compact_times.ensures.ascending;
       given = c.compact_given.ensures.stands;
     })
@@ -34,11 +34,11 @@ pub returns-clause-compacted : goal.returns-clause-compacted
 returns-clause-compacted g c =
     let was = c.self.inside in
     let new : HistoryState g.row.T.Denot = record { key = was.key; times = c.compact_times.new.times.items; due = was.due.items; given = c.compact_given.new.given } in
-    subst (λ h. IsCompacted g.T.PartialOrder.below g.T.Ord.cmp g.T.Lattice.joined c.args.since.now h new) c.self.view_is
+    subst (λ h. IsCompacted g.T.PartialOrder.times g.T.Ord.cmp c.args.since.now h new) c.self.view_is
     (record {
       key_is = refl;
       due_is = refl;
-      times = c.compact_times.ensures.alike;
+      alike = c.compact_times.ensures.alike;
       ascending = c.compact_times.ensures.ascending;
       given = c.compact_given.ensures.stands;
     })

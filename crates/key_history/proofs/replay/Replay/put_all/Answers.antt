@@ -5,7 +5,7 @@ use Rattle.key_history.proofs.replay.Replay.put_all.Goals as goal
 
 pub loop-update-preserved : goal.loop-update-preserved
 loop-update-preserved g c =
-    let below = g.T.PartialOrder.below in
+    let times = g.T.PartialOrder.times in
     let p = c.loop-update.self in
     let q = c.put.new.self in
     let us = c.args.updates.now in
@@ -15,6 +15,6 @@ loop-update-preserved g c =
       λ before s.
           let more : (before ++ take i us) ++ u ∷ [] ≡ before ++ take (i + 1) us =
           append_assoc before (take i us) (u ∷ []) ∙ ap (λ z. before ++ z) (more_taken us i u c.loop-update-test.true c.update-item.is) in
-          subst (λ z. StandsEver below z (q.near.items ++ q.later.items)) more
-          (ever_more below (before ++ take i us) p.near.items p.later.items q.near.items q.later.items u (c.loop-update.invariant.1 before s) c.in_ok-put.ensures.put),
+          subst (λ z. StandsEver times z (q.near.items ++ q.later.items)) more
+          (ever_more times (before ++ take i us) p.near.items p.later.items q.near.items q.later.items u (c.loop-update.invariant.1 before s) c.in_ok-put.ensures.put),
     )

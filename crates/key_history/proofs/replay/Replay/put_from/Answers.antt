@@ -6,7 +6,7 @@ use Rattle.key_history.proofs.replay.Replay.put_from.Goals as goal
 
 pub loop-i-preserved : goal.loop-i-preserved
 loop-i-preserved g c =
-    let below = g.T.PartialOrder.below in
+    let times = g.T.PartialOrder.times in
     let p = c.loop-i.self in
     let q = c.put.new.self in
     let us = c.args.given.now in
@@ -20,7 +20,7 @@ loop-i-preserved g c =
       λ before s.
           let more : (before ++ drop from (take i us)) ++ u ∷ [] ≡ before ++ drop from (take (i + 1) us) =
           append_assoc before (drop from (take i us)) (u ∷ []) ∙ ap (λ z. before ++ z) (sym (drop_more_taken us from i u c.loop-i.auto.i within c.copy.ensures)) in
-          subst (λ z. StandsEver below z (q.near.items ++ q.later.items)) more
-          (ever_more below (before ++ drop from (take i us)) p.near.items p.later.items q.near.items q.later.items u (c.loop-i.invariant.1 before s) c.in_ok-put.ensures.put),
+          subst (λ z. StandsEver times z (q.near.items ++ q.later.items)) more
+          (ever_more times (before ++ drop from (take i us)) p.near.items p.later.items q.near.items q.later.items u (c.loop-i.invariant.1 before s) c.in_ok-put.ensures.put),
       c.place_behind-place.ensures,
     )

@@ -6,7 +6,7 @@ use Rattle.key_history.proofs.ReplayLemmas.{settles_none, settles_more}
 use Rattle.key_history.proofs.replay.Replay.settle_into.Goals as goal
 
 pub returns-then-not-has_settled-clause-settles : goal.returns-then-not-has_settled-clause-settles
-returns-then-not-has_settled-clause-settles g c = settles_none g.T.PartialOrder.below c.args.meet c.args.base.now c.args.self.now.near.items
+returns-then-not-has_settled-clause-settles g c = settles_none g.T.PartialOrder.times c.args.meet c.args.base.now c.args.self.now.near.items
 
 pub loop-update-init : goal.loop-update-init
 loop-update-init g c =
@@ -16,7 +16,7 @@ loop-update-init g c =
       left = gives.1 ∙ (c.replace-near.result.ok.0 ∙ ap length (sym gives.0));
       later = refl;
       entered = refl;
-      settles = rw (c.replace-near.ensures.after, c.in_ok-room.ensures.items) (settles_none g.T.PartialOrder.below c.args.meet c.args.base.now []);
+      settles = rw (c.replace-near.ensures.after, c.in_ok-room.ensures.items) (settles_none g.T.PartialOrder.times c.args.meet c.args.base.now []);
     }
 
 pub loop-update-preserved : goal.loop-update-preserved
@@ -31,7 +31,7 @@ loop-update-preserved g c =
       left = omega (arith, c.in-Some.ensures.steps.1, longer, was.left);
       later = c.in_ok-settle.ensures.later ∙ was.later;
       entered = c.in_ok-settle.ensures.entered ∙ was.entered;
-      settles = settles_more g.T.PartialOrder.below c.args.meet c.args.base.now c.loop-update.base c.settle.new.base ys c.loop-update.self.near.items c.settle.new.self.near.items u was.settles c.in_ok-settle.ensures.settles;
+      settles = settles_more g.T.PartialOrder.times c.args.meet c.args.base.now c.loop-update.base c.settle.new.base ys c.loop-update.self.near.items c.settle.new.self.near.items u was.settles c.in_ok-settle.ensures.settles;
     }
 
 pub returns-in_err-settle-clause-later : goal.returns-in_err-settle-clause-later
@@ -41,7 +41,7 @@ pub returns-clause-settles : goal.returns-clause-settles
 returns-clause-settles g c =
     let none : into_iter_items c.loop-update.update-iterator ≡ [] = nil_from_length (into_iter_items c.loop-update.update-iterator) (sym (c.loop-update.invariant.left) ∙ c.in-None.ensures.steps.0) in
     let whole : c.args.self.now.near.items ≡ c.loop-update.yielded = c.loop-update.invariant.whole ∙ ap (λ xs. c.loop-update.yielded ++ xs) none ∙ append-nil c.loop-update.yielded in
-    subst (λ z. Settles g.T.PartialOrder.below c.args.meet c.args.base.now z c.loop-update.base c.loop-update.self.near.items) (sym whole) c.loop-update.invariant.settles
+    subst (λ z. Settles g.T.PartialOrder.times c.args.meet c.args.base.now z c.loop-update.base c.loop-update.self.near.items) (sym whole) c.loop-update.invariant.settles
 
 pub returns-clause-later : goal.returns-clause-later
 returns-clause-later g c = c.loop-update.invariant.later

@@ -10,5 +10,5 @@ invariant-loop-update g l = record {
   left : into_iter_len l.update-iterator ≡ length (into_iter_items l.update-iterator);
   later : l.self.later ≡ l.fn.self.later;
   entered : l.self.entered ≡ l.fn.self.entered;
-  settles : Settles g.T.PartialOrder.below l.fn.meet l.fn.base l.yielded l.base l.self.near.items;
+  settles : Settles g.T.PartialOrder.times l.fn.meet l.fn.base l.yielded l.base l.self.near.items;
 }

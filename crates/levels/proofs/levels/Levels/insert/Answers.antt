@@ -7,10 +7,8 @@ use Rattle.levels.proofs.levels.Levels.insert.Goals as goal
 
 pub invariant_of-self-2 : goal.invariant_of-self-2
 invariant_of-self-2 g c =
-    let below = g.T.PartialOrder.below in
+    let times = g.T.PartialOrder.times in
     let cmp = g.T.Ord.cmp in
-    let joined = g.T.Lattice.joined in
-    let met = g.T.Lattice.met in
     let us = c.self.inside.underway.items in
     let all = ap (λ (s : BatchListState g.row.T.Denot). s.batches) c.in_ok-insert.ensures.ok in
-    subst (λ (bs : List (BatchState g.row.T.Denot)). AreUnderway below cmp joined met bs us) (sym all) (underway_more below cmp joined met c.self.inside.list.batches (c.args.batch ∷ []) us c.self.invariant)
+    subst (λ (bs : List (BatchState g.row.T.Denot)). AreUnderway times cmp bs us) (sym all) (underway_more times cmp c.self.inside.list.batches (c.args.batch ∷ []) us c.self.invariant)

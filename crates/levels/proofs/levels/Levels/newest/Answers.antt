@@ -15,6 +15,6 @@ pub returns-in-Some-clause-within : goal.returns-in-Some-clause-within
 returns-in-Some-clause-within g c =
     let end = returns-in-Some-clause-end g c in
     let s = c.self.inside in
-    let within = ends_within g.T.PartialOrder.below g.T.Ord.cmp g.T.Lattice.joined g.T.Lattice.met s.list.batches 0 s.underway.items c.self.invariant (omega arith) in
+    let within = ends_within g.T.PartialOrder.times g.T.Ord.cmp s.list.batches 0 s.underway.items c.self.invariant (omega arith) in
     let view = subst (λ (l : LevelsState g.row.T.Denot). end_of_places 0 l.underway ≤ length l.list.batches) c.self.view_is within in
     omega (arith, end, view)

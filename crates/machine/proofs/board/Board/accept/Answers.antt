@@ -23,8 +23,8 @@ returns-in_err-send_change-clause-refused g c =
     let taken : c.index-taken.result.now ≡ get_or b.accepted c.args.input 0 = count_read b c.self.view_is c.args.input c.number.result c.number.ensures c.requires.0 c.index-taken.result.now c.self.invariant c.index-taken.ensures in
     let nodes : c.plan.result.now ≡ b.dataflow.nodes = c.plan.ensures.value ∙ (λ i. (c.self.view_is i).dataflow.nodes) in
     let fronts : c.inputs-inputs.result.now ≡ b.inputs = c.inputs-inputs.ensures.value ∙ (λ i. (c.self.view_is i).inputs) in
-    let asked : c.feed_refusal.result ≡ feed_refusal g.T.PartialOrder.below b (record { input = c.args.input; update = c.args.update }) = (
+    let asked : c.feed_refusal.result ≡ feed_refusal g.T.PartialOrder.times b (record { input = c.args.input; update = c.args.update }) = (
     c.feed_refusal.ensures
-    ∙ (λ i. first_refusal (feed_faults g.T.PartialOrder.below (nodes i) (front_at c.args.input (fronts i)) (taken i) (record { input = c.args.input; update = c.args.update })))) in
+    ∙ (λ i. first_refusal (feed_faults g.T.PartialOrder.times (nodes i) (front_at c.args.input (fronts i)) (taken i) (record { input = c.args.input; update = c.args.update })))) in
     let got = err_from_is_err_and c.from_residual.result c.from_residual.ensures.1 in
     subst (λ o. IfErr c.from_residual.result (IsRefusalBy o)) (sym c.in_default.is ∙ asked) (rw got.1 (got.2 ∙ c.in_err-send_change.ensures.refused))

@@ -5,12 +5,11 @@ use Rattle.machine.proofs.board.Board.advance.Goals as goal
 
 pub returns-clause-stands : goal.returns-clause-stands
 returns-clause-stands g c h s =
-    let below = g.T.PartialOrder.below in
-    let least = g.T.Minimum.least in
+    let times = g.T.PartialOrder.times in
     let r = c.try_advance in
-    let looked = λ (e : _). stands_looked below least c.args.self.now r.new.self h c.args.client e s in
-    on_both below least r.result _ _ r.ensures.advanced r.ensures.unchanged
-    (λ e. on_both below least r.result _ _ r.ensures.accepted r.ensures.unchanged
-    (λ a. subst (λ z. Stands below least z (z.last ∷ h)) (sym e) (stands_advanced below least c.args.self.now r.ensures.board h c.args.client c.args.input c.args.times.now c.requires.client a c.requires.input s))
+    let looked = λ (e : _). stands_looked times c.args.self.now r.new.self h c.args.client e s in
+    on_both times r.result _ _ r.ensures.advanced r.ensures.unchanged
+    (λ e. on_both times r.result _ _ r.ensures.accepted r.ensures.unchanged
+    (λ a. subst (λ z. Stands times z (z.last ∷ h)) (sym e) (stands_advanced times c.args.self.now r.ensures.board h c.args.client c.args.input c.args.times.now c.requires.client a c.requires.input s))
     looked)
     looked

@@ -12,20 +12,20 @@ pub returns-then-is_ready-clause-value : goal.returns-then-is_ready-clause-value
 returns-then-is_ready-clause-value g c =
     let b = c.args.self.now in
     let w = c.loop-worker.worker in
-    let below = g.T.PartialOrder.below in
-    let waits : ℕ → Bool = λ k. list_all (is_beyond below (input_front below b c.args.node)) (lot_of b.stations c.args.node k).held in
+    let times = g.T.PartialOrder.times in
+    let waits : ℕ → Bool = λ k. list_all (is_beyond times (input_front times b c.args.node)) (lot_of b.stations c.args.node k).held in
     let within : w < b.dataflow.workers = subst (λ (z : BoardState g.row.T.Denot). w < z.dataflow.workers) c.self.view_is c.loop-worker-test.true in
-    let ready = ap (λ (z : BoardState g.row.T.Denot). is_ready below z w c.args.node) (sym c.loop-worker.invariant.kept) ∙ (sym c.is_ready.ensures.value ∙ c.if-is_ready.true) in
-    sym (all_fails waits w b.dataflow.workers within (unready below g.met.T.PartialOrder.order g.T.Minimum.least b w c.args.node _ ready))
+    let ready = ap (λ (z : BoardState g.row.T.Denot). is_ready times z w c.args.node) (sym c.loop-worker.invariant.kept) ∙ (sym c.is_ready.ensures.value ∙ c.if-is_ready.true) in
+    sym (all_fails waits w b.dataflow.workers within (unready times g.met.T.PartialOrder.order b w c.args.node _ ready))
 
 pub loop-worker-preserved : goal.loop-worker-preserved
 loop-worker-preserved g c =
     let b = c.args.self.now in
     let w = c.loop-worker.worker in
-    let below = g.T.PartialOrder.below in
-    let waits : ℕ → Bool = λ k. list_all (is_beyond below (input_front below b c.args.node)) (lot_of b.stations c.args.node k).held in
-    let ready = ap (λ (z : BoardState g.row.T.Denot). is_ready below z w c.args.node) (sym c.loop-worker.invariant.kept) ∙ (sym c.is_ready.ensures.value ∙ c.if-is_ready.false) in
+    let times = g.T.PartialOrder.times in
+    let waits : ℕ → Bool = λ k. list_all (is_beyond times (input_front times b c.args.node)) (lot_of b.stations c.args.node k).held in
+    let ready = ap (λ (z : BoardState g.row.T.Denot). is_ready times z w c.args.node) (sym c.loop-worker.invariant.kept) ∙ (sym c.is_ready.ensures.value ∙ c.if-is_ready.false) in
     record {
       kept = c.is_ready.ensures.kept ∙ c.loop-worker.invariant.kept;
-      waits = all_next waits w c.loop-worker.invariant.waits (unready below g.met.T.PartialOrder.order g.T.Minimum.least b w c.args.node _ ready);
+      waits = all_next waits w c.loop-worker.invariant.waits (unready times g.met.T.PartialOrder.order b w c.args.node _ ready);
     }

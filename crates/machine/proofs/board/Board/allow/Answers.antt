@@ -6,12 +6,11 @@ use Rattle.machine.proofs.board.Board.allow.Goals as goal
 
 pub returns-clause-stands : goal.returns-clause-stands
 returns-clause-stands g c h s =
-    let below = g.T.PartialOrder.below in
-    let least = g.T.Minimum.least in
+    let times = g.T.PartialOrder.times in
     let r = c.try_allow in
-    let looked = λ (e : _). stands_looked below least c.args.self.now r.new.self h c.args.client e s in
-    on_both below least r.result _ _ r.ensures.allowed r.ensures.unchanged
-    (λ e. on_both below least r.result _ _ r.ensures.accepted r.ensures.unchanged
-    (λ a. subst (λ z. Stands below least z (z.last ∷ h)) (sym e) (stands_allowed g.met.T.PartialOrder.order least c.args.self.now r.ensures.board h c.args.client c.args.view c.args.times.now c.requires.client c.requires.within c.requires.view a s))
+    let looked = λ (e : _). stands_looked times c.args.self.now r.new.self h c.args.client e s in
+    on_both times r.result _ _ r.ensures.allowed r.ensures.unchanged
+    (λ e. on_both times r.result _ _ r.ensures.accepted r.ensures.unchanged
+    (λ a. subst (λ z. Stands times z (z.last ∷ h)) (sym e) (stands_allowed g.met.T.PartialOrder.order c.args.self.now r.ensures.board h c.args.client c.args.view c.args.times.now c.requires.client c.requires.within c.requires.view a s))
     looked)
     looked

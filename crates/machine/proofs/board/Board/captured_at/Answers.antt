@@ -9,4 +9,4 @@ use Rattle.machine.proofs.board.Board.captured_at.Goals as goal
 pub returns-clause-sum : goal.returns-clause-sum
 returns-clause-sum g c =
     let seen = view_read c.args.self.now c.self.view_is c.args.view c.number.result c.number.ensures c.requires.within c.index_mut.result.now c.self.invariant c.index_mut.ensures.value in
-    subst (λ (z : ViewState g.row.T.Denot). IfOk c.sum_at.result (λ bag. Alike bag (as_of g.T.PartialOrder.below c.args.t z.captured))) seen c.sum_at.ensures.sum
+    subst (λ (z : ViewState g.row.T.Denot). IfOk c.sum_at.result (λ bag. Alike bag (as_of g.T.PartialOrder.times c.args.t z.captured))) seen c.sum_at.ensures.sum

@@ -5,7 +5,6 @@ use Rattle.machine.proofs.board.Board.close.Goals as goal
 
 pub returns-clause-stands : goal.returns-clause-stands
 returns-clause-stands g c h s =
-    let below = g.T.PartialOrder.below in
-    let least = g.T.Minimum.least in
+    let times = g.T.PartialOrder.times in
     let r = c.try_close in
-    subst (λ z. Stands below least z (z.last ∷ h)) (sym r.ensures.closed) (stands_advanced below least c.args.self.now r.ensures.board h c.args.client c.args.input [] c.requires.client refl c.requires.input s)
+    subst (λ z. Stands times z (z.last ∷ h)) (sym r.ensures.closed) (stands_advanced times c.args.self.now r.ensures.board h c.args.client c.args.input [] c.requires.client refl c.requires.input s)

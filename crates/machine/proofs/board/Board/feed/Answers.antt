@@ -5,14 +5,13 @@ use Rattle.machine.proofs.board.Board.feed.Goals as goal
 
 pub returns-clause-stands : goal.returns-clause-stands
 returns-clause-stands g c h s =
-    let below = g.T.PartialOrder.below in
-    let least = g.T.Minimum.least in
+    let times = g.T.PartialOrder.times in
     let r = c.try_feed in
-    let looked = λ (e : _). stands_looked below least c.args.self.now r.new.self h c.args.client e s in
-    on_both below least r.result _ _ r.ensures.fed r.ensures.unchanged
-    (λ e. on_both below least r.result _ _ r.ensures.accepted r.ensures.unchanged
-    (λ a. on_both below least r.result _ _ r.ensures.board r.ensures.unchanged
-    (λ b. subst (λ z. Stands below least z (z.last ∷ h)) (sym e) (stands_fed below least c.args.self.now b h c.args.client _ c.requires.client a c.requires.input s))
+    let looked = λ (e : _). stands_looked times c.args.self.now r.new.self h c.args.client e s in
+    on_both times r.result _ _ r.ensures.fed r.ensures.unchanged
+    (λ e. on_both times r.result _ _ r.ensures.accepted r.ensures.unchanged
+    (λ a. on_both times r.result _ _ r.ensures.board r.ensures.unchanged
+    (λ b. subst (λ z. Stands times z (z.last ∷ h)) (sym e) (stands_fed times c.args.self.now b h c.args.client _ c.requires.client a c.requires.input s))
     looked)
     looked)
     looked

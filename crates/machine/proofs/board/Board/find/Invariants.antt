@@ -8,8 +8,8 @@ use Rattle.machine.proofs.board.Board.find.Given as goal
 -- it
 abbrev pub invariant-loop-n : goal.invariant-loop-n
 invariant-loop-n g l =
-    let below = g.T.PartialOrder.below in
+    let times = g.T.PartialOrder.times in
     record {
       kept : l.self ≡ l.fn.self;
-      past : l.number ≡ length (flat_map (pieces_at below l.fn.self l.worker) (numbers_below l.n)) + l.left;
+      past : l.number ≡ length (flat_map (pieces_at times l.fn.self l.worker) (numbers_below l.n)) + l.left;
     }

@@ -9,17 +9,17 @@ use Rattle.machine.proofs.board.Board.find_at.Goals as goal
 
 pub returns-then-number-at_first-clause-found : goal.returns-then-number-at_first-clause-found
 returns-then-number-at_first-clause-found g c =
-    let below = g.T.PartialOrder.below in
+    let times = g.T.PartialOrder.times in
     let b = c.args.self.now in
     let n : ℕ = c.args.node in
     let k : ℕ = c.args.worker in
     let one : c.takable_at-at_first.result ≡ takable_at b (place n 0 k) = c.takable_at-at_first.ensures ∙ ap (takable_at b) c.site_at-first.ensures in
-    at_first below b n k c.args.number (subst (λ (m : ℕ). c.args.number < m) one c.if-number-at_first.true)
+    at_first times b n k c.args.number (subst (λ (m : ℕ). c.args.number < m) one c.if-number-at_first.true)
     ∙ ap (λ (s : Site). Some (Waiting s c.args.number)) (sym c.site_at-first.ensures)
 
 pub returns-then-number-at_first-2-clause-found : goal.returns-then-number-at_first-2-clause-found
 returns-then-number-at_first-2-clause-found g c =
-    let below = g.T.PartialOrder.below in
+    let times = g.T.PartialOrder.times in
     let b = c.args.self.now in
     let n : ℕ = c.args.node in
     let k : ℕ = c.args.worker in
@@ -27,12 +27,12 @@ returns-then-number-at_first-2-clause-found g c =
     let one : c.takable_at-at_first.result ≡ takable_at b (place n 0 k) = c.takable_at-at_first.ensures ∙ ap (takable_at b) c.site_at-first.ensures in
     let two : c.takable_at-at_second.result ≡ takable_at b (place n 1 k) = c.takable_at-at_second.ensures ∙ ap (takable_at b) c.site_at-second.ensures in
     let past : c.args.number ≡ takable_at b (place n 0 k) + left = let f = c.if-number-at_first.false in omega (arith, one, f) in
-    at_second below b n k c.args.number left past (subst (λ (m : ℕ). left < m) two c.if-number-at_first-2.true)
+    at_second times b n k c.args.number left past (subst (λ (m : ℕ). left < m) two c.if-number-at_first-2.true)
     ∙ ap (λ (s : Site). Some (Waiting s left)) (sym c.site_at-second.ensures)
 
 pub returns-else-number-at_first-2-clause-found : goal.returns-else-number-at_first-2-clause-found
 returns-else-number-at_first-2-clause-found g c =
-    let below = g.T.PartialOrder.below in
+    let times = g.T.PartialOrder.times in
     let b = c.args.self.now in
     let n : ℕ = c.args.node in
     let k : ℕ = c.args.worker in
@@ -40,13 +40,13 @@ returns-else-number-at_first-2-clause-found g c =
     let one : c.takable_at-at_first.result ≡ takable_at b (place n 0 k) = c.takable_at-at_first.ensures ∙ ap (takable_at b) c.site_at-first.ensures in
     let two : c.takable_at-at_second.result ≡ takable_at b (place n 1 k) = c.takable_at-at_second.ensures ∙ ap (takable_at b) c.site_at-second.ensures in
     let past : c.args.number ≡ (takable_at b (place n 0 k) + takable_at b (place n 1 k)) + rest = let f = c.if-number-at_first.false in let e = c.if-number-at_first-2.false in omega (arith, one, two, f, e) in
-    on_ok c.find_held.result (λ piece. slice_get (pieces_held below b k n) rest ≡ Some piece) (λ piece. slice_get (pieces_at below b k n) c.args.number ≡ Some piece)
-    (λ piece h. at_held below b n k c.args.number rest past ∙ h)
+    on_ok c.find_held.result (λ piece. slice_get (pieces_held times b k n) rest ≡ Some piece) (λ piece. slice_get (pieces_at times b k n) c.args.number ≡ Some piece)
+    (λ piece h. at_held times b n k c.args.number rest past ∙ h)
     c.find_held.ensures.found
 
 pub returns-else-number-at_first-2-clause-past : goal.returns-else-number-at_first-2-clause-past
 returns-else-number-at_first-2-clause-past g c =
-    let below = g.T.PartialOrder.below in
+    let times = g.T.PartialOrder.times in
     let b = c.args.self.now in
     let n : ℕ = c.args.node in
     let k : ℕ = c.args.worker in
@@ -54,6 +54,6 @@ returns-else-number-at_first-2-clause-past g c =
     let one : c.takable_at-at_first.result ≡ takable_at b (place n 0 k) = c.takable_at-at_first.ensures ∙ ap (takable_at b) c.site_at-first.ensures in
     let two : c.takable_at-at_second.result ≡ takable_at b (place n 1 k) = c.takable_at-at_second.ensures ∙ ap (takable_at b) c.site_at-second.ensures in
     let past : c.args.number ≡ (takable_at b (place n 0 k) + takable_at b (place n 1 k)) + rest = let f = c.if-number-at_first.false in let e = c.if-number-at_first-2.false in omega (arith, one, two, f, e) in
-    on_err c.find_held.result (λ left. rest ≡ length (pieces_held below b k n) + left) (λ left. c.args.number ≡ length (pieces_at below b k n) + left)
-    (λ left h. past_held below b n k c.args.number rest left past h)
+    on_err c.find_held.result (λ left. rest ≡ length (pieces_held times b k n) + left) (λ left. c.args.number ≡ length (pieces_at times b k n) + left)
+    (λ left h. past_held times b n k c.args.number rest left past h)
     c.find_held.ensures.past

@@ -6,4 +6,4 @@ pub returns-clause-stands : goal.returns-clause-stands
 returns-clause-stands g c h s =
     let r = c.turn in
     let b = c.args.self.now in
-    stands_turned _ _ b r.new.self r.ensures.board h c.args.worker c.args.node c.requires.worker (may_turn _ g.met.T.PartialOrder.order _ b r.ensures.board h s c.args.worker c.args.node c.requires.worker c.requires.within c.requires.free c.requires.ready) r.ensures.turned s
+    stands_turned g.T.PartialOrder.times b r.new.self r.ensures.board h c.args.worker c.args.node c.requires.worker (may_turn g.T.PartialOrder.times g.met.T.PartialOrder.order b r.ensures.board h s c.args.worker c.args.node c.requires.worker c.requires.within c.requires.free c.requires.ready) r.ensures.turned s

@@ -14,7 +14,7 @@ loop-worker-preserved g c =
     record {
       long = length-set i.parts.items i.worker c.take.new.self ∙ i.invariant.long;
       later = λ k h. let other : k ≢ i.worker = omega (arith, h) in get_or-set_other i.parts.items i.worker k c.take.new.self [] other ∙ i.invariant.later k (omega (arith, h));
-      sent = with_next (λ k. bundled g.T.PartialOrder.below (place edge.reader edge.port k) (get_or parts k [])) c.args.sent.now.items i.sent.items c.push_bundle.new.sent.items (bundled g.T.PartialOrder.below c.place_at.result c.into.result) i.worker
-          (ap₂ (bundled g.T.PartialOrder.below) c.place_at.ensures (c.into.ensures ∙ c.into_vec-updates.ensures ∙ c.take.ensures.taken ∙ (get_or_read i.parts.items i.worker c.index_mut.result.now there c.index_mut.ensures.value [] ∙ i.invariant.later i.worker (omega arith))))
+      sent = with_next (λ k. bundled g.T.PartialOrder.times (place edge.reader edge.port k) (get_or parts k [])) c.args.sent.now.items i.sent.items c.push_bundle.new.sent.items (bundled g.T.PartialOrder.times c.place_at.result c.into.result) i.worker
+          (ap₂ (bundled g.T.PartialOrder.times) c.place_at.ensures (c.into.ensures ∙ c.into_vec-updates.ensures ∙ c.take.ensures.taken ∙ (get_or_read i.parts.items i.worker c.index_mut.result.now there c.index_mut.ensures.value [] ∙ i.invariant.later i.worker (omega arith))))
           i.invariant.sent c.in_ok-push_bundle.ensures.more;
     }

@@ -7,5 +7,5 @@ abbrev pub invariant-loop-worker : goal.invariant-loop-worker
 invariant-loop-worker g l = record {
   long : length l.parts.items ≡ length l.fn.parts.items;
   later : (k : ℕ) → l.worker ≤ k → get_or l.parts.items k [] ≡ get_or l.fn.parts.items k [];
-  sent : l.sent.items ≡ l.fn.sent.items ++ bundles_along g.T.PartialOrder.below l.edge l.worker (λ k. get_or l.fn.parts.items k []);
+  sent : l.sent.items ≡ l.fn.sent.items ++ bundles_along g.T.PartialOrder.times l.edge l.worker (λ k. get_or l.fn.parts.items k []);
 }

@@ -11,13 +11,13 @@ pub loop-i-preserved : goal.loop-i-preserved
 loop-i-preserved g c =
     let i = c.loop-i in
     let us = c.args.updates.now in
-    let below = g.T.PartialOrder.below in
-    let passed = λ (u : Update g.row.T.Denot). has_passed below (front_of below c.args.accounts.now c.args.node) u.time in
+    let times = g.T.PartialOrder.times in
+    let passed = λ (u : Update g.row.T.Denot). has_passed times (front_of times c.args.accounts.now c.args.node) u.time in
     let here = found_at us i.i (search rules) in
     let time = subst (λ o. IsSomeAnd o (λ u. c.time.result ≡ u.time)) here.2 c.time.ensures in
-    let asked : c.has_passed.result ≡ has_passed below (front_of below c.args.accounts.now c.args.node) c.time.result =
-    c.has_passed.ensures.value ∙ ap (λ (z : AccountState g.row.T.Denot). has_passed below (front_of below z c.args.node) c.time.result) i.invariant.kept in
-    let test = λ (b : _) (h : c.has_passed.result ≡ b). sym (ap (has_passed below (front_of below c.args.accounts.now c.args.node)) time) ∙ (sym asked ∙ h) in
+    let asked : c.has_passed.result ≡ has_passed times (front_of times c.args.accounts.now c.args.node) c.time.result =
+    c.has_passed.ensures.value ∙ ap (λ (z : AccountState g.row.T.Denot). has_passed times (front_of times z c.args.node) c.time.result) i.invariant.kept in
+    let test = λ (b : _) (h : c.has_passed.result ≡ b). sym (ap (has_passed times (front_of times c.args.accounts.now c.args.node)) time) ∙ (sym asked ∙ h) in
     record {
       kept = c.has_passed.ensures.kept ∙ i.invariant.kept;
       passed = elim c.if-has_passed.branch [

@@ -10,7 +10,7 @@ use Rattle.operator.proofs.arrangement.Arrangement.acknowledge.Goals as goal
 
 pub advance-requires : goal.advance-requires
 advance-requires g c =
-    let below = g.T.PartialOrder.below in
+    let times = g.T.PartialOrder.times in
     let o = g.met.T.PartialOrder.order in
     let s = c.args.self.now.spine in
     let upper = upper_of s in
@@ -23,8 +23,8 @@ advance-requires g c =
           (
             subst (Contains (boundaries s)) back (reached_boundary s.list),
             (
-              (λ hold at. subst (λ F. IsTrue (all_beyond below hold.physical F)) back (reader_behind below o g.T.Minimum.least c.args.self.now c.args.reader hold c.trace-spine.ensures.known at)),
-              subst (λ F. IsTrue (all_beyond below F upper)) back (beyond_itself o upper),
+              (λ hold at. subst (λ F. IsTrue (all_beyond times hold.physical F)) back (reader_behind times o c.args.self.now c.args.reader hold c.trace-spine.ensures.known at)),
+              subst (λ F. IsTrue (all_beyond times F upper)) back (beyond_itself o upper),
             ),
           ),
         ),

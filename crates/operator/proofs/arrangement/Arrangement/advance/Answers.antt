@@ -41,7 +41,7 @@ returns-in_err-advance_hold-clause-same g c =
 
 pub returns-in_err-advance_hold-clause-only : goal.returns-in_err-advance_hold-clause-only
 returns-in_err-advance_hold-clause-only g c =
-    let below = g.T.PartialOrder.below in
+    let times = g.T.PartialOrder.times in
     let o = g.met.T.PartialOrder.order in
     let p = err_from_is_err_and c.from_residual.result c.from_residual.ensures.1 in
     let items = c.self.inside.holds.items in
@@ -50,8 +50,8 @@ returns-in_err-advance_hold-clause-only g c =
     let s = c.self.inside.spine in
     let within : i < length items = subst (λ (x : ArrangementState g.row.T.Denot). i < length x.holds) (sym c.self.view_is) c.requires.reader in
     let at : slice_get items i ≡ Some d = slice_get-get_or items i d within ∙ ap (λ (h : HoldState g.row.T.Denot). Some h) (sym c.index_mut-hold.ensures.value) in
-    let onward : IsTrue (all_beyond below d.logical c.args.logical.now) = c.requires.onward d (subst (λ (x : ArrangementState g.row.T.Denot). slice_get x.holds i ≡ Some d) c.self.view_is at) in
-    let forward : IsTrue (all_beyond below d.physical c.args.boundary.now) = c.requires.forward d (subst (λ (x : ArrangementState g.row.T.Denot). slice_get x.holds i ≡ Some d) c.self.view_is at) in
+    let onward : IsTrue (all_beyond times d.logical c.args.logical.now) = c.requires.onward d (subst (λ (x : ArrangementState g.row.T.Denot). slice_get x.holds i ≡ Some d) c.self.view_is at) in
+    let forward : IsTrue (all_beyond times d.physical c.args.boundary.now) = c.requires.forward d (subst (λ (x : ArrangementState g.row.T.Denot). slice_get x.holds i ≡ Some d) c.self.view_is at) in
     rw (p.1, p.2) (⊎_elim (λ m. m) (λ n. absurd (c.in_err-advance_hold.ensures.forward.0 (ap (λ r. Err r) n) (
       onward,
       forward,
@@ -59,7 +59,7 @@ returns-in_err-advance_hold-clause-only g c =
 
 pub invariant_of-self-2 : goal.invariant_of-self-2
 invariant_of-self-2 g c =
-    let below = g.T.PartialOrder.below in
+    let times = g.T.PartialOrder.times in
     let items = c.self.inside.holds.items in
     let i = c.args.reader in
     let d = c.index_mut-hold.result.now in
@@ -69,10 +69,10 @@ invariant_of-self-2 g c =
     let within : i < length items = subst (λ (x : ArrangementState g.row.T.Denot). i < length x.holds) (sym c.self.view_is) c.requires.reader in
     let at : slice_get items i ≡ Some d = slice_get-get_or items i d within ∙ ap (λ (h : HoldState g.row.T.Denot). Some h) (sym c.index_mut-hold.ensures.value) in
     let there = subst (λ (x : ArrangementState g.row.T.Denot). Contains (boundaries x.spine) u) (sym c.self.view_is) c.requires.boundary in
-    let behind = subst (λ (x : ArrangementState g.row.T.Denot). IsTrue (all_beyond below u (upper_of x.spine))) (sym c.self.view_is) c.requires.behind in
+    let behind = subst (λ (x : ArrangementState g.row.T.Denot). IsTrue (all_beyond times u (upper_of x.spine))) (sym c.self.view_is) c.requires.behind in
     let ok = c.in_ok-advance_hold.ensures in
     let list : c.advance_hold.new.self.list ≡ s.list = ap (λ (x : SpineState g.row.T.Denot). x.list) ok.kept in (
-      arrangement_moved below g.met.T.PartialOrder.order g.T.Minimum.least g.T.Ord.cmp a c.advance_hold.new.self i d c.advance_hold.new.hold u at (ap (λ (h : HoldState g.row.T.Denot). h.physical) ok.moved) there behind ok.entry list ok.since ok.onward c.self.invariant.0,
+      arrangement_moved times g.met.T.PartialOrder.order g.T.Ord.cmp a c.advance_hold.new.self i d c.advance_hold.new.hold u at (ap (λ (h : HoldState g.row.T.Denot). h.physical) ok.moved) there behind ok.entry list ok.since ok.onward c.self.invariant.0,
       c.self.invariant.1 ∙ sym (ap (λ (l : BatchListState g.row.T.Denot). l.worker) list),
       c.self.invariant.2 ∙ sym (ap (λ (l : BatchListState g.row.T.Denot). l.node) list),
     )
@@ -94,11 +94,11 @@ returns-clause-moved g c =
 
 pub returns-clause-stands : goal.returns-clause-stands
 returns-clause-stands g c h stands =
-    c.in_ok-advance_hold.ensures.stands h (subst (λ (x : ArrangementState g.row.T.Denot). Stands g.T.PartialOrder.below x.spine h) (sym c.self.view_is) stands)
+    c.in_ok-advance_hold.ensures.stands h (subst (λ (x : ArrangementState g.row.T.Denot). Stands g.T.PartialOrder.times x.spine h) (sym c.self.view_is) stands)
 
 pub returns-clause-open : goal.returns-clause-open
 returns-clause-open g c h is =
-    let below = g.T.PartialOrder.below in
+    let times = g.T.PartialOrder.times in
     let items = c.self.inside.holds.items in
     let i = c.args.reader in
     let d = c.index_mut-hold.result.now in
@@ -106,7 +106,7 @@ returns-clause-open g c h is =
     let ok = c.in_ok-advance_hold.ensures in
     let within : i < length items = subst (λ (x : ArrangementState g.row.T.Denot). i < length x.holds) (sym c.self.view_is) c.requires.reader in
     let at : slice_get items i ≡ Some d = slice_get-get_or items i d within ∙ ap (λ (x : HoldState g.row.T.Denot). Some x) (sym c.index_mut-hold.ensures.value) in
-    let forward : IsTrue (all_beyond below d.physical c.args.boundary.now) = c.requires.forward d (subst (λ (x : ArrangementState g.row.T.Denot). slice_get x.holds i ≡ Some d) c.self.view_is at) in
+    let forward : IsTrue (all_beyond times d.physical c.args.boundary.now) = c.requires.forward d (subst (λ (x : ArrangementState g.row.T.Denot). slice_get x.holds i ≡ Some d) c.self.view_is at) in
     open_moved g.met.T.PartialOrder.order s c.advance_hold.new.self d c.advance_hold.new.hold h (ap (λ (x : SpineState g.row.T.Denot). x.list) ok.kept) ok.entry
-    (subst (λ F. IsTrue (all_beyond below d.physical F)) (sym (ap (λ (x : HoldState g.row.T.Denot). x.physical) ok.moved)) forward)
-    (subst (λ (x : ArrangementState g.row.T.Denot). IsOpen below x.spine h) (sym c.self.view_is) is)
+    (subst (λ F. IsTrue (all_beyond times d.physical F)) (sym (ap (λ (x : HoldState g.row.T.Denot). x.physical) ok.moved)) forward)
+    (subst (λ (x : ArrangementState g.row.T.Denot). IsOpen times x.spine h) (sym c.self.view_is) is)

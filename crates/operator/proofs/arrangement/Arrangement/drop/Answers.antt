@@ -1,7 +1,7 @@
 use Rattle.std.proofs.Common.{List, subst}
 use Rattle.trace.specs.Holds.{HoldState}
 use Rattle.trace.proofs.BoundaryLemmas.{frontiers_decided}
-use Rattle.spine.specs.Holding.{AreSameHolds}
+use Rattle.spine.specs.HoldRules.{AreSameHolds}
 use Rattle.spine.proofs.HoldersLemmas.{hold_found, hold_gone}
 use Rattle.operator.proofs.HoldLemmas.{last_first}
 use Rattle.operator.proofs.arrangement.Arrangement.drop.Goals as goal

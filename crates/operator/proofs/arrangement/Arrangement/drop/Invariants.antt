@@ -1,4 +1,4 @@
-use Rattle.spine.specs.Holding.{AreSameHolds}
+use Rattle.spine.specs.HoldRules.{AreSameHolds}
 use Rattle.operator.proofs.arrangement.Arrangement.drop.Given as goal
 
 -- what is left of the holds are those of the spine

@@ -11,16 +11,16 @@ use Rattle.operator.proofs.arrangement.Arrangement.insert.Goals as goal
 
 pub invariant_of-self : goal.invariant_of-self
 invariant_of-self g c =
-    let below = g.T.PartialOrder.below in
+    let times = g.T.PartialOrder.times in
     let s = c.self.inside.spine in
     let b = c.args.batch in
     let a : ArrangementState g.row.T.Denot = record { width = c.self.inside.width; spine = s; waiting = c.self.inside.waiting.updates; holds = c.self.inside.holds.items } in
     let view : a ≡ c.args.self.now = c.self.view_is in
     let inserted : c.insert.new.self ≡ with_batch s b c.insert.new.self.list.reserved = IfOk-at_ok (λ _. c.insert.new.self ≡ with_batch s b c.insert.new.self.list.reserved) c.unwrap.ensures c.insert.ensures.inserted in
     let lower : b.description.lower ≡ upper_of s = c.requires.continues.2 ∙ ap (λ (x : ArrangementState g.row.T.Denot). upper_of x.spine) (sym view) in
-    let on = subst (λ F. IsTrue (all_beyond below F b.description.upper)) lower c.known_forward.ensures in
+    let on = subst (λ F. IsTrue (all_beyond times F b.description.upper)) lower c.known_forward.ensures in
     let rows = subst (λ (x : ArrangementState g.row.T.Denot). IsTrue (rows_have x.width b.updates)) (sym view) c.requires.rows in (
-      arrangement_inserted below g.met.T.PartialOrder.order g.T.Minimum.least a c.insert.new.self b c.insert.new.self.list.reserved on rows c.requires.times inserted c.self.invariant.0,
+      arrangement_inserted times g.met.T.PartialOrder.order a c.insert.new.self b c.insert.new.self.list.reserved on rows c.requires.times inserted c.self.invariant.0,
       c.self.invariant.1 ∙ sym (ap (λ (x : SpineState g.row.T.Denot). x.list.worker) inserted),
       c.self.invariant.2 ∙ sym (ap (λ (x : SpineState g.row.T.Denot). x.list.node) inserted),
     )
@@ -34,9 +34,9 @@ returns-clause-upper g c =
 
 pub returns-clause-open : goal.returns-clause-open
 returns-clause-open g c h is =
-    let below = g.T.PartialOrder.below in
+    let times = g.T.PartialOrder.times in
     let s = c.self.inside.spine in
     let b = c.args.batch in
     let inserted : c.insert.new.self ≡ with_batch s b c.insert.new.self.list.reserved = IfOk-at_ok (λ _. c.insert.new.self ≡ with_batch s b c.insert.new.self.list.reserved) c.unwrap.ensures c.insert.ensures.inserted in
-    subst (λ (x : SpineState g.row.T.Denot). IsOpen below x (insertion_of b ∷ h)) (sym inserted)
-    (open_inserted below s b c.insert.new.self.list.reserved h (subst (λ (x : ArrangementState g.row.T.Denot). IsOpen below x.spine h) (sym c.self.view_is) is))
+    subst (λ (x : SpineState g.row.T.Denot). IsOpen times x (insertion_of b ∷ h)) (sym inserted)
+    (open_inserted times s b c.insert.new.self.list.reserved h (subst (λ (x : ArrangementState g.row.T.Denot). IsOpen times x.spine h) (sym c.self.view_is) is))

@@ -11,11 +11,11 @@ use Rattle.operator.proofs.arrangement.Arrangement.seal.Goals as goal
 
 pub invariant_of-self-2 : goal.invariant_of-self-2
 invariant_of-self-2 g c =
-    let below = g.T.PartialOrder.below in
+    let times = g.T.PartialOrder.times in
     let a : ArrangementState g.row.T.Denot = record { width = c.self.inside.width; spine = c.self.inside.spine; waiting = c.self.inside.waiting.updates; holds = c.self.inside.holds.items } in
     let rest = c.in_ok-batch.ensures.rest in (
-      subst (λ (us : List (Update g.row.T.Denot)). IsArrangement below g.T.Minimum.least (record a { waiting = us })) (sym (ap (λ (b : BuilderState g.row.T.Denot). b.updates) rest))
-          (arrangement_sealed below g.met.T.PartialOrder.order g.T.Minimum.least a c.args.upper.now c.self.invariant.0),
+      subst (λ (us : List (Update g.row.T.Denot)). IsArrangement times (record a { waiting = us })) (sym (ap (λ (b : BuilderState g.row.T.Denot). b.updates) rest))
+          (arrangement_sealed times g.met.T.PartialOrder.order a c.args.upper.now c.self.invariant.0),
       ap (λ (b : BuilderState g.row.T.Denot). b.worker) rest ∙ c.self.invariant.1,
       ap (λ (b : BuilderState g.row.T.Denot). b.node) rest ∙ c.self.invariant.2,
     )
@@ -31,7 +31,7 @@ returns-clause-continues g c =
 
 pub returns-clause-totals : goal.returns-clause-totals
 returns-clause-totals g c p =
-    c.in_ok-batch.ensures.totals p ∙ ap (λ (x : ArrangementState g.row.T.Denot). total_where p (passed_updates g.T.PartialOrder.below c.args.upper.now x.waiting)) c.self.view_is
+    c.in_ok-batch.ensures.totals p ∙ ap (λ (x : ArrangementState g.row.T.Denot). total_where p (passed_updates g.T.PartialOrder.times c.args.upper.now x.waiting)) c.self.view_is
 
 pub returns-clause-rows : goal.returns-clause-rows
 returns-clause-rows g c =
@@ -40,4 +40,4 @@ returns-clause-rows g c =
 
 pub returns-clause-times : goal.returns-clause-times
 returns-clause-times g c =
-    c.in_ok-batch.ensures.among (λ row t. g.T.PartialOrder.below g.T.Minimum.least t) (all_filter _ _ c.self.inside.waiting.updates c.self.invariant.0.waiting_times)
+    c.in_ok-batch.ensures.among (λ row t. g.T.PartialOrder.times.below g.T.PartialOrder.times.least t) (all_filter _ _ c.self.inside.waiting.updates c.self.invariant.0.waiting_times)

@@ -6,4 +6,4 @@ use Rattle.operator.proofs.arrangement.pending.drop_passed.Goals as goal
 pub returns : goal.returns
 returns g c =
     c.give_room_back.ensures
-    ∙ filter_same _ (λ u. is_beyond g.T.PartialOrder.below c.args.upper.now u.time) _ (λ x b f r. search rules) _ _ c.retain.ensures.filtered
+    ∙ filter_same _ (λ u. is_beyond g.T.PartialOrder.times c.args.upper.now u.time) _ (λ x b f r. search rules) _ _ c.retain.ensures.filtered

@@ -8,7 +8,7 @@ use Rattle.spine.specs.Spines.{stored}
 use Rattle.join.specs.Pairs.{pairs}
 use Rattle.join.specs.Sides.{Acknowledged, all_rows_have}
 use Rattle.join.proofs.LargeLemmas.{refused_more, refused_by}
-use Rattle.operator_laws.specs.Joining.{IsAnswer}
+use Rattle.operator_laws.specs.JoinNodes.{IsAnswer}
 use Rattle.operator.specs.Joins.{JoiningView, IsSide, IsFitting}
 use Rattle.operator.proofs.JoinAnswerLemmas.{right_answers, either_way, grown_right, wide_rows, rows_fit, rows_of_batch, pair_width}
 use Rattle.operator.proofs.JoinSideLemmas.{side_inserted}
@@ -21,13 +21,13 @@ returns-in_err-batch-clause-refused g c =
 
 pub take_right-requires-clause-later : goal.take_right-requires-clause-later
 take_right-requires-clause-later g c =
-    c.in_ok-batch.ensures.stands.among (λ row t. is_beyond g.T.PartialOrder.below c.args.left.now.since t) c.requires.later
+    c.in_ok-batch.ensures.stands.among (λ row t. is_beyond g.T.PartialOrder.times c.args.left.now.since t) c.requires.later
 
 pub take_right-requires-clause-wide : goal.take_right-requires-clause-wide
 take_right-requires-clause-wide g c =
     let width = ap (λ (s : JoiningView g.row.T.Denot). s.right_width) (sym c.self.view_is) in
     wide_rows c.self.inside.state.key c.self.inside.right_width c.self.invariant.right_key c.in_ok-batch.batch.updates
-    (rows_of_batch g.T.PartialOrder.below c.self.inside.right_width c.args.updates.now c.in_ok-batch.batch.updates c.in_ok-batch.ensures.stands
+    (rows_of_batch g.T.PartialOrder.times c.self.inside.right_width c.args.updates.now c.in_ok-batch.batch.updates c.in_ok-batch.ensures.stands
     (subst (λ w. IsTrue (all_rows_have w c.args.updates.now)) width c.requires.rows))
 
 pub take_right-requires-clause-narrow : goal.take_right-requires-clause-narrow
@@ -36,7 +36,7 @@ take_right-requires-clause-narrow g c =
     let other = ap (λ (s : JoiningView g.row.T.Denot). s.left_width) (sym c.self.view_is) in
     rows_fit c.self.inside.state.key c.self.inside.left_width c.self.inside.right_width c.self.invariant.right_key c.self.invariant.narrow (stored c.args.left.now) c.in_ok-batch.batch.updates
     (subst (λ w. IsTrue (all_rows_have w (stored c.args.left.now))) other c.requires.left_rows)
-    (rows_of_batch g.T.PartialOrder.below c.self.inside.right_width c.args.updates.now c.in_ok-batch.batch.updates c.in_ok-batch.ensures.stands
+    (rows_of_batch g.T.PartialOrder.times c.self.inside.right_width c.args.updates.now c.in_ok-batch.batch.updates c.in_ok-batch.ensures.stands
     (subst (λ w. IsTrue (all_rows_have w c.args.updates.now)) width c.requires.rows))
 
 pub invariant_of-self : goal.invariant_of-self
@@ -49,15 +49,15 @@ invariant_of-self g c =
 
 pub returns-clause-answer : goal.returns-clause-answer
 returns-clause-answer g c inserted taken side =
-    let below = g.T.PartialOrder.below in
+    let times = g.T.PartialOrder.times in
     let us = c.args.updates.now in
     let bs = c.in_ok-batch.batch.updates in
     let vs = all_updates taken in
     let e = ap (λ (s : JoiningView g.row.T.Denot). s.state) c.self.view_is in
-    let here = subst (λ (st : Acknowledged g.row.T.Denot). IsSide below g.T.Minimum.least c.args.left.now inserted taken st.left) (sym e) side in
-    let got = side_inserted g.met.T.PartialOrder.order g.T.Minimum.least c.args.left.now inserted taken c.self.inside.state.left here in
-    subst (λ (st : Acknowledged g.row.T.Denot). IfOk c.take_right.result (λ out. IsAnswer below (pairs g.T.Lattice.joined st.key vs us) us vs out.items)) e
-    (right_answers g.met.T.PartialOrder.order g.T.Lattice.joined (join_below g.met.T.PartialOrder.order g.met.T.Lattice.bounds) c.self.inside.state.key us bs vs c.in_ok-batch.ensures.stands (λ out. out.items) c.take_right.result
+    let here = subst (λ (st : Acknowledged g.row.T.Denot). IsSide times c.args.left.now inserted taken st.left) (sym e) side in
+    let got = side_inserted g.met.T.PartialOrder.order c.args.left.now inserted taken c.self.inside.state.left here in
+    subst (λ (st : Acknowledged g.row.T.Denot). IfOk c.take_right.result (λ out. IsAnswer times (pairs g.T.PartialOrder.times st.key vs us) us vs out.items)) e
+    (right_answers g.met.T.PartialOrder.order (join_below g.met.T.PartialOrder.order g.met.T.Lattice.bounds) c.self.inside.state.key us bs vs c.in_ok-batch.ensures.stands (λ out. out.items) c.take_right.result
     (c.take_right.ensures.sums vs got)
     (c.take_right.ensures.load vs got)
     c.take_right.ensures.beyond)
@@ -68,7 +68,7 @@ returns-clause-width g c =
     let v = c.self.inside.right_width in
     let width = ap (λ (s : JoiningView g.row.T.Denot). s.right_width) (sym c.self.view_is) in
     let other = ap (λ (s : JoiningView g.row.T.Denot). s.left_width) (sym c.self.view_is) in
-    let rows = rows_of_batch g.T.PartialOrder.below v c.args.updates.now c.in_ok-batch.batch.updates c.in_ok-batch.ensures.stands
+    let rows = rows_of_batch g.T.PartialOrder.times v c.args.updates.now c.in_ok-batch.batch.updates c.in_ok-batch.ensures.stands
     (subst (λ n. IsTrue (all_rows_have n c.args.updates.now)) width c.requires.rows) in
     let others = subst (λ n. IsTrue (all_rows_have n (stored c.args.left.now))) other c.requires.left_rows in
     subst (λ (s : JoiningView g.row.T.Denot). IfOk c.take_right.result (λ out. IsTrue (all_rows_have (s.left_width + s.right_width - s.state.key) out.items))) c.self.view_is
@@ -101,13 +101,13 @@ returns-clause-acknowledged g c =
 
 pub returns-clause-refused : goal.returns-clause-refused
 returns-clause-refused g c =
-    let below = g.T.PartialOrder.below in
+    let times = g.T.PartialOrder.times in
     let us = c.args.updates.now in
     let bs = c.in_ok-batch.batch.updates in
     let e = ap (λ (s : JoiningView g.row.T.Denot). s.state) c.self.view_is in
     IfErr-weaker c.take_right.result _ _
     (λ refused. refused_more _ _ refused (λ large inserted taken side.
-    let here = subst (λ (st : Acknowledged g.row.T.Denot). IsSide below g.T.Minimum.least c.args.left.now inserted taken st.left) (sym e) side in
-    let got = side_inserted g.met.T.PartialOrder.order g.T.Minimum.least c.args.left.now inserted taken c.self.inside.state.left here in
+    let here = subst (λ (st : Acknowledged g.row.T.Denot). IsSide times c.args.left.now inserted taken st.left) (sym e) side in
+    let got = side_inserted g.met.T.PartialOrder.order c.args.left.now inserted taken c.self.inside.state.left here in
     inr (grown_right (2 ^ 63) (size bs) (size us) (size (all_updates taken)) (large (all_updates taken) got) c.in_ok-batch.ensures.stands.smaller)))
     (refused_by _ _ c.take_right.result c.take_right.ensures.refused c.take_right.ensures.large)

@@ -10,7 +10,7 @@ history-requires g c =
     let hs = c.self.inside.state.histories in
     let value = c.waiting-place-items.ensures.value in
     subst (λ ps. get_or ps place 0 < length hs) (sym value)
-    (within g.T.PartialOrder.below hs c.self.inside.state.waiting c.waiting-place-items.ensures.exact place (subst (λ ps. place < length ps) value c.loop-place-test.true))
+    (within g.T.PartialOrder.times hs c.self.inside.state.waiting c.waiting-place-items.ensures.exact place (subst (λ ps. place < length ps) value c.loop-place-test.true))
 
 pub loop-place-preserved : goal.loop-place-preserved
 loop-place-preserved g c =
@@ -18,7 +18,7 @@ loop-place-preserved g c =
     let wait = ap (λ v. v.state.waiting) c.self.view_is in
     let lt = rw (c.waiting-place-items.ensures.value, wait) at c.loop-place-test.true in
     let there = rw (c.waiting-place-items.ensures.value, wait, hist) at c.history.ensures.value in
-    held_more g.T.PartialOrder.below c.args.self.now.state.histories c.args.self.now.state.waiting c.loop-place.place-index lt c.history.result.now c.due.result.now c.loop-place.held.items c.put_in_all.new.front.items there c.due.ensures c.loop-place.invariant c.in_ok-put_in_all.ensures.beyond
+    held_more g.T.PartialOrder.times c.args.self.now.state.histories c.args.self.now.state.waiting c.loop-place.place-index lt c.history.result.now c.due.result.now c.loop-place.held.items c.put_in_all.new.front.items there c.due.ensures c.loop-place.invariant c.in_ok-put_in_all.ensures.beyond
 
 pub returns-clause-covers : goal.returns-clause-covers
 returns-clause-covers g c =

@@ -9,13 +9,12 @@ use Rattle.operator.proofs.reduction.Reducing.new.Goals as goal
 
 pub returns-clause-stands : goal.returns-clause-stands
 returns-clause-stands g c =
-    let below = g.T.PartialOrder.below in
-    let joined = g.T.Lattice.joined in
-    subst (λ (s : ReduceView g.row.T.Denot Kind). IsReduced below joined g.T.Minimum.least (record { state = s; key = c.args.key; width = c.args.width }) [] []) (sym c.new.ensures.first)
+    let times = g.T.PartialOrder.times in
+    subst (λ (s : ReduceView g.row.T.Denot Kind). IsReduced times (record { state = s; key = c.args.key; width = c.args.width }) [] []) (sym c.new.ensures.first)
     (record {
       taken = [];
-      same = stand_in_nothing below;
-      stands = subst (λ (s : ReduceView g.row.T.Denot Kind). StandsFor below (g.T.Minimum.least ∷ []) joined c.columns_of.result (kind_answer c.args.kind) s.histories [] []) c.new.ensures.first (c.new.ensures.stands (g.T.Minimum.least ∷ []));
+      same = stand_in_nothing times;
+      stands = subst (λ (s : ReduceView g.row.T.Denot Kind). StandsFor times (g.T.PartialOrder.times.least ∷ []) c.columns_of.result (kind_answer c.args.kind) s.histories [] []) c.new.ensures.first (c.new.ensures.stands (g.T.PartialOrder.times.least ∷ []));
       apart = tt;
       ahead = λ u m. absurd m;
       wide = refl;

@@ -21,7 +21,7 @@ invariant_of-self-2 g c =
       subst (λ (s : ReduceView g.row.T.Denot Kind). HasRoom s.reducer c.self.inside.key c.self.inside.width) (sym c.in_ok-take.ensures.kept) c.self.invariant.0,
       subst (λ (s : ReduceView g.row.T.Denot Kind). s.key ≡ state_key s.reducer c.self.inside.key c.self.inside.width) (sym c.in_ok-take.ensures.kept) c.self.invariant.1,
       later_beyond g.met.T.PartialOrder.order g.met.T.Lattice.bounds old.key c.in_ok-batch.batch.updates c.args.updates.now old.histories new.histories c.in_ok-batch.ensures.same.among c.in_ok-take.ensures.later
-          (g.T.Minimum.least ∷ []) c.self.invariant.2 c.requires.later,
+          (g.T.PartialOrder.times.least ∷ []) c.self.invariant.2 c.requires.later,
     )
 
 pub returns-clause-stands : goal.returns-clause-stands
@@ -36,8 +36,8 @@ returns-clause-stands g c =
     let wide = subst (λ (v : ReducingView g.row.T.Denot). IsTrue (have_width v.width us)) (sym c.self.view_is) c.requires.wide in
     rw (← c.self.view_is)
     (λ received emitted upper w later passed.
-    subst (λ (s : ReduceView g.row.T.Denot Kind). IsReduced g.T.PartialOrder.below g.T.Lattice.joined g.T.Minimum.least (record { state = s; key = c.self.inside.key; width = c.self.inside.width }) (us ++ received) emitted) (sym c.in_ok-take.ensures.kept)
-    (took o l (record { state = old; key = c.self.inside.key; width = c.self.inside.width }) taken us received emitted new.histories new.waiting same w wide (c.in_ok-take.ensures.stands (g.T.Minimum.least ∷ []) w.taken emitted (taken_beyond o l taken us (g.T.Minimum.least ∷ []) same.among c.requires.later) w.stands)
+    subst (λ (s : ReduceView g.row.T.Denot Kind). IsReduced g.T.PartialOrder.times (record { state = s; key = c.self.inside.key; width = c.self.inside.width }) (us ++ received) emitted) (sym c.in_ok-take.ensures.kept)
+    (took o l (record { state = old; key = c.self.inside.key; width = c.self.inside.width }) taken us received emitted new.histories new.waiting same w wide (c.in_ok-take.ensures.stands (g.T.PartialOrder.times.least ∷ []) w.taken emitted (taken_beyond o l taken us (g.T.PartialOrder.times.least ∷ []) same.among c.requires.later) w.stands)
     (c.in_ok-take.ensures.open emitted w.ahead (behind o l old.key taken us emitted upper same.among later passed))))
 
 pub returns-clause-pending : goal.returns-clause-pending
@@ -47,7 +47,7 @@ returns-clause-pending g c =
     rw (← c.self.view_is)
     (λ received emitted w.
     pending_after g.met.T.PartialOrder.order g.met.T.Lattice.bounds old.key c.in_ok-batch.batch.updates c.args.updates.now w.taken old.histories new.histories c.in_ok-batch.ensures.same
-    (c.in_ok-take.ensures.pending (g.T.Minimum.least ∷ []) w.taken emitted (taken_beyond g.met.T.PartialOrder.order g.met.T.Lattice.bounds c.in_ok-batch.batch.updates c.args.updates.now (g.T.Minimum.least ∷ []) c.in_ok-batch.ensures.same.among c.requires.later) w.stands) c.in_ok-take.ensures.later)
+    (c.in_ok-take.ensures.pending (g.T.PartialOrder.times.least ∷ []) w.taken emitted (taken_beyond g.met.T.PartialOrder.order g.met.T.Lattice.bounds c.in_ok-batch.batch.updates c.args.updates.now (g.T.PartialOrder.times.least ∷ []) c.in_ok-batch.ensures.same.among c.requires.later) w.stands) c.in_ok-take.ensures.later)
 
 pub returns-clause-uncancelled : goal.returns-clause-uncancelled
 returns-clause-uncancelled g c =
@@ -56,4 +56,4 @@ returns-clause-uncancelled g c =
     rw (← c.self.view_is)
     (λ received emitted w.
     pending_with g.met.T.PartialOrder.order g.met.T.Lattice.bounds old.key c.in_ok-batch.batch.updates c.args.updates.now w.taken old.histories new.histories c.in_ok-batch.ensures.same
-    (c.in_ok-take.ensures.pending (g.T.Minimum.least ∷ []) w.taken emitted (taken_beyond g.met.T.PartialOrder.order g.met.T.Lattice.bounds c.in_ok-batch.batch.updates c.args.updates.now (g.T.Minimum.least ∷ []) c.in_ok-batch.ensures.same.among c.requires.later) w.stands) c.in_ok-take.ensures.later c.in_ok-batch.ensures.totals)
+    (c.in_ok-take.ensures.pending (g.T.PartialOrder.times.least ∷ []) w.taken emitted (taken_beyond g.met.T.PartialOrder.order g.met.T.Lattice.bounds c.in_ok-batch.batch.updates c.args.updates.now (g.T.PartialOrder.times.least ∷ []) c.in_ok-batch.ensures.same.among c.requires.later) w.stands) c.in_ok-take.ensures.later c.in_ok-batch.ensures.totals)

@@ -4,7 +4,7 @@ use Rattle.progress.specs.Several.{items_at}
 use Rattle.progress.specs.Tallies.{SameCounts}
 use Rattle.outstanding.specs.Loads.{held_by_all}
 use Rattle.outstanding.specs.Stations.{lot}
-use Rattle.outstanding.proofs.GivingLemmas.{held_last, last_is_counted, last_went}
+use Rattle.outstanding.proofs.GiveLemmas.{held_last, last_is_counted, last_went}
 use Rattle.outstanding.proofs.stations.Row.give_back.Goals as goal
 
 pub give_back-requires : goal.give_back-requires

@@ -3,7 +3,7 @@ use Rattle.progress.specs.Several.{AreCounted}
 use Rattle.progress.specs.Tallies.{TallyState, SameCounts}
 use Rattle.histories.specs.Histories.Outstanding.{items_held}
 use Rattle.outstanding.specs.Loads.{all_held}
-use Rattle.outstanding.proofs.GivingLemmas.{nothing_held}
+use Rattle.outstanding.proofs.GiveLemmas.{nothing_held}
 use Rattle.outstanding.proofs.stations.Stations.first.Goals as goal
 
 pub give_back-requires : goal.give_back-requires

@@ -6,7 +6,7 @@ use Rattle.progress.specs.declared.place.Place.TheVariants.{Held}
 use Rattle.histories.specs.Histories.Outstanding.{items_held}
 use Rattle.outstanding.specs.Loads.{held_by_all, all_held}
 use Rattle.outstanding.specs.Stations.{lot, lots}
-use Rattle.outstanding.proofs.GivingLemmas.{row_last, last_is_counted, last_went}
+use Rattle.outstanding.proofs.GiveLemmas.{row_last, last_is_counted, last_went}
 use Rattle.outstanding.proofs.stations.Stations.give_back.Goals as goal
 
 pub give_back-requires : goal.give_back-requires

@@ -4,9 +4,9 @@ use Rattle.std.specs.Prelude.{slice_set}
 use Rattle.progress.specs.declared.place.Place.{Place}
 use Rattle.progress.specs.declared.counted.Counted.{Counted}
 use Rattle.progress.specs.declared.counts.PlaceCounts.{PlaceCounts}
-use Rattle.progress.specs.Placing.{items_in}
+use Rattle.progress.specs.PlacedCounts.{items_in}
 use Rattle.progress.proofs.CountLemmas.{pushed}
-use Rattle.progress.proofs.PlacingLemmas.{changed, own_place, set_itself}
+use Rattle.progress.proofs.PlacedLemmas.{changed, own_place, set_itself}
 use Rattle.progress.proofs.counts.Counts.add.Goals as goal
 
 at_err : {X E P : Type 0} (r : Result X E) → P → OnErr r P

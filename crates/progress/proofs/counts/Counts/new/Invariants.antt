@@ -1,5 +1,5 @@
 use Rattle.std.proofs.Common.{◌≡◌, ◌*◌, [], length}
-use Rattle.progress.specs.Placing.{IsPlaced, items_in}
+use Rattle.progress.specs.PlacedCounts.{IsPlaced, items_in}
 use Rattle.progress.proofs.counts.Counts.new.Given as goal
 
 -- the places of the nodes so far stand there, and nothing is counted at them

@@ -3,11 +3,11 @@ use Rattle.std.specs.List.{filter, remove}
 use Rattle.std.specs.Prelude.{Contains, slice_index_or}
 use Rattle.progress.specs.declared.counted.Counted.{Counted}
 use Rattle.progress.specs.declared.counts.PlaceCounts.{PlaceCounts}
-use Rattle.progress.specs.Placing.{AreOthers, items_in, slot}
+use Rattle.progress.specs.PlacedCounts.{AreOthers, items_in, slot}
 use Rattle.progress.specs.Tallies.{SameCounts}
 use Rattle.progress.proofs.CountLemmas.{removed}
-use Rattle.progress.proofs.CountingLemmas.{carried}
-use Rattle.progress.proofs.PlacingLemmas.{changed, in_its_place, in_others, others_less, others_stay, own_place, still_placed}
+use Rattle.progress.proofs.CountListLemmas.{carried}
+use Rattle.progress.proofs.PlacedLemmas.{changed, in_its_place, in_others, others_less, others_stay, own_place, still_placed}
 use Rattle.progress.proofs.counts.Counts.remove.Goals as goal
 
 pub remove-requires : goal.remove-requires

@@ -15,13 +15,13 @@ returns-else-not-self g c =
             reached = λ h. inl h;
           }
       | else-not-self-via-then-not-self+else-is_reached w ↦
-          let below = g.T.PartialOrder.below in
+          let times = g.T.PartialOrder.times in
           let o = g.met.T.PartialOrder.order in
           let none = w.is_reached.ensures.unreached w.if-is_reached.false in
           record {
-            gone = λ items is unmarked. fronts_less below o c.args.graph.now c.args.node c.args.place.now none c.args.t.now items c.args.self.now (is unmarked);
-            later = λ items u onward is unmarked. fronts_more below o c.args.graph.now c.args.node c.args.place.now none u items c.args.self.now
-                (fronts_less below o c.args.graph.now c.args.node c.args.place.now none c.args.t.now items c.args.self.now (is unmarked));
+            gone = λ items is unmarked. fronts_less times o c.args.graph.now c.args.node c.args.place.now none c.args.t.now items c.args.self.now (is unmarked);
+            later = λ items u onward is unmarked. fronts_more times o c.args.graph.now c.args.node c.args.place.now none u items c.args.self.now
+                (fronts_less times o c.args.graph.now c.args.node c.args.place.now none c.args.t.now items c.args.self.now (is unmarked));
             stays = λ h. h;
             reached = λ h. inl h;
           }

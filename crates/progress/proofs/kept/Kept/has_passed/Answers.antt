@@ -9,7 +9,7 @@ pub returns : goal.returns
 returns g c =
     let unmarked : c.args.self.now.marked ≡ false = search rules in
     let front = c.in-Some.ensures c.args.graph.now c.args.items.now (c.requires.current unmarked) in
-    ap not (c.is_beyond.ensures ∙ beyond_kept g.T.PartialOrder.below g.met.T.PartialOrder.order c.args.graph.now c.args.scope.now c.in-Some.elements.now c.args.items.now front c.args.t.now)
+    ap not (c.is_beyond.ensures ∙ beyond_kept g.T.PartialOrder.times g.met.T.PartialOrder.order c.args.graph.now c.args.scope.now c.in-Some.elements.now c.args.items.now front c.args.t.now)
 
 pub returns-2 : goal.returns-2
 returns-2 g c =

@@ -15,7 +15,7 @@ returns-else-not-self-clause-inserted g c =
     elim c.else-not-self.branch [
       | else-not-self-via-then-not-self+else-is_reached w ↦
           record {
-            current = λ items is unmarked. fronts_more g.T.PartialOrder.below g.met.T.PartialOrder.order c.args.graph.now c.args.node c.args.place.now (w.is_reached.ensures.unreached w.if-is_reached.false) c.args.t items c.args.self.now (is unmarked);
+            current = λ items is unmarked. fronts_more g.T.PartialOrder.times g.met.T.PartialOrder.order c.args.graph.now c.args.node c.args.place.now (w.is_reached.ensures.unreached w.if-is_reached.false) c.args.t items c.args.self.now (is unmarked);
             mark = refl;
           }
       | else-not-self-via-else-not-self w ↦

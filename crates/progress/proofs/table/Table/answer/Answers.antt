@@ -14,7 +14,7 @@ on_err (Err e) P p = p
 
 pub returns-in_err-found-clause-tally : goal.returns-in_err-found-clause-tally
 returns-in_err-found-clause-tally g c =
-    let below = g.T.PartialOrder.below in
+    let times = g.T.PartialOrder.times in
     let nodes = c.args.graph.now in
     let items = c.args.items.now in
     let ks = c.self.inside.kept.items in
@@ -24,8 +24,8 @@ returns-in_err-found-clause-tally g c =
     record {
       plan = c.requires.tally.plan;
       len = set_length ks c.number.result c.answer.new.self ∙ (long ∙ c.requires.tally.len);
-      current = current_set below nodes items ks c.number.result c.answer.new.self within (subst (λ n. IsCurrent below nodes items n c.answer.new.self) (sym at) c.answer.ensures.current)
-          (subst (λ xs. AreCurrent below nodes items xs) (sym c.self.view_is) c.requires.tally.current);
+      current = current_set times nodes items ks c.number.result c.answer.new.self within (subst (λ n. IsCurrent times nodes items n c.answer.new.self) (sym at) c.answer.ensures.current)
+          (subst (λ xs. AreCurrent times nodes items xs) (sym c.self.view_is) c.requires.tally.current);
     }
 
 pub returns-in_err-found-clause-unanswered : goal.returns-in_err-found-clause-unanswered
@@ -45,7 +45,7 @@ invariant_of-self-2 g c =
 
 pub returns-clause-tally : goal.returns-clause-tally
 returns-clause-tally g c =
-    let below = g.T.PartialOrder.below in
+    let times = g.T.PartialOrder.times in
     let nodes = c.args.graph.now in
     let items = c.args.items.now in
     let ks = c.self.inside.kept.items in
@@ -55,8 +55,8 @@ returns-clause-tally g c =
     record {
       plan = c.requires.tally.plan;
       len = set_length ks c.number.result c.answer.new.self ∙ (long ∙ c.requires.tally.len);
-      current = current_set below nodes items ks c.number.result c.answer.new.self within (subst (λ n. IsCurrent below nodes items n c.answer.new.self) (sym at) c.answer.ensures.current)
-          (subst (λ xs. AreCurrent below nodes items xs) (sym c.self.view_is) c.requires.tally.current);
+      current = current_set times nodes items ks c.number.result c.answer.new.self within (subst (λ n. IsCurrent times nodes items n c.answer.new.self) (sym at) c.answer.ensures.current)
+          (subst (λ xs. AreCurrent times nodes items xs) (sym c.self.view_is) c.requires.tally.current);
     }
 
 pub returns-clause-unmarked : goal.returns-clause-unmarked

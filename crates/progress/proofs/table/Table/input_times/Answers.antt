@@ -30,7 +30,7 @@ returns-clause-unmarked g c n =
 
 pub returns-clause-tally : goal.returns-clause-tally
 returns-clause-tally g c =
-    let below = g.T.PartialOrder.below in
+    let times = g.T.PartialOrder.times in
     let nodes = c.args.graph.now in
     let items = c.args.items.now in
     let ks = c.self.inside.kept.items in
@@ -40,6 +40,6 @@ returns-clause-tally g c =
     record {
       plan = c.requires.tally.plan;
       len = set_length ks c.number.result c.input_times.new.self ∙ (long ∙ c.requires.tally.len);
-      current = current_set below nodes items ks c.number.result c.input_times.new.self within (subst (λ n. IsCurrent below nodes items n c.input_times.new.self) (sym at) c.input_times.ensures.current)
-          (subst (λ xs. AreCurrent below nodes items xs) (sym c.self.view_is) c.requires.tally.current);
+      current = current_set times nodes items ks c.number.result c.input_times.new.self within (subst (λ n. IsCurrent times nodes items n c.input_times.new.self) (sym at) c.input_times.ensures.current)
+          (subst (λ xs. AreCurrent times nodes items xs) (sym c.self.view_is) c.requires.tally.current);
     }

@@ -12,16 +12,16 @@ on_err (Err e) P p = p
 
 pub returns-clause-least : goal.returns-clause-least
 returns-clause-least g c =
-    let below = g.T.PartialOrder.below in
+    let times = g.T.PartialOrder.times in
     let found = c.in_ok-found.found in
-    subst (λ (s : TallyState g.row.T.Denot). SameElements found (least below (times_where (is_in_scope s.nodes c.args.scope.now) s.items))) c.self.view_is
+    subst (λ (s : TallyState g.row.T.Denot). SameElements found (least times (times_where (is_in_scope s.nodes c.args.scope.now) s.items))) c.self.view_is
     c.in_ok-found.ensures.least
 
 pub returns-clause-beyond : goal.returns-clause-beyond
 returns-clause-beyond g c t =
-    let below = g.T.PartialOrder.below in
+    let times = g.T.PartialOrder.times in
     c.in_ok-found.ensures.beyond t
-    ∙ (λ i. is_beyond below (least below (times_where (is_in_scope (c.self.view_is i).nodes c.args.scope.now) (c.self.view_is i).items)) t)
+    ∙ (λ i. is_beyond times (least times (times_where (is_in_scope (c.self.view_is i).nodes c.args.scope.now) (c.self.view_is i).items)) t)
 
 pub returns-clause-unmarked : goal.returns-clause-unmarked
 returns-clause-unmarked g c n =

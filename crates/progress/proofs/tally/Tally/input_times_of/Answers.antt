@@ -21,6 +21,6 @@ returns-in_err-times-clause-unanswered g c =
 
 pub returns-clause-beyond : goal.returns-clause-beyond
 returns-clause-beyond g c t =
-    let below = g.T.PartialOrder.below in
-    beyond_kept below g.met.T.PartialOrder.order c.self.inside.graph (InputOf c.args.node) c.in_ok-times.times c.self.inside.items c.in_ok-times.ensures.front t
-    ∙ (λ i. is_beyond below (input_frontier below (c.self.view_is i).nodes (c.self.view_is i).items c.args.node) t)
+    let times = g.T.PartialOrder.times in
+    beyond_kept times g.met.T.PartialOrder.order c.self.inside.graph (InputOf c.args.node) c.in_ok-times.times c.self.inside.items c.in_ok-times.ensures.front t
+    ∙ (λ i. is_beyond times (input_frontier times (c.self.view_is i).nodes (c.self.view_is i).items c.args.node) t)

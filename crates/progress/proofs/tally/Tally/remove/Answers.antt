@@ -21,11 +21,11 @@ pub returns-clause-below : goal.returns-clause-below
 returns-clause-below g c =
     let new = c.forget.new.self in
     subst (λ (s : TallyState g.row.T.Denot). AreMarksBelow s.nodes c.args.place.now s.marked (marks_of new)) c.self.view_is
-    (forgotten_marks g.T.PartialOrder.below c.self.inside.graph c.args.place.now c.args.t.now c.self.inside.table new c.forget.ensures)
+    (forgotten_marks g.T.PartialOrder.times c.self.inside.graph c.args.place.now c.args.t.now c.self.inside.table new c.forget.ensures)
 
 pub invariant_of-self : goal.invariant_of-self
 invariant_of-self g c =
-    let below = g.T.PartialOrder.below in
+    let times = g.T.PartialOrder.times in
     let nodes = c.self.inside.graph in
     let ks = c.self.inside.table in
     let left = c.remove.new.self in
@@ -34,6 +34,6 @@ invariant_of-self g c =
     record {
       plan = c.self.invariant.plan;
       len = c.forget.ensures.len ∙ c.self.invariant.len;
-      current = gone_current below nodes c.args.place.now c.args.t.now ks c.forget.new.self c.forget.ensures left
-          (current_same below nodes ks c.self.inside.items (x ∷ left) (λ test. sym (counted test)) c.self.invariant.current);
+      current = gone_current times nodes c.args.place.now c.args.t.now ks c.forget.new.self c.forget.ensures left
+          (current_same times nodes ks c.self.inside.items (x ∷ left) (λ test. sym (counted test)) c.self.invariant.current);
     }

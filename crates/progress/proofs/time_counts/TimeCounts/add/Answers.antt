@@ -1,6 +1,6 @@
 use Rattle.std.proofs.Common.{◌∷◌, length, ap, arith}
 use Rattle.std.proofs.lemmas.List.{length-append}
-use Rattle.progress.proofs.CountingLemmas.{same_length}
+use Rattle.progress.proofs.CountListLemmas.{same_length}
 use Rattle.progress.proofs.time_counts.TimeCounts.add.Goals as goal
 
 pub invariant_of-self-2 : goal.invariant_of-self-2

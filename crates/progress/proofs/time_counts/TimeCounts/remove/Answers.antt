@@ -1,5 +1,5 @@
 use Rattle.std.proofs.Common.{◌∷◌, ◌++◌, arith}
-use Rattle.progress.proofs.CountingLemmas.{same_length}
+use Rattle.progress.proofs.CountListLemmas.{same_length}
 use Rattle.progress.proofs.time_counts.TimeCounts.remove.Goals as goal
 
 pub invariant_of-self : goal.invariant_of-self

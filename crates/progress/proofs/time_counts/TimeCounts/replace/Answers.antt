@@ -2,7 +2,7 @@ use Rattle.std.proofs.Common.{◌≡◌, ◌<◌, ◌∷◌, ◌++◌, [], lengt
 use Rattle.std.specs.List.{filter}
 use Rattle.std.proofs.lemmas.List.{length-append}
 use Rattle.progress.proofs.CountLemmas.{exchanged, more_alike, pushed}
-use Rattle.progress.proofs.CountingLemmas.{behind, same_length}
+use Rattle.progress.proofs.CountListLemmas.{behind, same_length}
 use Rattle.progress.proofs.time_counts.TimeCounts.replace.Goals as goal
 
 pub put-requires : goal.put-requires

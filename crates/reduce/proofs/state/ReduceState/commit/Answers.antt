@@ -1,6 +1,6 @@
 use Rattle.std.proofs.Common.{length, sym, subst}
 use Rattle.reduce.specs.Histories.{ReduceView}
-use Rattle.reduce.specs.Visiting.{AreWithin}
+use Rattle.reduce.specs.Visits.{AreWithin}
 use Rattle.reduce.proofs.state.ReduceState.commit.Goals as goal
 
 pub change_all-requires-clause-within : goal.change_all-requires-clause-within

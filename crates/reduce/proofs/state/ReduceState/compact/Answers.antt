@@ -6,8 +6,8 @@ pub invariant_of-self : goal.invariant_of-self
 invariant_of-self g c = (
   c.self.invariant.0,
   c.self.invariant.1,
-  compacted_known g.T.PartialOrder.below g.T.Ord.cmp g.T.Lattice.joined c.args.since.now c.self.inside.key c.self.inside.histories.items c.compact_all.new.histories.items c.compact_all.ensures.items c.self.invariant.2,
-  compacted_waits g.T.PartialOrder.below g.T.Ord.cmp g.T.Lattice.joined c.args.since.now c.self.inside.histories.items c.compact_all.new.histories.items c.compact_all.ensures.items c.self.inside.waiting.items c.self.invariant.3,
+  compacted_known g.T.PartialOrder.times g.T.Ord.cmp c.args.since.now c.self.inside.key c.self.inside.histories.items c.compact_all.new.histories.items c.compact_all.ensures.items c.self.invariant.2,
+  compacted_waits g.T.PartialOrder.times g.T.Ord.cmp c.args.since.now c.self.inside.histories.items c.compact_all.new.histories.items c.compact_all.ensures.items c.self.inside.waiting.items c.self.invariant.3,
 )
 
 pub returns-clause-stands : goal.returns-clause-stands
@@ -18,7 +18,7 @@ returns-clause-stands g c =
 pub returns-clause-due : goal.returns-clause-due
 returns-clause-due g c =
     rw (← ap (λ s. s.histories) c.self.view_is)
-    (λ key. compacted_due g.T.PartialOrder.below g.T.Ord.cmp g.T.Lattice.joined c.args.since.now key c.self.inside.histories.items c.compact_all.new.histories.items c.compact_all.ensures.items)
+    (λ key. compacted_due g.T.PartialOrder.times g.T.Ord.cmp c.args.since.now key c.self.inside.histories.items c.compact_all.new.histories.items c.compact_all.ensures.items)
 
 pub returns-clause-places : goal.returns-clause-places
 returns-clause-places g c = rw (← ap (λ s. s.histories) c.self.view_is) c.compact_all.ensures.items

@@ -5,4 +5,4 @@ use Rattle.reduce.proofs.HeldLemmas.{pending_under}
 use Rattle.reduce.proofs.state.ReduceState.held.Given as goal
 
 abbrev pub invariant-loop-place : goal.invariant-loop-place
-invariant-loop-place g l = (t : g.row.T.Denot) → is_beyond g.T.PartialOrder.below l.held t ≡ list_any (pending_under g.T.PartialOrder.below l.self.histories t) (take l.place-index l.self.waiting)
+invariant-loop-place g l = (t : g.row.T.Denot) → is_beyond g.T.PartialOrder.times l.held t ≡ list_any (pending_under g.T.PartialOrder.times l.self.histories t) (take l.place-index l.self.waiting)

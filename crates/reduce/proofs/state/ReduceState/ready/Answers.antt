@@ -12,16 +12,16 @@ returns-in_err-gathered-clause-refused g c =
     (⊎_elim inl (λ y. inr (
       y.0,
       subst
-          (λ (v : ReduceView g.row.T.Denot g.row.R.Denot). IsTooLarge g.T.PartialOrder.below g.T.Lattice.joined v.key (g.R.Reducer.reduces v.reducer) (g.S.Trace.held c.args.trace.now) c.args.frontier.now (g.S.Trace.stands c.args.trace.now) v.histories)
+          (λ (v : ReduceView g.row.T.Denot g.row.R.Denot). IsTooLarge g.T.PartialOrder.times v.key (g.R.Reducer.reduces v.reducer) (g.S.Trace.held c.args.trace.now) c.args.frontier.now (g.S.Trace.stands c.args.trace.now) v.histories)
           c.fold.ensures
           y.1,
     )) c.in_err-gathered.ensures.refused)
 
 module _ (g : Over) (c : goal.After-drop g) where
   -- what was gathered is put in place, and it is what is given
-  output : IsOutput g.T.PartialOrder.below g.T.Lattice.joined c.args.self.now.key (g.R.Reducer.reduces c.args.self.now.reducer) (g.S.Trace.held c.args.trace.now) c.args.frontier.now (g.S.Trace.stands c.args.trace.now) c.args.self.now.histories c.commit.new.self.histories c.in_ok-list.list.items
+  output : IsOutput g.T.PartialOrder.times c.args.self.now.key (g.R.Reducer.reduces c.args.self.now.reducer) (g.S.Trace.held c.args.trace.now) c.args.frontier.now (g.S.Trace.stands c.args.trace.now) c.args.self.now.histories c.commit.new.self.histories c.in_ok-list.list.items
   output =
-      output_of g.T.PartialOrder.below g.T.Lattice.joined g.R.Reducer.reduces (g.S.Trace.held c.args.trace.now) c.args.frontier.now (g.S.Trace.stands c.args.trace.now) c.args.self.now c.fold.new.self c.commit.new.self _ c.in_ok-gathered.gathered.out c.in_ok-list.list.items
+      output_of g.T.PartialOrder.times g.R.Reducer.reduces (g.S.Trace.held c.args.trace.now) c.args.frontier.now (g.S.Trace.stands c.args.trace.now) c.args.self.now c.fold.new.self c.commit.new.self _ c.in_ok-gathered.gathered.out c.in_ok-list.list.items
       c.fold.ensures (ap (λ (v : ReduceView g.row.T.Denot g.row.R.Denot). v.histories) c.in_ok-columns.ensures.put) c.in_ok-list.ensures.copied c.in_ok-gathered.ensures.output
 
 pub returns-clause-stands : goal.returns-clause-stands

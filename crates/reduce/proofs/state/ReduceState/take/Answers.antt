@@ -1,5 +1,5 @@
 use Rattle.std.proofs.Common.{map, ap}
-use Rattle.reduce.specs.Taking.{made_from}
+use Rattle.reduce.specs.Intake.{made_from}
 use Rattle.reduce.proofs.StandLemmas.{stands_now, pending_now, later_now, open_now}
 use Rattle.reduce.proofs.state.ReduceState.take.Goals as goal
 

@@ -5,8 +5,7 @@ use Rattle.session.proofs.client.Client.advance_wait.Goals as goal
 
 pub returns : goal.returns
 returns g c =
-    let below = g.T.PartialOrder.below in
-    let least = g.T.Minimum.least in
+    let times = g.T.PartialOrder.times in
     let new = c.advance.new.self in
-    subst (λ ts. IsAdvanced below least c.args.self.now new (IsDoneInTurn c.args.self.now new) c.args.input ts c.advance.result) c.elements.ensures.value
-    (subst (λ k. IsAdvanced below least k new (IsDoneInTurn k new) c.args.input c.elements.result.now c.advance.result) c.self.view_is c.advance.ensures)
+    subst (λ ts. IsAdvanced times c.args.self.now new (IsDoneInTurn c.args.self.now new) c.args.input ts c.advance.result) c.elements.ensures.value
+    (subst (λ k. IsAdvanced times k new (IsDoneInTurn k new) c.args.input c.elements.result.now c.advance.result) c.self.view_is c.advance.ensures)

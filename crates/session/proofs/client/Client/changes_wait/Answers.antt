@@ -5,7 +5,6 @@ use Rattle.session.proofs.client.Client.changes_wait.Goals as goal
 
 pub returns : goal.returns
 returns g c =
-    let below = g.T.PartialOrder.below in
-    let least = g.T.Minimum.least in
+    let times = g.T.PartialOrder.times in
     let new = c.changes.new.self in
-    subst (λ k. IsAnsweredInTurn k new (λ us. AreListed below least k new g.T.Ord.cmp c.args.view us.items) (IsChangesRefusalFound below least k new c.args.view) c.changes.result) c.self.view_is c.changes.ensures
+    subst (λ k. IsAnsweredInTurn k new (λ us. AreListed times k new g.T.Ord.cmp c.args.view us.items) (IsChangesRefusalFound times k new c.args.view) c.changes.result) c.self.view_is c.changes.ensures

@@ -7,4 +7,4 @@ use Rattle.session.proofs.client.Client.close_input_wait.Goals as goal
 pub returns : goal.returns
 returns g c =
     let new = c.close.new.self in
-    subst (λ k. IsClosed g.T.PartialOrder.below g.T.Minimum.least k new (IsDoneInTurn k new) c.args.input (Ok c.close.result)) c.self.view_is c.close.ensures
+    subst (λ k. IsClosed g.T.PartialOrder.times k new (IsDoneInTurn k new) c.args.input (Ok c.close.result)) c.self.view_is c.close.ensures

@@ -5,4 +5,4 @@ use Rattle.session.proofs.client.Client.is_too_large.Goals as goal
 
 pub returns : goal.returns
 returns g c =
-    subst (λ k. HasAskedLarge g.T.PartialOrder.below g.T.Minimum.least k c.try_is_too_large.new.self (IsAnswered k c.try_is_too_large.new.self) g.T.Ord.cmp c.try_is_too_large.result) c.self.view_is c.try_is_too_large.ensures
+    subst (λ k. HasAskedLarge g.T.PartialOrder.times k c.try_is_too_large.new.self (IsAnswered k c.try_is_too_large.new.self) g.T.Ord.cmp c.try_is_too_large.result) c.self.view_is c.try_is_too_large.ensures

@@ -7,4 +7,4 @@ use Rattle.session.proofs.client.Client.quiet_wait.Goals as goal
 pub returns : goal.returns
 returns g c =
     let new = c.is_quiet.new.self in
-    subst (λ k. HasAskedQuiet g.T.PartialOrder.below g.T.Minimum.least k new (IsAnsweredInTurn k new) (Ok c.is_quiet.result)) c.self.view_is c.is_quiet.ensures
+    subst (λ k. HasAskedQuiet g.T.PartialOrder.times k new (IsAnsweredInTurn k new) (Ok c.is_quiet.result)) c.self.view_is c.is_quiet.ensures

@@ -5,4 +5,4 @@ use Rattle.session.proofs.client.Client.read.Goals as goal
 
 pub returns : goal.returns
 returns g c =
-    subst (λ k. HasRead g.T.PartialOrder.below g.T.Minimum.least k c.try_read.new.self (IsAnswered k c.try_read.new.self) c.args.view c.args.time c.try_read.result) c.self.view_is c.try_read.ensures
+    subst (λ k. HasRead g.T.PartialOrder.times k c.try_read.new.self (IsAnswered k c.try_read.new.self) c.args.view c.args.time c.try_read.result) c.self.view_is c.try_read.ensures

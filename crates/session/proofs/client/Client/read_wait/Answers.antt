@@ -6,4 +6,4 @@ use Rattle.session.proofs.client.Client.read_wait.Goals as goal
 pub returns : goal.returns
 returns g c =
     let new = c.read.new.self in
-    subst (λ k. HasRead g.T.PartialOrder.below g.T.Minimum.least k new (IsAnsweredInTurn k new) c.args.view c.args.time c.read.result) c.self.view_is c.read.ensures
+    subst (λ k. HasRead g.T.PartialOrder.times k new (IsAnsweredInTurn k new) c.args.view c.args.time c.read.result) c.self.view_is c.read.ensures

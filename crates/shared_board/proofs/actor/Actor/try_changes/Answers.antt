@@ -9,8 +9,8 @@ use Rattle.histories.specs.Histories.Dataflows.{Dataflow, node_of}
 use Rattle.histories.specs.Histories.Outstanding.{frontier}
 use Rattle.histories.specs.Histories.Promises.{changes_in}
 use Rattle.histories.specs.Histories.States.{State}
-use Rattle.shared_board.specs.declared.event.Doing.{Doing}
-use Rattle.shared_board.specs.Tenures.{Adds, Terms, StandsFor, changes_refusal_in, IsChangesRefusalIn}
+use Rattle.shared_board.specs.declared.event.BoardEvent.{BoardEvent}
+use Rattle.shared_board.specs.Tenures.{IsNextTenure, Opening, StandsFor, changes_refusal_in, IsChangesRefusalIn}
 use Rattle.shared_board.proofs.ActorLemmas.{after_tenure, at_board, leaves, of_found}
 use Rattle.shared_board.proofs.CallLemmas.{entered, answered, listed_of}
 use Rattle.shared_board.proofs.actor.Actor.try_changes.Goals as goal
@@ -21,8 +21,8 @@ changes-changes-requires-clause-within g c =
     let held = c.in_ok-tenure.tenure in
     let m = c.deref_mut.result.now in
     let same : m ≡ held.state.value = search rules in
-    let e = entered g.T.PartialOrder.below g.T.Minimum.least g.T.Ord.cmp c.self.inside.pass _ k _ _ _ c.self.invariant c.self.view_is held c.in_ok-tenure.ensures.found held.state.value (g.met.P.BoardProtocol.stands_for held.state held.found c.in_ok-tenure.ensures.stands) in
-    at_board g.T.PartialOrder.below g.T.Minimum.least g.T.Ord.cmp k held.state.value held.hub held.number held.found e.within (λ (x : Terms). c.args.view < length x.dataflow.nodes) c.requires.within m same
+    let e = entered g.T.PartialOrder.times g.T.Ord.cmp c.self.inside.pass _ k _ _ _ c.self.invariant c.self.view_is held c.in_ok-tenure.ensures.found held.state.value (g.met.P.BoardProtocol.stands_for held.state held.found c.in_ok-tenure.ensures.stands) in
+    at_board g.T.PartialOrder.times g.T.Ord.cmp k held.state.value held.hub held.number held.found e.within (λ (x : Opening). c.args.view < length x.dataflow.nodes) c.requires.within m same
 
 pub changes-changes-requires-clause-view : goal.changes-changes-requires-clause-view
 changes-changes-requires-clause-view g c =
@@ -30,8 +30,8 @@ changes-changes-requires-clause-view g c =
     let held = c.in_ok-tenure.tenure in
     let m = c.deref_mut.result.now in
     let same : m ≡ held.state.value = search rules in
-    let e = entered g.T.PartialOrder.below g.T.Minimum.least g.T.Ord.cmp c.self.inside.pass _ k _ _ _ c.self.invariant c.self.view_is held c.in_ok-tenure.ensures.found held.state.value (g.met.P.BoardProtocol.stands_for held.state held.found c.in_ok-tenure.ensures.stands) in
-    at_board g.T.PartialOrder.below g.T.Minimum.least g.T.Ord.cmp k held.state.value held.hub held.number held.found e.within (λ (x : Terms). IsTrue (is_output (node_of x.dataflow c.args.view))) c.requires.view m same
+    let e = entered g.T.PartialOrder.times g.T.Ord.cmp c.self.inside.pass _ k _ _ _ c.self.invariant c.self.view_is held c.in_ok-tenure.ensures.found held.state.value (g.met.P.BoardProtocol.stands_for held.state held.found c.in_ok-tenure.ensures.stands) in
+    at_board g.T.PartialOrder.times g.T.Ord.cmp k held.state.value held.hub held.number held.found e.within (λ (x : Opening). IsTrue (is_output (node_of x.dataflow c.args.view))) c.requires.view m same
 
 pub leave-requires : goal.leave-requires
 leave-requires g c =
@@ -39,9 +39,9 @@ leave-requires g c =
     let held = c.in_ok-tenure.tenure in
     let m = c.deref_mut.result.now in
     let same : m ≡ held.state.value = search rules in
-    let e = entered g.T.PartialOrder.below g.T.Minimum.least g.T.Ord.cmp c.self.inside.pass _ k _ _ _ c.self.invariant c.self.view_is held c.in_ok-tenure.ensures.found held.state.value (g.met.P.BoardProtocol.stands_for held.state held.found c.in_ok-tenure.ensures.stands) in
-    g.met.P.BoardProtocol.may_stand _ _ (subst (λ (d : Doing _). StandsFor g.T.PartialOrder.below g.T.Minimum.least g.T.Ord.cmp c.changes-changes.new.self (entry held.number d ∷ held.found)) (sym (g.met.P.BoardProtocol.last_is _))
-    (leaves g.T.PartialOrder.below g.T.Minimum.least g.T.Ord.cmp k held.state.value held.hub held.number held.found e.within m c.changes-changes.new.self c.self.inside.number same e.own_number c.changes-changes.ensures.terms c.changes-changes.ensures.stands))
+    let e = entered g.T.PartialOrder.times g.T.Ord.cmp c.self.inside.pass _ k _ _ _ c.self.invariant c.self.view_is held c.in_ok-tenure.ensures.found held.state.value (g.met.P.BoardProtocol.stands_for held.state held.found c.in_ok-tenure.ensures.stands) in
+    g.met.P.BoardProtocol.may_stand _ _ (subst (λ (d : BoardEvent _). StandsFor g.T.PartialOrder.times g.T.Ord.cmp c.changes-changes.new.self (entry held.number d ∷ held.found)) (sym (g.met.P.BoardProtocol.last_is _))
+    (leaves g.T.PartialOrder.times g.T.Ord.cmp k held.state.value held.hub held.number held.found e.within m c.changes-changes.new.self c.self.inside.number same e.own_number c.changes-changes.ensures.terms c.changes-changes.ensures.stands))
 
 pub invariant_of-self-2 : goal.invariant_of-self-2
 invariant_of-self-2 g c =
@@ -49,8 +49,8 @@ invariant_of-self-2 g c =
     let held = c.in_ok-tenure.tenure in
     let m = c.deref_mut.result.now in
     let same : m ≡ held.state.value = search rules in
-    let e = entered g.T.PartialOrder.below g.T.Minimum.least g.T.Ord.cmp c.self.inside.pass _ k _ _ _ c.self.invariant c.self.view_is held c.in_ok-tenure.ensures.found held.state.value (g.met.P.BoardProtocol.stands_for held.state held.found c.in_ok-tenure.ensures.stands) in
-    let after = after_tenure g.T.PartialOrder.below g.T.Minimum.least g.T.Ord.cmp k held.state.value held.hub held.number held.found e.within m c.changes-changes.new.self c.self.inside.number same e.own_number c.changes-changes.ensures.terms c.changes-changes.ensures.stands c.leave.result (c.leave.ensures ∙ ap (λ (d : Doing _). record { hub = held.hub; number = held.number; seen = entry held.number d ∷ held.found }) (g.met.P.BoardProtocol.last_is _)) in
+    let e = entered g.T.PartialOrder.times g.T.Ord.cmp c.self.inside.pass _ k _ _ _ c.self.invariant c.self.view_is held c.in_ok-tenure.ensures.found held.state.value (g.met.P.BoardProtocol.stands_for held.state held.found c.in_ok-tenure.ensures.stands) in
+    let after = after_tenure g.T.PartialOrder.times g.T.Ord.cmp k held.state.value held.hub held.number held.found e.within m c.changes-changes.new.self c.self.inside.number same e.own_number c.changes-changes.ensures.terms c.changes-changes.ensures.stands c.leave.result (c.leave.ensures ∙ ap (λ (d : BoardEvent _). record { hub = held.hub; number = held.number; seen = entry held.number d ∷ held.found }) (g.met.P.BoardProtocol.last_is _)) in
     (after.same_hub ∙ e.same_hub, after.same_number ∙ e.own_number, after.actor, λ n x. after.counted n (sym (c.accepted-self-inside.ensures ∙ search rules) ∙ x))
 
 pub returns : goal.returns
@@ -59,10 +59,10 @@ returns g c =
     let held = c.in_ok-tenure.tenure in
     let m = c.deref_mut.result.now in
     let same : m ≡ held.state.value = search rules in
-    let e = entered g.T.PartialOrder.below g.T.Minimum.least g.T.Ord.cmp c.self.inside.pass _ k _ _ _ c.self.invariant c.self.view_is held c.in_ok-tenure.ensures.found held.state.value (g.met.P.BoardProtocol.stands_for held.state held.found c.in_ok-tenure.ensures.stands) in
-    let after = after_tenure g.T.PartialOrder.below g.T.Minimum.least g.T.Ord.cmp k held.state.value held.hub held.number held.found e.within m c.changes-changes.new.self c.self.inside.number same e.own_number c.changes-changes.ensures.terms c.changes-changes.ensures.stands c.leave.result (c.leave.ensures ∙ ap (λ (d : Doing _). record { hub = held.hub; number = held.number; seen = entry held.number d ∷ held.found }) (g.met.P.BoardProtocol.last_is _)) in
-    answered k c.leave.result _ _ c.changes-changes.result (subst (λ (x : Event g.row.T.Denot). Adds k x c.leave.result) (c.changes-changes.ensures.looked ∙ ap (λ n. Look n) (sym e.own_number)) after.adds)
-    (listed_of g.T.PartialOrder.below g.T.Minimum.least k c.leave.result c.args.view (λ us. us.items) g.T.Ord.cmp c.changes-changes.result
-    (of_found g.T.PartialOrder.below g.T.Minimum.least g.T.Ord.cmp k held.state.value held.hub held.number held.found e.within (λ (p : Dataflow) (w : State g.row.T.Denot). OnOk c.changes-changes.result (changes_refusal_in g.T.PartialOrder.below g.T.Minimum.least w c.args.view ≡ None)) m same c.changes-changes.ensures.accepted c.leave.result after)
-    (of_found g.T.PartialOrder.below g.T.Minimum.least g.T.Ord.cmp k held.state.value held.hub held.number held.found e.within (λ (p : Dataflow) (w : State g.row.T.Denot). IfOk c.changes-changes.result (λ us. AreDifferences g.T.PartialOrder.below g.T.Ord.cmp p.nodes (changes_in w) (frontier g.T.PartialOrder.below p w c.args.view) c.args.view us.items)) m same c.changes-changes.ensures.differences c.leave.result after))
-    (of_found g.T.PartialOrder.below g.T.Minimum.least g.T.Ord.cmp k held.state.value held.hub held.number held.found e.within (λ (p : Dataflow) (w : State g.row.T.Denot). IfErr c.changes-changes.result (IsChangesRefusalIn g.T.PartialOrder.below g.T.Minimum.least p w c.args.view)) m same c.changes-changes.ensures.refused c.leave.result after)
+    let e = entered g.T.PartialOrder.times g.T.Ord.cmp c.self.inside.pass _ k _ _ _ c.self.invariant c.self.view_is held c.in_ok-tenure.ensures.found held.state.value (g.met.P.BoardProtocol.stands_for held.state held.found c.in_ok-tenure.ensures.stands) in
+    let after = after_tenure g.T.PartialOrder.times g.T.Ord.cmp k held.state.value held.hub held.number held.found e.within m c.changes-changes.new.self c.self.inside.number same e.own_number c.changes-changes.ensures.terms c.changes-changes.ensures.stands c.leave.result (c.leave.ensures ∙ ap (λ (d : BoardEvent _). record { hub = held.hub; number = held.number; seen = entry held.number d ∷ held.found }) (g.met.P.BoardProtocol.last_is _)) in
+    answered k c.leave.result _ _ c.changes-changes.result (subst (λ (x : Event g.row.T.Denot). IsNextTenure k x c.leave.result) (c.changes-changes.ensures.looked ∙ ap (λ n. Look n) (sym e.own_number)) after.adds)
+    (listed_of g.T.PartialOrder.times k c.leave.result c.args.view (λ us. us.items) g.T.Ord.cmp c.changes-changes.result
+    (of_found g.T.PartialOrder.times g.T.Ord.cmp k held.state.value held.hub held.number held.found e.within (λ (p : Dataflow) (w : State g.row.T.Denot). OnOk c.changes-changes.result (changes_refusal_in g.T.PartialOrder.times w c.args.view ≡ None)) m same c.changes-changes.ensures.accepted c.leave.result after)
+    (of_found g.T.PartialOrder.times g.T.Ord.cmp k held.state.value held.hub held.number held.found e.within (λ (p : Dataflow) (w : State g.row.T.Denot). IfOk c.changes-changes.result (λ us. AreDifferences g.T.PartialOrder.times g.T.Ord.cmp p.nodes (changes_in w) (frontier g.T.PartialOrder.times p w c.args.view) c.args.view us.items)) m same c.changes-changes.ensures.differences c.leave.result after))
+    (of_found g.T.PartialOrder.times g.T.Ord.cmp k held.state.value held.hub held.number held.found e.within (λ (p : Dataflow) (w : State g.row.T.Denot). IfErr c.changes-changes.result (IsChangesRefusalIn g.T.PartialOrder.times p w c.args.view)) m same c.changes-changes.ensures.refused c.leave.result after)

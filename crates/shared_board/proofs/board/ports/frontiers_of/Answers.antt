@@ -9,15 +9,15 @@ use Rattle.shared_board.proofs.board.ports.frontiers_of.Goals as goal
 
 pub loop-site-preserved : goal.loop-site-preserved
 loop-site-preserved g c =
-    let below = g.T.PartialOrder.below in
+    let times = g.T.PartialOrder.times in
     let l = c.loop-site in
     let b = c.args.board.now in
     let ports = c.args.ports.now in
-    let fronts = λ (site : Site) (front : List g.row.T.Denot). IsFrontOf below b.dataflow (on_board b) site front in
+    let fronts = λ (site : Site) (front : List g.row.T.Denot). IsFrontOf times b.dataflow (on_board b) site front in
     let within : l.site-index < length ports = search rules in
     let site = c.site-item.result in
     let there = slice_get_read ports (length ports) l.site-index site refl within c.site-item.is in
-    let here = subst (λ (z : BoardState g.row.T.Denot). IsFrontOf below z.dataflow (on_board z) site c.in_ok-front.front) l.invariant.kept c.in_ok-front.ensures.beyond in
+    let here = subst (λ (z : BoardState g.row.T.Denot). IsFrontOf times z.dataflow (on_board z) site c.in_ok-front.front) l.invariant.kept c.in_ok-front.ensures.beyond in
     record {
       kept = c.port_frontier.ensures.kept ∙ l.invariant.kept;
       len = search rules;

@@ -9,5 +9,5 @@ abbrev pub invariant-loop-site : goal.invariant-loop-site
 invariant-loop-site g l = record {
   kept : l.board ≡ l.fn.board;
   len : length l.fronts.items ≡ l.site-index;
-  found : AreMatched (IsFrontOf g.T.PartialOrder.below l.fn.board.dataflow (on_board l.fn.board)) l.ports l.fronts.items l.site-index;
+  found : AreMatched (IsFrontOf g.T.PartialOrder.times l.fn.board.dataflow (on_board l.fn.board)) l.ports l.fronts.items l.site-index;
 }

@@ -5,9 +5,8 @@ use Rattle.steps.proofs.worker.Worker.begin.Goals as goal
 
 pub returns-clause-step : goal.returns-clause-step
 returns-clause-step g c =
-    let below = g.T.PartialOrder.below in
-    let least = g.T.Minimum.least in
+    let times = g.T.PartialOrder.times in
     let old = c.args.self.now in
     let mid = c.take.new.self in
-    took_one below least c.args.pick old mid c.compute.new.self c.requires.free
-    (subst (HasTriedToTake below least c.args.pick old.known mid.known mid.hand) c.in-Took.is c.in_ok-step.ensures.tried) c.in_ok-compute.ensures.known c.in_ok-compute.ensures.node
+    took_one times c.args.pick old mid c.compute.new.self c.requires.free
+    (subst (HasTriedToTake times c.args.pick old.known mid.known mid.hand) c.in-Took.is c.in_ok-step.ensures.tried) c.in_ok-compute.ensures.known c.in_ok-compute.ensures.node

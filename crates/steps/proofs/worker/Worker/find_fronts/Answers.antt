@@ -21,9 +21,7 @@ find_fronts-requires g c =
 
 pub invariant_of-self : goal.invariant_of-self
 invariant_of-self g c =
-    let below = g.T.PartialOrder.below in
-    let joined = g.T.Lattice.joined in
-    let least = g.T.Minimum.least in
+    let times = g.T.PartialOrder.times in
     let cmp = g.T.Ord.cmp in
     let inside = c.self.inside in
     let was : WorkerView g.row.T.Denot = record { known = inside.actor; desk = inside.desk; hand = inside.hand; failed = inside.failed } in
@@ -31,6 +29,6 @@ invariant_of-self g c =
     let free : inside.hand ≡ Free = ap (λ (w : WorkerView g.row.T.Denot). w.hand) c.self.view_is ∙ c.requires.free in
     let found = c.find_fronts in
     let new = found.new.actor in
-    going below joined least cmp inside.plan inside.routing inside.number was (record { known = new; desk = inside.desk; hand = inside.hand; failed = inside.failed }) c.self.invariant goes
+    going times cmp inside.plan inside.routing inside.number was (record { known = new; desk = inside.desk; hand = inside.hand; failed = inside.failed }) c.self.invariant goes
     (flow_after inside.actor new found.ensures.looked) (number_after inside.actor new found.ensures.looked)
-    (subst (IsRightOf below joined least new inside.desk) (sym free) (found.ensures.right inside.desk (subst (IsRightOf below joined least inside.actor inside.desk) free (c.self.invariant.right goes))))
+    (subst (IsRightOf times new inside.desk) (sym free) (found.ensures.right inside.desk (subst (IsRightOf times inside.actor inside.desk) free (c.self.invariant.right goes))))

@@ -5,6 +5,6 @@ use Rattle.steps.proofs.worker.Worker.tell_too_large.Goals as goal
 -- a worker that failed has seen the cause
 pub tell_too_large-requires : goal.tell_too_large-requires
 tell_too_large-requires g c = record {
-  cause = subst (λ (w : WorkerView g.row.T.Denot). HasSeenTooLarge g.T.PartialOrder.below g.T.Minimum.least g.T.Ord.cmp w.known) (sym c.self.view_is)
+  cause = subst (λ (w : WorkerView g.row.T.Denot). HasSeenTooLarge g.T.PartialOrder.times g.T.Ord.cmp w.known) (sym c.self.view_is)
       (c.known.ensures.large c.requires.failed);
 }

@@ -3,5 +3,5 @@ use Rattle.views.proofs.view.View.append.Goals as goal
 
 pub invariant_of-self : goal.invariant_of-self
 invariant_of-self g c =
-    still_remembered g.T.PartialOrder.below c.append_to.result c.self.inside.last (λ r. r.time) (λ r. r.bag) (λ r. r.known) (λ r. r.later.items)
+    still_remembered g.T.PartialOrder.times c.append_to.result c.self.inside.last (λ r. r.time) (λ r. r.bag) (λ r. r.known) (λ r. r.later.items)
     c.self.inside.captured c.append_to.new.others c.args.updates.now c.append_to.ensures.more c.append_to.ensures.same c.self.invariant

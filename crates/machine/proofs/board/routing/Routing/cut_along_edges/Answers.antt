@@ -12,7 +12,7 @@ cut_along_last-requires-clause-leads g c =
 
 pub returns-clause-cut : goal.returns-clause-cut
 returns-clause-cut g c =
-    let along = cut_along g.T.PartialOrder.below c.args.self.now c.args.emission in
+    let along = cut_along g.T.PartialOrder.times c.args.self.now c.args.emission in
     let edges = c.edges_from-edges.result.now in
     let last = c.index-edges-count.result in
     let n = length edges - 1 in
@@ -26,4 +26,4 @@ returns-clause-cut g c =
 pub returns-then-len-eq0-clause-cut : goal.returns-then-len-eq0-clause-cut
 returns-then-len-eq0-clause-cut g c =
     let none = no_length c.args.emission.updates (sym c.len.ensures ∙ c.if-len-eq0.true) in
-    search rules ∙ cut_nothing g.T.PartialOrder.below c.args.self.now c.args.emission none
+    search rules ∙ cut_nothing g.T.PartialOrder.times c.args.self.now c.args.emission none

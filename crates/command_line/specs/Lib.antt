@@ -1,0 +1,2 @@
+-- Which requests can be carried out.
+pub mod Requests

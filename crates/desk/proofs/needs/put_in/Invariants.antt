@@ -1,0 +1,6 @@
+use Rattle.std.proofs.Common.{◌≡◌, ◌||◌, take}
+use Rattle.lattice.specs.Frontiers.{is_beyond}
+use Rattle.desk.proofs.needs.put_in.Given as goal
+
+abbrev pub invariant-loop-time : goal.invariant-loop-time
+invariant-loop-time g l = (t : g.row.T.Denot) → is_beyond g.T.PartialOrder.times l.level t ≡ (is_beyond g.T.PartialOrder.times l.fn.level t || is_beyond g.T.PartialOrder.times (take l.time-index l.times) t)

@@ -1,6 +1,0 @@
-use Rattle.desk.proofs.OpenLemmas.{new_first}
-use Rattle.desk.proofs.opening.first_arrangement.Goals as goal
-
-pub returns-clause-first : goal.returns-clause-first
-returns-clause-first g c =
-    new_first g.T.PartialOrder.below g.T.Lattice.joined g.T.Minimum.least c.args.plan.now c.args.worker c.number.result c.args.node c.width.result c.in_ok-made.made c.width.ensures.width c.in_ok-made.ensures.begun

@@ -1,6 +1,0 @@
-use Rattle.desk_laws.proofs.ReducedLemmas.{kept_reduce}
-use Rattle.desk_laws.proofs.laying.kept_is_reduced.Goals as goal
-
-pub returns : goal.returns
-returns g c p q w k d e bundle more sharing within kind source at desks r s there then shape stands pends x =
-    kept_reduce g.T.PartialOrder.below g.T.Lattice.joined g.T.Lattice.met g.T.Minimum.least g.met.T.PartialOrder.order g.met.T.Lattice.bounds p q w k d e bundle more sharing within kind source at desks r s there then shape stands pends x

@@ -1,6 +1,0 @@
-use Rattle.desk_laws.proofs.MergedLemmas.{merged_lem}
-use Rattle.desk_laws.proofs.laying.merged_is_laid.Goals as goal
-
-pub returns : goal.returns
-returns g c p w k d e sharing merged h on x =
-    merged_lem g.T.PartialOrder.below g.T.Lattice.joined g.T.Minimum.least p d e merged w k sharing h on x

@@ -1,0 +1,13 @@
+pub mod BagLemmas
+pub mod TurnLemmas
+pub mod BoardStateLemmas
+pub mod ReadLemmas
+pub mod OrderLemmas
+pub mod InputLemmas
+pub mod ChangesLemmas
+pub mod BoundLemmas
+pub mod EveryBoundLemmas
+pub mod LargeLemmas
+pub mod OracleEngineLemmas
+pub mod WitnessLemmas
+pub mod RefusalLemmas

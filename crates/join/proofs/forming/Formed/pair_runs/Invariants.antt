@@ -1,7 +1,0 @@
-use Rattle.std.proofs.Common.{◌++◌}
-use Rattle.join.specs.Forming.{formed_each, updates_in, StandsIn}
-use Rattle.join.proofs.forming.Formed.pair_runs.Given as goal
-
-abbrev pub invariant-loop-run : goal.invariant-loop-run
-invariant-loop-run g l =
-    StandsIn l.self.updates.items (l.fn.self.updates.items ++ formed_each l.side g.T.Lattice.joined l.k (updates_in (g.B.BatchReader.content l.outer) l.initial.run l.run) l.inner)

@@ -1,7 +1,0 @@
-use Rattle.std.proofs.Common.{◌++◌, map, take}
-use Rattle.join.specs.Forming.{formed_pair, StandsIn}
-use Rattle.join.proofs.forming.push_pairs.Given as goal
-
-abbrev pub invariant-loop-v : goal.invariant-loop-v
-invariant-loop-v g l =
-    StandsIn l.formed.items (l.fn.formed.items ++ map (formed_pair l.side g.T.Lattice.joined l.k l.u) (take l.v-index l.inner))

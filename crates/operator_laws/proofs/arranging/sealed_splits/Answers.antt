@@ -1,5 +1,0 @@
-use Rattle.operator_laws.proofs.ArrangingLemmas.{seal_split}
-use Rattle.operator_laws.proofs.arranging.sealed_splits.Goals as goal
-
-pub returns : goal.returns
-returns g c frontier waiting out is = seal_split g.met.T.PartialOrder.order g.met.T.Ord.total frontier waiting out is

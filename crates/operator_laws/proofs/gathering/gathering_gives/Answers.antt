@@ -1,7 +1,0 @@
-use Rattle.operator_laws.proofs.GatheringLemmas.{may_give, gave_gathering}
-use Rattle.operator_laws.proofs.gathering.gathering_gives.Goals as goal
-
-pub returns : goal.returns
-returns g c p w e waiting rest held sent before hand split is_held cut =
-    let order = g.met.T.PartialOrder.order in
-    (may_give _ order p w e waiting rest held sent before split is_held hand cut, gave_gathering _ order p w e waiting rest held sent before split is_held)

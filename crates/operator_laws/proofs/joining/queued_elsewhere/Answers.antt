@@ -1,5 +1,0 @@
-use Rattle.operator_laws.proofs.QueueLemmas.{queued_on}
-use Rattle.operator_laws.proofs.joining.queued_elsewhere.Goals as goal
-
-pub returns : goal.returns
-returns g c p w n port k source reads stays inserted taken q e a d = queued_on _ p n port k source reads stays w inserted taken q e a d

@@ -1,5 +1,0 @@
-use Rattle.operator_laws.proofs.WorkingLemmas.{takes_lem}
-use Rattle.operator_laws.proofs.working.takes_at_one_node.Goals as goal
-
-pub returns : goal.returns
-returns g c p q w number bundle works next is take but inserted here = takes_lem _ g.met.T.PartialOrder.order p q w number bundle works next is take but inserted here
