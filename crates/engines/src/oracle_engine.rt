@@ -8,23 +8,20 @@
 //! nothing can be out of date. This engine is slow, but it is easy to see why it is right. It tests
 //! commands with the same function as a board (crate `machine`), so both refuse alike.
 ghost use Rattle.std.specs.Prelude.{◌≡◌, ◌<◌, ◌++◌, ℕ, [], ◌∷◌, None, Some, length, map, replicate, set, slice_index_or, IfErr, IfOk, IsTrue, OnErr, OnOk};
-ghost use Rattle.lattice.specs.Bitimes.{bitime_times};
-ghost use Rattle.lattice.specs.declared.product.Pair.{Pair};
 ghost use Rattle.lattice.specs.Frontiers.{is_beyond};
-ghost use Rattle.lattice.specs.Pairs.{make_pair};
 ghost use Rattle.plan.specs.Changes.{open_for};
 ghost use Rattle.update.specs.Refusals.{OnlyMemory, IsRefusalBy};
 ghost use Rattle.outstanding.specs.Inputs.{front_at};
 ghost use Rattle.grammar.specs.Commands.{is_input_of, is_view_of};
 ghost use Rattle.engines.specs.OracleStates.{IsRegister, Records, AreFrontiers, with_entry, with_input, with_view, entry_refusal, input_refusal, view_refusal};
-ghost use Rattle.engines.specs.Bitemporal.{opening_session};
+ghost use Rattle.engines.specs.Sessions.{first_session};
 ghost use Rattle.engines.specs.Bounds.{EndsByBound};
 
 use crate::engine::{CatchUp, Engine};
 use antichain::{Antichain, is_beyond};
-use lattice::{Bitime, Minimum};
-use machine::InputFrontiers;
+use lattice::Minimum;
 use oracle::{differences, evaluate, inputs_before};
+use outstanding::InputFrontiers;
 use plan::{NodeId, Plan};
 use std::alloc::Global;
 use std::marker::Model;
@@ -33,22 +30,21 @@ use update::{Bag, Refusal, Times, Update, Updates};
 /// The accepted changes and the inputs' frontiers, and nothing derived from them. A contract sees
 /// the plan, the changes and the frontiers.
 #[derive(Drop)]
-pub struct OracleEngine {
+pub struct OracleEngine<T: Minimum> {
     plan: Plan,
     // The changes of each input, oldest first, in the order of the inputs' numbers.
-    changes: Vec<Vec<Update<Bitime>>>,
+    changes: Vec<Vec<Update<T>>>,
     // The frontier of each input.
-    inputs: InputFrontiers<Bitime>,
+    inputs: InputFrontiers<T>,
     // The frontier beyond which each view may be read, by node number.
-    sinces: InputFrontiers<Bitime>,
+    sinces: InputFrontiers<T>,
 }
 
-impl Model for OracleEngine {
-    ghost use Rattle.std.specs.Prelude.{ℕ, map};
-    ghost use Rattle.lattice.specs.declared.product.Pair.{Pair};
+impl<T: Minimum> Model for OracleEngine<T> {
+    ghost use Rattle.std.specs.Prelude.{map};
     ghost use Rattle.engines.specs.OracleStates.{Register, IsRegister};
 
-    ghost Value = { Register (Pair ℕ ℕ) };
+    ghost Value = { Register T };
 
     ghost view = { λ engine. record {
       plan = engine.plan;
@@ -66,7 +62,7 @@ impl Model for OracleEngine {
 }
 
 // One empty list of changes for each input.
-fn no_changes(alloc: Global, inputs: usize) -> Result<Vec<Vec<Update<Bitime>>>, Refusal>
+fn no_changes<T: Minimum>(alloc: Global, inputs: usize) -> Result<Vec<Vec<Update<T>>>, Refusal>
     ensures none { IfOk result (λ lists. map (λ v. v.items) lists.items ≡ replicate inputs []) }
     ensures refused { OnlyMemory result }
 {
@@ -78,10 +74,10 @@ fn no_changes(alloc: Global, inputs: usize) -> Result<Vec<Vec<Update<Bitime>>>, 
 }
 
 // Appends a change to list number `place`.
-fn push_change(
-    lists: &mut Vec<Vec<Update<Bitime>>>,
+fn push_change<T: Minimum>(
+    lists: &mut Vec<Vec<Update<T>>>,
     place: usize,
-    update: Update<Bitime>,
+    update: Update<T>,
 ) -> Result<(), Refusal>
     requires { place < length lists.old.items }
     ensures pushed { OnOk result
@@ -97,16 +93,16 @@ fn push_change(
 
 // The times that are still open for a view: the elements of the frontiers of all inputs that feed
 // it.
-fn open_for(
+fn open_for<T: Minimum>(
     alloc: Global,
     plan: &Plan,
-    inputs: &InputFrontiers<Bitime>,
+    inputs: &InputFrontiers<T>,
     view: NodeId,
-) -> Result<Vec<Bitime>, Refusal>
+) -> Result<Vec<T>, Refusal>
     requires view { view < length plan.now }
     requires inputs { length inputs.now ≡ length plan.now }
     ensures open { IfOk result
-        (λ times. times.items ≡ open_for bitime_times plan.now (λ i. front_at i inputs.now) view) }
+        (λ times. times.items ≡ open_for T.times plan.now (λ i. front_at i inputs.now) view) }
     ensures refused { OnlyMemory result }
 {
     let mut times = Vec::new(alloc);
@@ -120,14 +116,14 @@ fn open_for(
 }
 
 // The frontier of each input, in the order of the inputs' numbers.
-fn frontiers(
+fn frontiers<T: Minimum>(
     alloc: Global,
     plan: &Plan,
-    inputs: &InputFrontiers<Bitime>,
-) -> Result<Vec<Antichain<Bitime>>, Refusal>
+    inputs: &InputFrontiers<T>,
+) -> Result<Vec<Antichain<T>>, Refusal>
     requires { length inputs.now ≡ length plan.now }
     ensures frontiers { IfOk result
-        (λ all. AreFrontiers bitime_times plan.now inputs.now all.items) }
+        (λ all. AreFrontiers T.times plan.now inputs.now all.items) }
     ensures refused { OnlyMemory result }
 {
     let mut all = Vec::new(alloc);
@@ -141,27 +137,27 @@ fn frontiers(
 }
 
 // From the least time on, for each node.
-fn first_sinces(alloc: Global, plan: &Plan) -> Result<InputFrontiers<Bitime>, Refusal>
+fn first_sinces<T: Minimum>(alloc: Global, plan: &Plan) -> Result<InputFrontiers<T>, Refusal>
     ensures count { IfOk result (λ sinces. length sinces ≡ length plan.now) }
     ensures least { IfOk result (λ sinces. (n : ℕ) → n < length plan.now
-        → front_at n sinces ≡ make_pair 0 0 ∷ []) }
+        → front_at n sinces ≡ T.times.least ∷ []) }
     ensures refused { OnlyMemory result }
 {
     let mut sinces = InputFrontiers::first(alloc, plan)?;
     for n in 0..plan.len() {
         let mut least = Vec::new(alloc);
-        least.push(Bitime::minimum())?;
+        least.push(T::minimum())?;
         sinces.stand_at(NodeId::new(n), Times::from(least));
     }
     Ok(sinces)
 }
 
-impl OracleEngine {
+impl<T: Minimum> OracleEngine<T> {
     /// An engine to which nothing has happened yet. Refused only with `OutOfMemory`.
-    pub fn open(alloc: Global, plan: &Plan) -> Result<OracleEngine, Refusal>
+    pub fn open(alloc: Global, plan: &Plan) -> Result<OracleEngine<T>, Refusal>
         ensures plan { IfOk result (λ engine. engine.plan ≡ plan.now) }
         ensures stands { IfOk result
-            (λ engine. Records engine (opening_session plan.now)) }
+            (λ engine. Records engine (first_session T.times.least plan.now)) }
         ensures refused { OnlyMemory result }
     {
         let plan = plan.clone()?;
@@ -177,18 +173,18 @@ impl OracleEngine {
     }
 
     // Accepts a change, or refuses it as a board would.
-    fn take_change(&mut self, input: NodeId, update: Update<Bitime>) -> Result<(), Refusal>
+    fn take_change(&mut self, input: NodeId, update: Update<T>) -> Result<(), Refusal>
         requires { IsTrue (is_input_of self.old.plan input) }
         ensures taken { OnOk result
             (self.new ≡ with_entry (record { input = input; update = update }) self.old) }
         ensures accepted { OnOk result
-            (entry_refusal bitime_times self.old (record {
+            (entry_refusal T.times self.old (record {
               input = input;
               update = update;
             }) ≡ None) }
         ensures refused { IfErr result
             (λ refusal. IsRefusalBy
-            (entry_refusal bitime_times self.old (record {
+            (entry_refusal T.times self.old (record {
               input = input;
               update = update;
             })) refusal) }
@@ -204,24 +200,24 @@ impl OracleEngine {
     }
 
     // Accepts a new frontier of an input, or refuses it as a board would.
-    fn take_frontier(&mut self, input: NodeId, times: Times<Bitime>) -> Result<(), Refusal>
+    fn take_frontier(&mut self, input: NodeId, times: Times<T>) -> Result<(), Refusal>
         requires { IsTrue (is_input_of self.old.plan input) }
         ensures taken { OnOk result (self.new ≡ with_input input times self.old) }
-        ensures accepted { OnOk result (input_refusal bitime_times self.old input times ≡ None) }
+        ensures accepted { OnOk result (input_refusal T.times self.old input times ≡ None) }
         ensures refused { IfErr result
-            (λ refusal. input_refusal bitime_times self.old input times ≡ Some refusal) }
+            (λ refusal. input_refusal T.times self.old input times ≡ Some refusal) }
         ensures unchanged { OnErr result (self.new ≡ self.old) }
     {
         self.inputs.advance(input, times)
     }
 
     // Accepts a new since of a view, or refuses it as a board would.
-    fn take_since(&mut self, view: NodeId, times: Times<Bitime>) -> Result<(), Refusal>
+    fn take_since(&mut self, view: NodeId, times: Times<T>) -> Result<(), Refusal>
         requires { IsTrue (is_view_of self.old.plan view) }
         ensures taken { OnOk result (self.new ≡ with_view view times self.old) }
-        ensures accepted { OnOk result (view_refusal bitime_times self.old view times ≡ None) }
+        ensures accepted { OnOk result (view_refusal T.times self.old view times ≡ None) }
         ensures refused { IfErr result
-            (λ refusal. view_refusal bitime_times self.old view times ≡ Some refusal) }
+            (λ refusal. view_refusal T.times self.old view times ≡ Some refusal) }
         ensures unchanged { OnErr result (self.new ≡ self.old) }
         ensures register { IsRegister self.old }
     {
@@ -229,7 +225,7 @@ impl OracleEngine {
     }
 }
 
-impl Engine for OracleEngine {
+impl<T: Minimum> Engine<T> for OracleEngine<T> {
     ghost use Rattle.std.specs.Prelude.{⊤};
     ghost use Rattle.engines.specs.OracleStates.{Records};
     ghost use Rattle.engines.specs.Bounds.{EndsByBound, ends_by_bound};
@@ -240,13 +236,13 @@ impl Engine for OracleEngine {
 
     ghost caught_up = { λ r. ⊤ };
 
-    ghost ends = { λ p s refusal. EndsByBound p s refusal };
+    ghost ends = { λ p s refusal. EndsByBound T.times T.cmp p s refusal };
 
     fn change(
         &mut self,
         _alloc: Global,
         input: NodeId,
-        update: Update<Bitime>,
+        update: Update<T>,
     ) -> Result<(), Refusal> {
         self.take_change(input, update)
     }
@@ -255,7 +251,7 @@ impl Engine for OracleEngine {
         &mut self,
         alloc: Global,
         input: NodeId,
-        frontier: &Antichain<Bitime>,
+        frontier: &Antichain<T>,
     ) -> Result<(), Refusal> {
         let times = Times::from_slice(alloc, frontier.elements())?;
         self.take_frontier(input, times)
@@ -265,13 +261,13 @@ impl Engine for OracleEngine {
         &mut self,
         alloc: Global,
         view: NodeId,
-        frontier: &Antichain<Bitime>,
+        frontier: &Antichain<T>,
     ) -> Result<(), Refusal> {
         let times = Times::from_slice(alloc, frontier.elements())?;
         self.take_since(view, times)
     }
 
-    fn read(&mut self, alloc: Global, view: NodeId, time: Bitime) -> Result<Bag, Refusal> {
+    fn read(&mut self, alloc: Global, view: NodeId, time: T) -> Result<Bag, Refusal> {
         self.plan.known();
         let open = open_for(alloc, &self.plan, &self.inputs, view)?;
         if is_beyond(&open, &time) {
@@ -283,9 +279,9 @@ impl Engine for OracleEngine {
         evaluate(alloc, &self.plan, view, &self.changes, time)
     }
 
-    fn changes(&mut self, alloc: Global, view: NodeId) -> Result<Updates<Bitime>, Refusal> {
+    fn changes(&mut self, alloc: Global, view: NodeId) -> Result<Updates<T>, Refusal> {
         self.plan.known();
-        if !is_beyond(self.sinces.of(view), &Bitime::minimum()) {
+        if !is_beyond(self.sinces.of(view), &T::minimum()) {
             return Err(Refusal::GivenUp);
         }
         let frontiers = frontiers(alloc, &self.plan, &self.inputs)?;
@@ -293,17 +289,17 @@ impl Engine for OracleEngine {
         Ok(Updates::from(changes))
     }
 
-    fn frontier(&mut self, alloc: Global, view: NodeId) -> Result<Antichain<Bitime>, Refusal> {
+    fn frontier(&mut self, alloc: Global, view: NodeId) -> Result<Antichain<T>, Refusal> {
         let open = open_for(alloc, &self.plan, &self.inputs, view)?;
         let frontier = Antichain::least_of(alloc, &open)?;
         frontier.known();
         Ok(frontier)
     }
 
-    ghost ending = { λ p s refusal ends. ends_by_bound p s refusal ends };
+    ghost ending = { λ p s refusal ends. ends_by_bound T.times T.cmp p s refusal ends };
 }
 
-impl CatchUp for OracleEngine {
+impl<T: Minimum> CatchUp<T> for OracleEngine<T> {
     fn catch_up(&mut self, _alloc: Global) -> Result<(), Refusal> {
         Ok(())
     }

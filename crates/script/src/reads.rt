@@ -4,6 +4,7 @@
 //! questions are not asked. Workers step once all lines are done, so a run for two reads does each
 //! node's work once, however many questions the script has.
 ghost use Rattle.std.specs.Prelude.{◌≡◌, IfErr, IfOk, IsTrue, OnOk};
+ghost use Rattle.lattice.specs.Bitimes.{bitime_times};
 ghost use Rattle.update.specs.Refusals.{OnlyMemory};
 ghost use Rattle.update.specs.declared.refusal.Refusal.TheVariants.{OutOfMemory};
 ghost use Rattle.grammar.specs.Commands.{IsAbout, is_view_of};
@@ -14,7 +15,8 @@ ghost use Rattle.engines.specs.Bitemporal.{BitemporalSession};
 ghost use Rattle.script.specs.Text.{after_command, after_lines};
 
 use crate::line::{ends_run, hand_over, hand_since};
-use engines::{CatchUp, Crew, Engine};
+use crews::Crew;
+use engines::{CatchUp, Engine};
 use grammar::{Command, Script};
 use lattice::Bitime;
 use plan::NodeId;
@@ -40,7 +42,7 @@ pub struct TwoReads {
 pub type Rows = Result<Bag, Refusal>;
 
 // Carries out a command, but asks nothing. A refused command changes nothing.
-fn follow<E: Engine>(alloc: Global, engine: &mut E, command: &Command) -> Result<(), Refusal>
+fn follow<E: Engine<Bitime>>(alloc: Global, engine: &mut E, command: &Command) -> Result<(), Refusal>
     requires about { IsAbout (E.plan engine.old) command.now }
     ensures plan { E.plan engine.new ≡ E.plan engine.old }
     ensures stands { (s : BitemporalSession) → E.stands engine.old s
@@ -59,7 +61,7 @@ fn follow<E: Engine>(alloc: Global, engine: &mut E, command: &Command) -> Result
 }
 
 // Carries out all lines in order.
-fn follow_all<E: Engine>(alloc: Global, engine: &mut E, script: &Script) -> Result<(), Refusal>
+fn follow_all<E: Engine<Bitime>>(alloc: Global, engine: &mut E, script: &Script) -> Result<(), Refusal>
     requires plan { script.now.plan ≡ E.plan engine.old }
     ensures plan { E.plan engine.new ≡ E.plan engine.old }
     ensures stands { (s : BitemporalSession) → E.stands engine.old s
@@ -86,7 +88,7 @@ fn told(rows: Rows) -> Result<Rows, Refusal>
 }
 
 // Reads a view, once the engine has caught up.
-fn ask<E: CatchUp>(
+fn ask<E: CatchUp<Bitime>>(
     alloc: Global,
     engine: &mut E,
     view: NodeId,
@@ -96,7 +98,7 @@ fn ask<E: CatchUp>(
     ensures plan { E.plan engine.new ≡ E.plan engine.old }
     ensures answered { (s : BitemporalSession) → E.stands engine.old s
         → IfOk result (λ rows. E.stands engine.new s
-        × FindsRows (λ refusal. ⊥) (E.plan engine.old) s view time rows) }
+        × FindsRows bitime_times (λ refusal. ⊥) (E.plan engine.old) s view time rows) }
     ensures ends { (s : BitemporalSession) → E.stands engine.old s
         → IfErr result (E.ends (E.plan engine.old) s) }
 {
@@ -105,7 +107,7 @@ fn ask<E: CatchUp>(
 }
 
 // Reads a view at two times.
-fn ask_twice<E: CatchUp>(
+fn ask_twice<E: CatchUp<Bitime>>(
     alloc: Global,
     engine: &mut E,
     reads: TwoReads,
@@ -113,8 +115,8 @@ fn ask_twice<E: CatchUp>(
     requires view { IsTrue (is_view_of (E.plan engine.old) reads.view) }
     ensures answered { (s : BitemporalSession) → E.stands engine.old s
         → IfOk result (λ rows.
-        FindsRows (λ refusal. ⊥) (E.plan engine.old) s reads.view reads.first rows.0
-        × FindsRows (λ refusal. ⊥) (E.plan engine.old) s reads.view reads.second rows.1) }
+        FindsRows bitime_times (λ refusal. ⊥) (E.plan engine.old) s reads.view reads.first rows.0
+        × FindsRows bitime_times (λ refusal. ⊥) (E.plan engine.old) s reads.view reads.second rows.1) }
     ensures ends { (s : BitemporalSession) → E.stands engine.old s
         → IfErr result (E.ends (E.plan engine.old) s) }
 {
