@@ -36,12 +36,7 @@ pub trait Engine<T: Minimum> {
     ghost ends: { List Node → Session T → Refusal → Type 0 };
 
     /// Adds a change to an input.
-    fn change(
-        &mut self,
-        alloc: Global,
-        input: NodeId,
-        update: Update<T>,
-    ) -> Result<(), Refusal>
+    fn change(&mut self, alloc: Global, input: NodeId, update: Update<T>) -> Result<(), Refusal>
         requires { IsTrue (is_input_of (plan self.old) input) }
         ensures plan { plan self.new ≡ plan self.old }
         ensures answered { (s : Session T) → stands self.old s
@@ -61,12 +56,7 @@ pub trait Engine<T: Minimum> {
             → TakesFrontier T.times (plan self.old) s input frontier.now (stands self.new) result };
 
     /// Moves the frontier from which a view may be read.
-    fn allow(
-        &mut self,
-        alloc: Global,
-        view: NodeId,
-        frontier: &Antichain<T>,
-    ) -> Result<(), Refusal>
+    fn allow(&mut self, alloc: Global, view: NodeId, frontier: &Antichain<T>) -> Result<(), Refusal>
         requires { IsTrue (is_view_of (plan self.old) view) }
         ensures plan { plan self.new ≡ plan self.old }
         ensures answered { (s : Session T) → stands self.old s

@@ -238,12 +238,7 @@ impl<T: Minimum> Engine<T> for OracleEngine<T> {
 
     ghost ends = { λ p s refusal. EndsByBound T.times T.cmp p s refusal };
 
-    fn change(
-        &mut self,
-        _alloc: Global,
-        input: NodeId,
-        update: Update<T>,
-    ) -> Result<(), Refusal> {
+    fn change(&mut self, _alloc: Global, input: NodeId, update: Update<T>) -> Result<(), Refusal> {
         self.take_change(input, update)
     }
 

@@ -96,7 +96,8 @@ pub(crate) fn hand_since<E: Engine<Bitime>>(
     requires about { IsAbout (E.plan engine.old) (Allow view times.now) }
     ensures plan { E.plan engine.new ≡ E.plan engine.old }
     ensures answered { (s : BitemporalSession) → E.stands engine.old s
-        → TakesSince bitime_times (E.plan engine.old) s view (frontier_made times.now) (E.stands engine.new)
+        → TakesSince bitime_times (E.plan engine.old) s view (frontier_made times.now)
+        (E.stands engine.new)
         result }
 {
     let frontier = frontier_of(alloc, times)?;

@@ -42,7 +42,11 @@ pub struct TwoReads {
 pub type Rows = Result<Bag, Refusal>;
 
 // Carries out a command, but asks nothing. A refused command changes nothing.
-fn follow<E: Engine<Bitime>>(alloc: Global, engine: &mut E, command: &Command) -> Result<(), Refusal>
+fn follow<E: Engine<Bitime>>(
+    alloc: Global,
+    engine: &mut E,
+    command: &Command,
+) -> Result<(), Refusal>
     requires about { IsAbout (E.plan engine.old) command.now }
     ensures plan { E.plan engine.new ≡ E.plan engine.old }
     ensures stands { (s : BitemporalSession) → E.stands engine.old s
@@ -61,7 +65,11 @@ fn follow<E: Engine<Bitime>>(alloc: Global, engine: &mut E, command: &Command) -
 }
 
 // Carries out all lines in order.
-fn follow_all<E: Engine<Bitime>>(alloc: Global, engine: &mut E, script: &Script) -> Result<(), Refusal>
+fn follow_all<E: Engine<Bitime>>(
+    alloc: Global,
+    engine: &mut E,
+    script: &Script,
+) -> Result<(), Refusal>
     requires plan { script.now.plan ≡ E.plan engine.old }
     ensures plan { E.plan engine.new ≡ E.plan engine.old }
     ensures stands { (s : BitemporalSession) → E.stands engine.old s
@@ -116,7 +124,8 @@ fn ask_twice<E: CatchUp<Bitime>>(
     ensures answered { (s : BitemporalSession) → E.stands engine.old s
         → IfOk result (λ rows.
         FindsRows bitime_times (λ refusal. ⊥) (E.plan engine.old) s reads.view reads.first rows.0
-        × FindsRows bitime_times (λ refusal. ⊥) (E.plan engine.old) s reads.view reads.second rows.1) }
+        × FindsRows bitime_times (λ refusal. ⊥) (E.plan engine.old) s reads.view reads.second
+        rows.1) }
     ensures ends { (s : BitemporalSession) → E.stands engine.old s
         → IfErr result (E.ends (E.plan engine.old) s) }
 {

@@ -150,11 +150,12 @@ fn run_crew_lines<R: Threads + Wait + Sync, G: Gate + Sync, W: Out, V: Watch>(
         (lines_text script.now s script.now.commands) (failures fault) out.new) }
     ensures overflow { (s : BitemporalSession) → StandsAs bitime_times crew.old s
         → IfErr result (λ fault. fault ≡ Refused 10 → (part : List ℕ)
-        × IsTextBefore (λ now. EndsByBound bitime_times bitime_cmp script.now.plan now Overflow) script.now s
-        script.now.commands part × W.took out.old (buffer.old ++ part) 0 out.new) }
+        × IsTextBefore (λ now. EndsByBound bitime_times bitime_cmp script.now.plan now Overflow)
+        script.now s script.now.commands part × W.took out.old (buffer.old ++ part) 0 out.new) }
     ensures known { (s : BitemporalSession) → StandsAs bitime_times crew.old s
         → IfErr result (IsCrewEnd (λ refusal. HoldsAlong
-        (λ now. EndsByBound bitime_times bitime_cmp script.now.plan now refusal) script.now.plan s script.now.commands)) }
+        (λ now. EndsByBound bitime_times bitime_cmp script.now.plan now refusal) script.now.plan s
+        script.now.commands)) }
 {
     for line in script.command_lines() {
         run_crew_line(alloc, crew, script, line, gate, buffer, out)?;
@@ -180,11 +181,12 @@ fn run_crew<R: Threads + Wait + Sync, G: Gate + Sync, W: Out, V: Watch>(
         (lines_text script.now s script.now.commands) (failures fault) out.new) }
     ensures overflow { (s : BitemporalSession) → StandsAs bitime_times crew.old s
         → IfErr result (λ fault. fault ≡ Refused 10 → (part : List ℕ)
-        × IsTextBefore (λ now. EndsByBound bitime_times bitime_cmp script.now.plan now Overflow) script.now s
-        script.now.commands part × W.took out.old part 0 out.new) }
+        × IsTextBefore (λ now. EndsByBound bitime_times bitime_cmp script.now.plan now Overflow)
+        script.now s script.now.commands part × W.took out.old part 0 out.new) }
     ensures known { (s : BitemporalSession) → StandsAs bitime_times crew.old s
         → IfErr result (IsCrewEnd (λ refusal. HoldsAlong
-        (λ now. EndsByBound bitime_times bitime_cmp script.now.plan now refusal) script.now.plan s script.now.commands)) }
+        (λ now. EndsByBound bitime_times bitime_cmp script.now.plan now refusal) script.now.plan s
+        script.now.commands)) }
 {
     let mut buffer = OutputBuffer::new(alloc);
     run_crew_lines(alloc, crew, script, gate, &mut buffer, out, watch)?;
