@@ -140,13 +140,15 @@ impl<'a, R: Threads + Wait + Sync> Crew<'a, R> {
     }
 }
 
-impl<'a, R: Wait> Engine<Bitime> for Crew<'a, R> {
+impl<'a, R: Wait> Engine for Crew<'a, R> {
     ghost use Rattle.std.specs.Prelude.{◌≡◌, true};
     ghost use Rattle.histories.specs.Histories.Readings.{IsQuiet};
     ghost use Rattle.shared_board.specs.Found.{dataflow_of};
     ghost use Rattle.shared_board.specs.Tenures.{state_left};
     ghost use Rattle.crews.specs.BoardStates.{StandsAs};
     ghost use Rattle.engines.specs.Bounds.{EndsByBound, ends_by_bound};
+
+    type Time = Bitime;
 
     ghost plan = { λ e. (dataflow_of e).nodes };
 
@@ -224,7 +226,7 @@ impl<'a, R: Wait> Engine<Bitime> for Crew<'a, R> {
     ghost ending = { λ p s refusal ends. ends_by_bound bitime_times bitime_cmp p s refusal ends };
 }
 
-impl<'a, R: Wait> CatchUp<Bitime> for Crew<'a, R> {
+impl<'a, R: Wait> CatchUp for Crew<'a, R> {
     fn catch_up(&mut self, alloc: Global) -> Result<(), Refusal> {
         for _ in self.runtime.forever() {
             if self.is_quiet() {

@@ -7,14 +7,15 @@
 //! among the inputs, and the rows in it have the input's width. Nothing computed is stored, so
 //! nothing can be out of date. This engine is slow, but it is easy to see why it is right. It tests
 //! commands with the same function as a board (crate `machine`), so both refuse alike.
-ghost use Rattle.std.specs.Prelude.{◌≡◌, ◌<◌, ◌++◌, ℕ, [], ◌∷◌, None, Some, length, map, replicate, set, slice_index_or, IfErr, IfOk, IsTrue, OnErr, OnOk};
+ghost use Rattle.std.specs.Prelude.{⊤, ◌≡◌, ◌<◌, ◌++◌, ℕ, [], ◌∷◌, None, Some, length, map, replicate, set, slice_index_or, IfErr, IfOk, IsTrue, OnErr, OnOk};
 ghost use Rattle.lattice.specs.Frontiers.{is_beyond};
 ghost use Rattle.plan.specs.Changes.{open_for};
 ghost use Rattle.update.specs.Refusals.{OnlyMemory, IsRefusalBy};
 ghost use Rattle.outstanding.specs.Inputs.{front_at};
 ghost use Rattle.grammar.specs.Commands.{is_input_of, is_view_of};
 ghost use Rattle.engines.specs.OracleStates.{IsRegister, Records, AreFrontiers, with_entry, with_input, with_view, entry_refusal, input_refusal, view_refusal};
-ghost use Rattle.engines.specs.Sessions.{first_session};
+ghost use Rattle.engines.specs.Answers.{TakesChange, TakesFrontier, TakesSince, FindsFrontier};
+ghost use Rattle.engines.specs.Sessions.{Session, first_session};
 ghost use Rattle.engines.specs.Bounds.{EndsByBound};
 
 use crate::engine::{CatchUp, Engine};
@@ -225,10 +226,14 @@ impl<T: Minimum> OracleEngine<T> {
     }
 }
 
-impl<T: Minimum> Engine<T> for OracleEngine<T> {
+// Four methods repeat the trait's clauses: the prover does not hand them to a method with a parameter
+// or a result that has a time of a generic type inline.
+impl<T: Minimum> Engine for OracleEngine<T> {
     ghost use Rattle.std.specs.Prelude.{⊤};
     ghost use Rattle.engines.specs.OracleStates.{Records};
     ghost use Rattle.engines.specs.Bounds.{EndsByBound, ends_by_bound};
+
+    type Time = T;
 
     ghost plan = { λ r. r.plan };
 
@@ -238,7 +243,13 @@ impl<T: Minimum> Engine<T> for OracleEngine<T> {
 
     ghost ends = { λ p s refusal. EndsByBound T.times T.cmp p s refusal };
 
-    fn change(&mut self, _alloc: Global, input: NodeId, update: Update<T>) -> Result<(), Refusal> {
+    fn change(&mut self, _alloc: Global, input: NodeId, update: Update<T>) -> Result<(), Refusal>
+        requires { IsTrue (is_input_of self.old.plan input) }
+        ensures plan { self.new.plan ≡ self.old.plan }
+        ensures answered { (s : Session T) → Records self.old s
+            → TakesChange T.times self.old.plan s (record { input = input; update = update })
+            (λ s. Records self.new s) result }
+    {
         self.take_change(input, update)
     }
 
@@ -247,17 +258,24 @@ impl<T: Minimum> Engine<T> for OracleEngine<T> {
         alloc: Global,
         input: NodeId,
         frontier: &Antichain<T>,
-    ) -> Result<(), Refusal> {
+    ) -> Result<(), Refusal>
+        requires { IsTrue (is_input_of self.old.plan input) }
+        ensures plan { self.new.plan ≡ self.old.plan }
+        ensures answered { (s : Session T) → Records self.old s
+            → TakesFrontier T.times self.old.plan s input frontier.now
+            (λ s. Records self.new s) result }
+    {
         let times = Times::from_slice(alloc, frontier.elements())?;
         self.take_frontier(input, times)
     }
 
-    fn allow(
-        &mut self,
-        alloc: Global,
-        view: NodeId,
-        frontier: &Antichain<T>,
-    ) -> Result<(), Refusal> {
+    fn allow(&mut self, alloc: Global, view: NodeId, frontier: &Antichain<T>) -> Result<(), Refusal>
+        requires { IsTrue (is_view_of self.old.plan view) }
+        ensures plan { self.new.plan ≡ self.old.plan }
+        ensures answered { (s : Session T) → Records self.old s
+            → TakesSince T.times self.old.plan s view frontier.now
+            (λ s. Records self.new s) result }
+    {
         let times = Times::from_slice(alloc, frontier.elements())?;
         self.take_since(view, times)
     }
@@ -284,7 +302,15 @@ impl<T: Minimum> Engine<T> for OracleEngine<T> {
         Ok(Updates::from(changes))
     }
 
-    fn frontier(&mut self, alloc: Global, view: NodeId) -> Result<Antichain<T>, Refusal> {
+    fn frontier(&mut self, alloc: Global, view: NodeId) -> Result<Antichain<T>, Refusal>
+        requires view { IsTrue (is_view_of self.old.plan view) }
+        requires caught_up { ⊤ }
+        ensures plan { self.new.plan ≡ self.old.plan }
+        ensures stands { (s : Session T) → Records self.old s → Records self.new s }
+        ensures answered { (s : Session T) → Records self.old s
+            → FindsFrontier T.times T.cmp (EndsByBound T.times T.cmp self.old.plan s)
+            self.old.plan s view result }
+    {
         let open = open_for(alloc, &self.plan, &self.inputs, view)?;
         let frontier = Antichain::least_of(alloc, &open)?;
         frontier.known();
@@ -294,7 +320,7 @@ impl<T: Minimum> Engine<T> for OracleEngine<T> {
     ghost ending = { λ p s refusal ends. ends_by_bound T.times T.cmp p s refusal ends };
 }
 
-impl<T: Minimum> CatchUp<T> for OracleEngine<T> {
+impl<T: Minimum> CatchUp for OracleEngine<T> {
     fn catch_up(&mut self, _alloc: Global) -> Result<(), Refusal> {
         Ok(())
     }

@@ -38,7 +38,7 @@ pub(crate) fn ends_run(refusal: Refusal) -> bool
 }
 
 // Hands a command that changes an input to the engine.
-pub(crate) fn hand_over<E: Engine<Bitime>>(
+pub(crate) fn hand_over<E: Engine<Time = Bitime>>(
     alloc: Global,
     engine: &mut E,
     command: &InputCommand,
@@ -87,7 +87,7 @@ fn frontier_of(alloc: Global, times: &Times<Bitime>) -> Result<Antichain<Bitime>
 }
 
 // Hands to the engine from which times on a view may be read.
-pub(crate) fn hand_since<E: Engine<Bitime>>(
+pub(crate) fn hand_since<E: Engine<Time = Bitime>>(
     alloc: Global,
     engine: &mut E,
     view: NodeId,
@@ -145,7 +145,7 @@ fn refuse<W: Out>(
 }
 
 // Runs a line that changes an input. It prints nothing unless the engine refuses the command.
-fn run_update<E: Engine<Bitime>, W: Out>(
+fn run_update<E: Engine<Time = Bitime>, W: Out>(
     alloc: Global,
     engine: &mut E,
     line: u64,
@@ -172,7 +172,7 @@ fn run_update<E: Engine<Bitime>, W: Out>(
 
 // Runs a line that gives up a part of a view's past. It prints nothing unless the engine refuses
 // it.
-fn run_allow<E: Engine<Bitime>, W: Out>(
+fn run_allow<E: Engine<Time = Bitime>, W: Out>(
     alloc: Global,
     engine: &mut E,
     line: u64,
@@ -200,7 +200,7 @@ fn run_allow<E: Engine<Bitime>, W: Out>(
 }
 
 // Runs a line that asks about a view, once the engine has caught up.
-fn run_query<E: Engine<Bitime>, W: Out>(
+fn run_query<E: Engine<Time = Bitime>, W: Out>(
     alloc: Global,
     engine: &mut E,
     script: &Script,
@@ -241,7 +241,7 @@ fn run_query<E: Engine<Bitime>, W: Out>(
 }
 
 // Lets the engine catch up, then runs a line that asks about a view.
-fn catch_up_and_query<E: CatchUp<Bitime>, W: Out>(
+fn catch_up_and_query<E: CatchUp<Time = Bitime>, W: Out>(
     alloc: Global,
     engine: &mut E,
     script: &Script,
@@ -271,7 +271,7 @@ fn catch_up_and_query<E: CatchUp<Bitime>, W: Out>(
 }
 
 /// Runs a line: the engine carries out its command, and the line's text is printed.
-pub(crate) fn run_line<E: CatchUp<Bitime>, W: Out>(
+pub(crate) fn run_line<E: CatchUp<Time = Bitime>, W: Out>(
     alloc: Global,
     engine: &mut E,
     script: &Script,

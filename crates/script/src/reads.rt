@@ -42,7 +42,7 @@ pub struct TwoReads {
 pub type Rows = Result<Bag, Refusal>;
 
 // Carries out a command, but asks nothing. A refused command changes nothing.
-fn follow<E: Engine<Bitime>>(
+fn follow<E: Engine<Time = Bitime>>(
     alloc: Global,
     engine: &mut E,
     command: &Command,
@@ -65,7 +65,7 @@ fn follow<E: Engine<Bitime>>(
 }
 
 // Carries out all lines in order.
-fn follow_all<E: Engine<Bitime>>(
+fn follow_all<E: Engine<Time = Bitime>>(
     alloc: Global,
     engine: &mut E,
     script: &Script,
@@ -96,7 +96,7 @@ fn told(rows: Rows) -> Result<Rows, Refusal>
 }
 
 // Reads a view, once the engine has caught up.
-fn ask<E: CatchUp<Bitime>>(
+fn ask<E: CatchUp<Time = Bitime>>(
     alloc: Global,
     engine: &mut E,
     view: NodeId,
@@ -115,7 +115,7 @@ fn ask<E: CatchUp<Bitime>>(
 }
 
 // Reads a view at two times.
-fn ask_twice<E: CatchUp<Bitime>>(
+fn ask_twice<E: CatchUp<Time = Bitime>>(
     alloc: Global,
     engine: &mut E,
     reads: TwoReads,

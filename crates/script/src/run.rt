@@ -31,7 +31,7 @@ use std::sync::Wait;
 use std::thread::Threads;
 
 // Carries out all lines in order. The text of the last ones may still wait in the buffer.
-fn run_lines<E: CatchUp<Bitime>, W: Out, V: Watch>(
+fn run_lines<E: CatchUp<Time = Bitime>, W: Out, V: Watch>(
     alloc: Global,
     engine: &mut E,
     script: &Script,
@@ -67,7 +67,7 @@ fn run_lines<E: CatchUp<Bitime>, W: Out, V: Watch>(
 
 /// Carries out a script on an engine that has its plan. The output takes what the lines write in
 /// the session for which the engine stands.
-pub(crate) fn run<E: CatchUp<Bitime>, W: Out, V: Watch>(
+pub(crate) fn run<E: CatchUp<Time = Bitime>, W: Out, V: Watch>(
     alloc: Global,
     engine: &mut E,
     script: &Script,
