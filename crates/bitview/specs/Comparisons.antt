@@ -1,7 +1,6 @@
 -- What `diff` writes of two reads of a view, and the status that reports how it went.
 use Rattle.std.specs.Prelude.{◌≡◌, ◌⊎◌, ℕ, ℤ, List, [], Option, Some, None, Result, Ok, Err}
 use Rattle.lattice.specs.declared.product.Pair.{Pair}
-use Rattle.lattice.specs.Bitimes.{bitime_times, bitime_cmp}
 use Rattle.update.specs.Bags.{Entry}
 use Rattle.update.specs.declared.refusal.Refusal.{Refusal}
 use Rattle.grammar.specs.Scripts.{script_of}
@@ -42,7 +41,7 @@ module _ (took : List ℕ → ℕ → Type 0) where
     abbrev pub IsAnswered : ScriptModel → ℕ → Type 0
     IsAnswered t status = ((before : List Entry) × (after : List Entry) × AreFound t before after × IsRead before after status)
         ⊎ (((status ≡ 3) × took [] 0)
-        ⊎ (((status ≡ 4) × IsLarge bitime_times bitime_cmp t.plan (last_session t) × took [] 0)
+        ⊎ (((status ≡ 4) × IsLarge t.plan (last_session t) × took [] 0)
         ⊎ ((status ≡ 6) × IsNoQuestion t × took [] 0)))
 
     -- what happens with a parsed file; if it is at fault, nothing is written, and the status is 2

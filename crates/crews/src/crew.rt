@@ -11,7 +11,7 @@
 //! the crew carries on as one worker does, on the caller's thread (`employment`). So a worker that
 //! met a number which is too large tells it there, and no answer depends on how far threads came.
 ghost use Rattle.std.specs.Prelude.{◌≡◌, ◌⊎◌, ◌↔◌, ℕ, true, Err, IfErr, IfOk};
-ghost use Rattle.lattice.specs.Bitimes.{bitime_times, bitime_cmp};
+ghost use Rattle.lattice.specs.Bitimes.{bitime_times};
 ghost use Rattle.hub.specs.Known.{Known};
 ghost use Rattle.lattice.specs.declared.product.Pair.{Pair};
 ghost use Rattle.shared_board.specs.declared.event.BoardEvent.{BoardEvent};
@@ -110,7 +110,7 @@ impl<'a, R: Wait> Crew<'a, R> {
         ensures stands { (s : BitemporalSession) → StandsAs bitime_times self.old s
             → StandsAs bitime_times self.new s }
         ensures cause { (s : BitemporalSession) → StandsAs bitime_times self.old s
-            → result ≡ true → IsLarge bitime_times bitime_cmp (dataflow_of self.old).nodes s }
+            → result ≡ true → IsLarge (dataflow_of self.old).nodes s }
     {
         let large = self.client.is_too_large_wait(self.runtime);
         self.client.known();
@@ -148,8 +148,6 @@ impl<'a, R: Wait> Engine for Crew<'a, R> {
     ghost use Rattle.crews.specs.BoardStates.{StandsAs};
     ghost use Rattle.engines.specs.Bounds.{EndsByBound, ends_by_bound};
 
-    type Time = Bitime;
-
     ghost plan = { λ e. (dataflow_of e).nodes };
 
     ghost stands = { λ e s. StandsAs bitime_times e s };
@@ -157,7 +155,7 @@ impl<'a, R: Wait> Engine for Crew<'a, R> {
     ghost caught_up = { λ e. IsQuiet bitime_times (dataflow_of e)
         (state_left bitime_times e) };
 
-    ghost ends = { λ p s refusal. EndsByBound bitime_times bitime_cmp p s refusal };
+    ghost ends = { λ p s refusal. EndsByBound p s refusal };
 
     fn change(
         &mut self,
@@ -223,7 +221,7 @@ impl<'a, R: Wait> Engine for Crew<'a, R> {
         }
     }
 
-    ghost ending = { λ p s refusal ends. ends_by_bound bitime_times bitime_cmp p s refusal ends };
+    ghost ending = { λ p s refusal ends. ends_by_bound p s refusal ends };
 }
 
 impl<'a, R: Wait> CatchUp for Crew<'a, R> {

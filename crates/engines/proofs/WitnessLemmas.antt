@@ -16,7 +16,7 @@ use Rattle.engines.specs.Sessions.{first_session}
 abbrev no_updates : {T : Type 0} → List (Update T)
 no_updates = []
 
-none_in : {T : Type 0} (inputs : List ℕ) (n : ℕ) → slice_index_or (map (λ (i : ℕ). no_updates {T}) inputs) n no_updates ≡ no_updates
+none_in : {T : Type 0} (inputs : List ℕ) (n : ℕ) → slice_index_or (map (λ (i : ℕ). no_updates {T = T}) inputs) n [] ≡ []
 none_in [] n = refl
 none_in (i ∷ inputs) zero = refl
 none_in (i ∷ inputs) (suc n) = none_in inputs n

@@ -9,8 +9,7 @@
 //! - `Crew` (crate `crews`) is a client of a board, whose workers carry on what is in flight.
 //!
 //! So what a script writes by the first engine can be compared with what it writes by the second.
-//! Here nothing is known of command files, of boards and of workers: a command is a call, at times
-//! of any type.
+//! Here nothing is known of command files, of boards and of workers: a command is a call.
 #![tactic(auto)]
 
 mod engine;

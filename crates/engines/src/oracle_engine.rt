@@ -7,20 +7,22 @@
 //! among the inputs, and the rows in it have the input's width. Nothing computed is stored, so
 //! nothing can be out of date. This engine is slow, but it is easy to see why it is right. It tests
 //! commands with the same function as a board (crate `machine`), so both refuse alike.
-ghost use Rattle.std.specs.Prelude.{⊤, ◌≡◌, ◌<◌, ◌++◌, ℕ, [], ◌∷◌, None, Some, length, map, replicate, set, slice_index_or, IfErr, IfOk, IsTrue, OnErr, OnOk};
+ghost use Rattle.std.specs.Prelude.{◌≡◌, ◌<◌, ◌++◌, ℕ, [], ◌∷◌, None, Some, length, map, replicate, set, slice_index_or, IfErr, IfOk, IsTrue, OnErr, OnOk};
+ghost use Rattle.lattice.specs.Bitimes.{bitime_times};
+ghost use Rattle.lattice.specs.declared.product.Pair.{Pair};
 ghost use Rattle.lattice.specs.Frontiers.{is_beyond};
+ghost use Rattle.lattice.specs.Pairs.{make_pair};
 ghost use Rattle.plan.specs.Changes.{open_for};
 ghost use Rattle.update.specs.Refusals.{OnlyMemory, IsRefusalBy};
 ghost use Rattle.outstanding.specs.Inputs.{front_at};
 ghost use Rattle.grammar.specs.Commands.{is_input_of, is_view_of};
 ghost use Rattle.engines.specs.OracleStates.{IsRegister, Records, AreFrontiers, with_entry, with_input, with_view, entry_refusal, input_refusal, view_refusal};
-ghost use Rattle.engines.specs.Answers.{TakesChange, TakesFrontier, TakesSince, FindsFrontier};
-ghost use Rattle.engines.specs.Sessions.{Session, first_session};
+ghost use Rattle.engines.specs.Bitemporal.{opening_session};
 ghost use Rattle.engines.specs.Bounds.{EndsByBound};
 
 use crate::engine::{CatchUp, Engine};
 use antichain::{Antichain, is_beyond};
-use lattice::Minimum;
+use lattice::{Bitime, Minimum};
 use oracle::{differences, evaluate, inputs_before};
 use outstanding::InputFrontiers;
 use plan::{NodeId, Plan};
@@ -31,21 +33,22 @@ use update::{Bag, Refusal, Times, Update, Updates};
 /// The accepted changes and the inputs' frontiers, and nothing derived from them. A contract sees
 /// the plan, the changes and the frontiers.
 #[derive(Drop)]
-pub struct OracleEngine<T: Minimum> {
+pub struct OracleEngine {
     plan: Plan,
     // The changes of each input, oldest first, in the order of the inputs' numbers.
-    changes: Vec<Vec<Update<T>>>,
+    changes: Vec<Vec<Update<Bitime>>>,
     // The frontier of each input.
-    inputs: InputFrontiers<T>,
+    inputs: InputFrontiers<Bitime>,
     // The frontier beyond which each view may be read, by node number.
-    sinces: InputFrontiers<T>,
+    sinces: InputFrontiers<Bitime>,
 }
 
-impl<T: Minimum> Model for OracleEngine<T> {
-    ghost use Rattle.std.specs.Prelude.{map};
+impl Model for OracleEngine {
+    ghost use Rattle.std.specs.Prelude.{ℕ, map};
+    ghost use Rattle.lattice.specs.declared.product.Pair.{Pair};
     ghost use Rattle.engines.specs.OracleStates.{Register, IsRegister};
 
-    ghost Value = { Register T };
+    ghost Value = { Register (Pair ℕ ℕ) };
 
     ghost view = { λ engine. record {
       plan = engine.plan;
@@ -63,7 +66,7 @@ impl<T: Minimum> Model for OracleEngine<T> {
 }
 
 // One empty list of changes for each input.
-fn no_changes<T: Minimum>(alloc: Global, inputs: usize) -> Result<Vec<Vec<Update<T>>>, Refusal>
+fn no_changes(alloc: Global, inputs: usize) -> Result<Vec<Vec<Update<Bitime>>>, Refusal>
     ensures none { IfOk result (λ lists. map (λ v. v.items) lists.items ≡ replicate inputs []) }
     ensures refused { OnlyMemory result }
 {
@@ -75,10 +78,10 @@ fn no_changes<T: Minimum>(alloc: Global, inputs: usize) -> Result<Vec<Vec<Update
 }
 
 // Appends a change to list number `place`.
-fn push_change<T: Minimum>(
-    lists: &mut Vec<Vec<Update<T>>>,
+fn push_change(
+    lists: &mut Vec<Vec<Update<Bitime>>>,
     place: usize,
-    update: Update<T>,
+    update: Update<Bitime>,
 ) -> Result<(), Refusal>
     requires { place < length lists.old.items }
     ensures pushed { OnOk result
@@ -94,16 +97,16 @@ fn push_change<T: Minimum>(
 
 // The times that are still open for a view: the elements of the frontiers of all inputs that feed
 // it.
-fn open_for<T: Minimum>(
+fn open_for(
     alloc: Global,
     plan: &Plan,
-    inputs: &InputFrontiers<T>,
+    inputs: &InputFrontiers<Bitime>,
     view: NodeId,
-) -> Result<Vec<T>, Refusal>
+) -> Result<Vec<Bitime>, Refusal>
     requires view { view < length plan.now }
     requires inputs { length inputs.now ≡ length plan.now }
     ensures open { IfOk result
-        (λ times. times.items ≡ open_for T.times plan.now (λ i. front_at i inputs.now) view) }
+        (λ times. times.items ≡ open_for bitime_times plan.now (λ i. front_at i inputs.now) view) }
     ensures refused { OnlyMemory result }
 {
     let mut times = Vec::new(alloc);
@@ -117,14 +120,14 @@ fn open_for<T: Minimum>(
 }
 
 // The frontier of each input, in the order of the inputs' numbers.
-fn frontiers<T: Minimum>(
+fn frontiers(
     alloc: Global,
     plan: &Plan,
-    inputs: &InputFrontiers<T>,
-) -> Result<Vec<Antichain<T>>, Refusal>
+    inputs: &InputFrontiers<Bitime>,
+) -> Result<Vec<Antichain<Bitime>>, Refusal>
     requires { length inputs.now ≡ length plan.now }
     ensures frontiers { IfOk result
-        (λ all. AreFrontiers T.times plan.now inputs.now all.items) }
+        (λ all. AreFrontiers bitime_times plan.now inputs.now all.items) }
     ensures refused { OnlyMemory result }
 {
     let mut all = Vec::new(alloc);
@@ -138,27 +141,27 @@ fn frontiers<T: Minimum>(
 }
 
 // From the least time on, for each node.
-fn first_sinces<T: Minimum>(alloc: Global, plan: &Plan) -> Result<InputFrontiers<T>, Refusal>
+fn first_sinces(alloc: Global, plan: &Plan) -> Result<InputFrontiers<Bitime>, Refusal>
     ensures count { IfOk result (λ sinces. length sinces ≡ length plan.now) }
     ensures least { IfOk result (λ sinces. (n : ℕ) → n < length plan.now
-        → front_at n sinces ≡ T.times.least ∷ []) }
+        → front_at n sinces ≡ make_pair 0 0 ∷ []) }
     ensures refused { OnlyMemory result }
 {
     let mut sinces = InputFrontiers::first(alloc, plan)?;
     for n in 0..plan.len() {
         let mut least = Vec::new(alloc);
-        least.push(T::minimum())?;
+        least.push(Bitime::minimum())?;
         sinces.stand_at(NodeId::new(n), Times::from(least));
     }
     Ok(sinces)
 }
 
-impl<T: Minimum> OracleEngine<T> {
+impl OracleEngine {
     /// An engine to which nothing has happened yet. Refused only with `OutOfMemory`.
-    pub fn open(alloc: Global, plan: &Plan) -> Result<OracleEngine<T>, Refusal>
+    pub fn open(alloc: Global, plan: &Plan) -> Result<OracleEngine, Refusal>
         ensures plan { IfOk result (λ engine. engine.plan ≡ plan.now) }
         ensures stands { IfOk result
-            (λ engine. Records engine (first_session T.times.least plan.now)) }
+            (λ engine. Records engine (opening_session plan.now)) }
         ensures refused { OnlyMemory result }
     {
         let plan = plan.clone()?;
@@ -174,18 +177,18 @@ impl<T: Minimum> OracleEngine<T> {
     }
 
     // Accepts a change, or refuses it as a board would.
-    fn take_change(&mut self, input: NodeId, update: Update<T>) -> Result<(), Refusal>
+    fn take_change(&mut self, input: NodeId, update: Update<Bitime>) -> Result<(), Refusal>
         requires { IsTrue (is_input_of self.old.plan input) }
         ensures taken { OnOk result
             (self.new ≡ with_entry (record { input = input; update = update }) self.old) }
         ensures accepted { OnOk result
-            (entry_refusal T.times self.old (record {
+            (entry_refusal bitime_times self.old (record {
               input = input;
               update = update;
             }) ≡ None) }
         ensures refused { IfErr result
             (λ refusal. IsRefusalBy
-            (entry_refusal T.times self.old (record {
+            (entry_refusal bitime_times self.old (record {
               input = input;
               update = update;
             })) refusal) }
@@ -201,24 +204,24 @@ impl<T: Minimum> OracleEngine<T> {
     }
 
     // Accepts a new frontier of an input, or refuses it as a board would.
-    fn take_frontier(&mut self, input: NodeId, times: Times<T>) -> Result<(), Refusal>
+    fn take_frontier(&mut self, input: NodeId, times: Times<Bitime>) -> Result<(), Refusal>
         requires { IsTrue (is_input_of self.old.plan input) }
         ensures taken { OnOk result (self.new ≡ with_input input times self.old) }
-        ensures accepted { OnOk result (input_refusal T.times self.old input times ≡ None) }
+        ensures accepted { OnOk result (input_refusal bitime_times self.old input times ≡ None) }
         ensures refused { IfErr result
-            (λ refusal. input_refusal T.times self.old input times ≡ Some refusal) }
+            (λ refusal. input_refusal bitime_times self.old input times ≡ Some refusal) }
         ensures unchanged { OnErr result (self.new ≡ self.old) }
     {
         self.inputs.advance(input, times)
     }
 
     // Accepts a new since of a view, or refuses it as a board would.
-    fn take_since(&mut self, view: NodeId, times: Times<T>) -> Result<(), Refusal>
+    fn take_since(&mut self, view: NodeId, times: Times<Bitime>) -> Result<(), Refusal>
         requires { IsTrue (is_view_of self.old.plan view) }
         ensures taken { OnOk result (self.new ≡ with_view view times self.old) }
-        ensures accepted { OnOk result (view_refusal T.times self.old view times ≡ None) }
+        ensures accepted { OnOk result (view_refusal bitime_times self.old view times ≡ None) }
         ensures refused { IfErr result
-            (λ refusal. view_refusal T.times self.old view times ≡ Some refusal) }
+            (λ refusal. view_refusal bitime_times self.old view times ≡ Some refusal) }
         ensures unchanged { OnErr result (self.new ≡ self.old) }
         ensures register { IsRegister self.old }
     {
@@ -226,14 +229,10 @@ impl<T: Minimum> OracleEngine<T> {
     }
 }
 
-// Four methods repeat the trait's clauses: the prover does not hand them to a method with a parameter
-// or a result that has a time of a generic type inline.
-impl<T: Minimum> Engine for OracleEngine<T> {
+impl Engine for OracleEngine {
     ghost use Rattle.std.specs.Prelude.{⊤};
     ghost use Rattle.engines.specs.OracleStates.{Records};
     ghost use Rattle.engines.specs.Bounds.{EndsByBound, ends_by_bound};
-
-    type Time = T;
 
     ghost plan = { λ r. r.plan };
 
@@ -241,15 +240,14 @@ impl<T: Minimum> Engine for OracleEngine<T> {
 
     ghost caught_up = { λ r. ⊤ };
 
-    ghost ends = { λ p s refusal. EndsByBound T.times T.cmp p s refusal };
+    ghost ends = { λ p s refusal. EndsByBound p s refusal };
 
-    fn change(&mut self, _alloc: Global, input: NodeId, update: Update<T>) -> Result<(), Refusal>
-        requires { IsTrue (is_input_of self.old.plan input) }
-        ensures plan { self.new.plan ≡ self.old.plan }
-        ensures answered { (s : Session T) → Records self.old s
-            → TakesChange T.times self.old.plan s (record { input = input; update = update })
-            (λ s. Records self.new s) result }
-    {
+    fn change(
+        &mut self,
+        _alloc: Global,
+        input: NodeId,
+        update: Update<Bitime>,
+    ) -> Result<(), Refusal> {
         self.take_change(input, update)
     }
 
@@ -257,30 +255,23 @@ impl<T: Minimum> Engine for OracleEngine<T> {
         &mut self,
         alloc: Global,
         input: NodeId,
-        frontier: &Antichain<T>,
-    ) -> Result<(), Refusal>
-        requires { IsTrue (is_input_of self.old.plan input) }
-        ensures plan { self.new.plan ≡ self.old.plan }
-        ensures answered { (s : Session T) → Records self.old s
-            → TakesFrontier T.times self.old.plan s input frontier.now
-            (λ s. Records self.new s) result }
-    {
+        frontier: &Antichain<Bitime>,
+    ) -> Result<(), Refusal> {
         let times = Times::from_slice(alloc, frontier.elements())?;
         self.take_frontier(input, times)
     }
 
-    fn allow(&mut self, alloc: Global, view: NodeId, frontier: &Antichain<T>) -> Result<(), Refusal>
-        requires { IsTrue (is_view_of self.old.plan view) }
-        ensures plan { self.new.plan ≡ self.old.plan }
-        ensures answered { (s : Session T) → Records self.old s
-            → TakesSince T.times self.old.plan s view frontier.now
-            (λ s. Records self.new s) result }
-    {
+    fn allow(
+        &mut self,
+        alloc: Global,
+        view: NodeId,
+        frontier: &Antichain<Bitime>,
+    ) -> Result<(), Refusal> {
         let times = Times::from_slice(alloc, frontier.elements())?;
         self.take_since(view, times)
     }
 
-    fn read(&mut self, alloc: Global, view: NodeId, time: T) -> Result<Bag, Refusal> {
+    fn read(&mut self, alloc: Global, view: NodeId, time: Bitime) -> Result<Bag, Refusal> {
         self.plan.known();
         let open = open_for(alloc, &self.plan, &self.inputs, view)?;
         if is_beyond(&open, &time) {
@@ -292,9 +283,9 @@ impl<T: Minimum> Engine for OracleEngine<T> {
         evaluate(alloc, &self.plan, view, &self.changes, time)
     }
 
-    fn changes(&mut self, alloc: Global, view: NodeId) -> Result<Updates<T>, Refusal> {
+    fn changes(&mut self, alloc: Global, view: NodeId) -> Result<Updates<Bitime>, Refusal> {
         self.plan.known();
-        if !is_beyond(self.sinces.of(view), &T::minimum()) {
+        if !is_beyond(self.sinces.of(view), &Bitime::minimum()) {
             return Err(Refusal::GivenUp);
         }
         let frontiers = frontiers(alloc, &self.plan, &self.inputs)?;
@@ -302,25 +293,17 @@ impl<T: Minimum> Engine for OracleEngine<T> {
         Ok(Updates::from(changes))
     }
 
-    fn frontier(&mut self, alloc: Global, view: NodeId) -> Result<Antichain<T>, Refusal>
-        requires view { IsTrue (is_view_of self.old.plan view) }
-        requires caught_up { ⊤ }
-        ensures plan { self.new.plan ≡ self.old.plan }
-        ensures stands { (s : Session T) → Records self.old s → Records self.new s }
-        ensures answered { (s : Session T) → Records self.old s
-            → FindsFrontier T.times T.cmp (EndsByBound T.times T.cmp self.old.plan s)
-            self.old.plan s view result }
-    {
+    fn frontier(&mut self, alloc: Global, view: NodeId) -> Result<Antichain<Bitime>, Refusal> {
         let open = open_for(alloc, &self.plan, &self.inputs, view)?;
         let frontier = Antichain::least_of(alloc, &open)?;
         frontier.known();
         Ok(frontier)
     }
 
-    ghost ending = { λ p s refusal ends. ends_by_bound T.times T.cmp p s refusal ends };
+    ghost ending = { λ p s refusal ends. ends_by_bound p s refusal ends };
 }
 
-impl<T: Minimum> CatchUp for OracleEngine<T> {
+impl CatchUp for OracleEngine {
     fn catch_up(&mut self, _alloc: Global) -> Result<(), Refusal> {
         Ok(())
     }

@@ -3,7 +3,7 @@ use Rattle.std.proofs.Common.{◌≡◌, Bool, true, false, not, ◌||◌, eqb, 
 use Rattle.std.specs.Prelude.{IfErr}
 use Rattle.std.specs.List.{list_all}
 use Rattle.std.proofs.lemmas.Bool.{and_parts, true≢false}
-use Rattle.lattice.specs.Bitimes.{bitime_times, bitime_cmp}
+use Rattle.lattice.specs.Bitimes.{bitime_times}
 use Rattle.lattice.specs.Frontiers.{is_beyond}
 use Rattle.update.specs.Refusals.{code_of, IsMemoryOrOverflow}
 use Rattle.update.specs.declared.refusal.Refusal.{Refusal}
@@ -132,7 +132,7 @@ told_ends p s command refusal (Err f) answer e = told_end p s command refusal f 
 -- ---- the ends of a run without threads
 
 -- a run by one worker ends early only for the reasons in IsRunEnd
-pub bound_end : (p : List Node) (s : BitemporalSession) (lines : List CommandLine) (f : RunFault) → IsEnd (λ refusal. HoldsAlong (λ now. EndsByBound bitime_times bitime_cmp p now refusal) p s lines) f → IsRunEnd (IsLargeAlong p s lines) f
+pub bound_end : (p : List Node) (s : BitemporalSession) (lines : List CommandLine) (f : RunFault) → IsEnd (λ refusal. HoldsAlong (λ now. EndsByBound p now refusal) p s lines) f → IsRunEnd (IsLargeAlong p s lines) f
 bound_end p s lines (fault.Refused code) (inl memory) = inl memory
 bound_end p s lines (fault.Refused code) (inr (refusal, is, (done, rest, split, inl memory))) = inl (is ∙ ap code_of memory)
 bound_end p s lines (fault.Refused code) (inr (refusal, is, (done, rest, split, inr large))) = inr (is ∙ ap code_of large.0, (done, rest, split, large.1))
@@ -148,7 +148,7 @@ not_for_workers {X} L r e is = not_a_run_end L 23 refl (subst (λ (x : Result X 
 
 -- answers the clause `known` of run_script
 pub crew_ends : {X : Type 0} (p : List Node) (s : BitemporalSession) (lines : List CommandLine) (r : Result X RunFault)
-    → IfErr r (IsCrewEnd (λ refusal. HoldsAlong (λ now. EndsByBound bitime_times bitime_cmp p now refusal) p s lines)) → IfErr r (λ f. IsRunEnd (IsLargeAlong p s lines) f ⊎ ((f ≡ fault.Refused 23) ⊎ (f ≡ fault.Refused 24)))
+    → IfErr r (IsCrewEnd (λ refusal. HoldsAlong (λ now. EndsByBound p now refusal) p s lines)) → IfErr r (λ f. IsRunEnd (IsLargeAlong p s lines) f ⊎ ((f ≡ fault.Refused 23) ⊎ (f ≡ fault.Refused 24)))
 crew_ends p s lines (Ok x) e = tt
 crew_ends p s lines (Err f) (inl end) = inl (bound_end p s lines f end)
 crew_ends p s lines (Err f) (inr thread) = inr (inr thread)
@@ -166,9 +166,9 @@ not_a_crew_end Ends L run_end code is (inl end) = not_a_run_end L code is (run_e
 not_a_crew_end Ends L run_end code is (inr thread) = apart code is (ap code_met thread)
 
 pub crew_counts : {X : Type 0} (p : List Node) (s : BitemporalSession) (lines : List CommandLine) (r : Result X RunFault)
-    → IfErr r (IsCrewEnd (λ refusal. HoldsAlong (λ now. EndsByBound bitime_times bitime_cmp p now refusal) p s lines)) → r ≡ Err (fault.Refused 23) → ⊥
+    → IfErr r (IsCrewEnd (λ refusal. HoldsAlong (λ now. EndsByBound p now refusal) p s lines)) → r ≡ Err (fault.Refused 23) → ⊥
 crew_counts {X} p s lines r e is =
-    let Ends : Refusal → Type 0 = λ refusal. HoldsAlong (λ now. EndsByBound bitime_times bitime_cmp p now refusal) p s lines in
+    let Ends : Refusal → Type 0 = λ refusal. HoldsAlong (λ now. EndsByBound p now refusal) p s lines in
     not_a_crew_end Ends (IsLargeAlong p s lines) (bound_end p s lines) 23 refl (subst (λ (x : Result X RunFault). IfErr x (IsCrewEnd Ends)) is e)
 
 -- an answer is not a refusal
@@ -181,7 +181,7 @@ not_both x e r ok err = subst IsAnswer (sym ok ∙ err) tt
 
 -- answers the clause `known` of plain_script
 pub bound_ends : {X : Type 0} (p : List Node) (s : BitemporalSession) (lines : List CommandLine) (r : Result X RunFault)
-    → IfErr r (IsEnd (λ refusal. HoldsAlong (λ now. EndsByBound bitime_times bitime_cmp p now refusal) p s lines)) → IfErr r (IsRunEnd (IsLargeAlong p s lines))
+    → IfErr r (IsEnd (λ refusal. HoldsAlong (λ now. EndsByBound p now refusal) p s lines)) → IfErr r (IsRunEnd (IsLargeAlong p s lines))
 bound_ends p s lines (Ok x) e = tt
 bound_ends p s lines (Err f) e = bound_end p s lines f e
 
@@ -190,12 +190,12 @@ large_of (inl memory) = absurd cc
 large_of (inr large) = large.1
 
 -- weakens the cause in IsTextBefore
-pub bound_text : (t : ScriptModel) (s : BitemporalSession) (lines : List CommandLine) (part : List ℕ) → IsTextBefore (λ now. EndsByBound bitime_times bitime_cmp t.plan now Overflow) t s lines part → IsTextBefore (IsLarge bitime_times bitime_cmp t.plan) t s lines part
+pub bound_text : (t : ScriptModel) (s : BitemporalSession) (lines : List CommandLine) (part : List ℕ) → IsTextBefore (λ now. EndsByBound t.plan now Overflow) t s lines part → IsTextBefore (IsLarge t.plan) t s lines part
 bound_text t s lines part b = record { before = b.before; line = b.line; behind = b.behind; in_order = b.in_order; asks = b.asks; cause = large_of b.cause; written = b.written }
 
 -- after an overflow, the whole text of the earlier lines was written
 pub overflow_texts : {X : Type 0} (t : ScriptModel) (s : BitemporalSession) (lines : List CommandLine) (Took : List ℕ → Type 0) (r : Result X RunFault)
-    → IfErr r (λ f. f ≡ fault.Refused 10 → (part : List ℕ) × IsTextBefore (λ now. EndsByBound bitime_times bitime_cmp t.plan now Overflow) t s lines part × Took part)
-    → IfErr r (λ f. f ≡ fault.Refused 10 → (part : List ℕ) × IsTextBefore (IsLarge bitime_times bitime_cmp t.plan) t s lines part × Took part)
+    → IfErr r (λ f. f ≡ fault.Refused 10 → (part : List ℕ) × IsTextBefore (λ now. EndsByBound t.plan now Overflow) t s lines part × Took part)
+    → IfErr r (λ f. f ≡ fault.Refused 10 → (part : List ℕ) × IsTextBefore (IsLarge t.plan) t s lines part × Took part)
 overflow_texts t s lines Took (Ok x) e = tt
 overflow_texts t s lines Took (Err f) e = λ ten. let met = e ten in (met.0, bound_text t s lines met.0 met.1, met.2)

@@ -1,6 +1,5 @@
 -- When a run of lines may end because a number is too large.
 use Rattle.std.specs.Prelude.{List}
-use Rattle.lattice.specs.Bitimes.{bitime_times, bitime_cmp}
 use Rattle.plan.specs.declared.node.Node.{Node}
 use Rattle.grammar.specs.ScriptModels.{ScriptModel}
 use Rattle.grammar.specs.declared.command.CommandLine.{CommandLine}
@@ -10,7 +9,7 @@ use Rattle.script.specs.Text.{HoldsAlong}
 
 -- after some of the lines, counted from the first, the session is large
 abbrev pub IsLargeAlong : List Node → BitemporalSession → List CommandLine → Type 0
-IsLargeAlong p s lines = HoldsAlong (IsLarge bitime_times bitime_cmp p) p s lines
+IsLargeAlong p s lines = HoldsAlong (IsLarge p) p s lines
 
 -- after some of a script's lines its session is large
 abbrev pub IsLargeScript : ScriptModel → Type 0

@@ -1,6 +1,5 @@
 -- What a run has written if it ends because a number is too large.
 use Rattle.std.specs.Prelude.{◌≡◌, ℕ, List, ◌∷◌, ◌++◌}
-use Rattle.lattice.specs.Bitimes.{bitime_times, bitime_cmp}
 use Rattle.grammar.specs.Commands.{IsQuestion}
 use Rattle.grammar.specs.ScriptModels.{ScriptModel}
 use Rattle.grammar.specs.declared.command.CommandLine.{CommandLine}
@@ -22,4 +21,4 @@ pub record IsTextBefore (Holds : BitemporalSession → Type 0) (t : ScriptModel)
 -- node a large bound
 abbrev pub IsTextBeforeOverflow : ScriptModel → List ℕ → Type 0
 IsTextBeforeOverflow t part =
-    IsTextBefore (IsLarge bitime_times bitime_cmp t.plan) t (opening_session t.plan) t.commands part
+    IsTextBefore (IsLarge t.plan) t (opening_session t.plan) t.commands part

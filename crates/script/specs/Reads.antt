@@ -1,7 +1,6 @@
 -- The rows of a view once a script has run.
 use Rattle.std.specs.Prelude.{◌≡◌, ◌⊎◌, ℕ, List, Result}
 use Rattle.lattice.specs.declared.product.Pair.{Pair}
-use Rattle.lattice.specs.Bitimes.{bitime_times, bitime_cmp}
 use Rattle.update.specs.Bags.{Entry}
 use Rattle.update.specs.declared.refusal.Refusal.{Refusal}
 use Rattle.update.specs.declared.refusal.Refusal.TheVariants.{NoThread, BadWorkers}
@@ -19,10 +18,10 @@ last_session t = after_lines t.plan (opening_session t.plan) t.commands
 -- refusal
 abbrev pub FindsLastRows : ScriptModel → ℕ → Pair ℕ ℕ → Result (List Entry) Refusal → Type 0
 FindsLastRows t view time found =
-    FindsRows bitime_times (λ refusal. ⊥) t.plan (last_session t) view time found
+    FindsRows (λ refusal. ⊥) t.plan (last_session t) view time found
 
 -- why no rows are found: memory was refused, a number is too large and the last session is large, a
 -- thread could not be made, or the number of workers is not supported
 abbrev pub EndsReads : ScriptModel → Refusal → Type 0
-EndsReads t refusal = EndsByBound bitime_times bitime_cmp t.plan (last_session t) refusal
+EndsReads t refusal = EndsByBound t.plan (last_session t) refusal
     ⊎ ((refusal ≡ NoThread) ⊎ (refusal ≡ BadWorkers))

@@ -1,6 +1,5 @@
 //! One line of a script: its command goes to the engine, and the answer is printed.
 ghost use Rattle.std.specs.Prelude.{◌≡◌, [], false, IfErr, IfOk, IsTrue, OnOk};
-ghost use Rattle.lattice.specs.Bitimes.{bitime_times};
 ghost use Rattle.update.specs.Refusals.{OnlyMemory};
 ghost use Rattle.update.specs.declared.refusal.Refusal.TheVariants.{OutOfMemory};
 ghost use Rattle.grammar.specs.Commands.{IsAbout, IsQuestion};
@@ -38,7 +37,7 @@ pub(crate) fn ends_run(refusal: Refusal) -> bool
 }
 
 // Hands a command that changes an input to the engine.
-pub(crate) fn hand_over<E: Engine<Time = Bitime>>(
+pub(crate) fn hand_over<E: Engine>(
     alloc: Global,
     engine: &mut E,
     command: &InputCommand,
@@ -87,7 +86,7 @@ fn frontier_of(alloc: Global, times: &Times<Bitime>) -> Result<Antichain<Bitime>
 }
 
 // Hands to the engine from which times on a view may be read.
-pub(crate) fn hand_since<E: Engine<Time = Bitime>>(
+pub(crate) fn hand_since<E: Engine>(
     alloc: Global,
     engine: &mut E,
     view: NodeId,
@@ -96,8 +95,7 @@ pub(crate) fn hand_since<E: Engine<Time = Bitime>>(
     requires about { IsAbout (E.plan engine.old) (Allow view times.now) }
     ensures plan { E.plan engine.new ≡ E.plan engine.old }
     ensures answered { (s : BitemporalSession) → E.stands engine.old s
-        → TakesSince bitime_times (E.plan engine.old) s view (frontier_made times.now)
-        (E.stands engine.new)
+        → TakesSince (E.plan engine.old) s view (frontier_made times.now) (E.stands engine.new)
         result }
 {
     let frontier = frontier_of(alloc, times)?;
@@ -145,7 +143,7 @@ fn refuse<W: Out>(
 }
 
 // Runs a line that changes an input. It prints nothing unless the engine refuses the command.
-fn run_update<E: Engine<Time = Bitime>, W: Out>(
+fn run_update<E: Engine, W: Out>(
     alloc: Global,
     engine: &mut E,
     line: u64,
@@ -172,7 +170,7 @@ fn run_update<E: Engine<Time = Bitime>, W: Out>(
 
 // Runs a line that gives up a part of a view's past. It prints nothing unless the engine refuses
 // it.
-fn run_allow<E: Engine<Time = Bitime>, W: Out>(
+fn run_allow<E: Engine, W: Out>(
     alloc: Global,
     engine: &mut E,
     line: u64,
@@ -200,7 +198,7 @@ fn run_allow<E: Engine<Time = Bitime>, W: Out>(
 }
 
 // Runs a line that asks about a view, once the engine has caught up.
-fn run_query<E: Engine<Time = Bitime>, W: Out>(
+fn run_query<E: Engine, W: Out>(
     alloc: Global,
     engine: &mut E,
     script: &Script,
@@ -241,7 +239,7 @@ fn run_query<E: Engine<Time = Bitime>, W: Out>(
 }
 
 // Lets the engine catch up, then runs a line that asks about a view.
-fn catch_up_and_query<E: CatchUp<Time = Bitime>, W: Out>(
+fn catch_up_and_query<E: CatchUp, W: Out>(
     alloc: Global,
     engine: &mut E,
     script: &Script,
@@ -271,7 +269,7 @@ fn catch_up_and_query<E: CatchUp<Time = Bitime>, W: Out>(
 }
 
 /// Runs a line: the engine carries out its command, and the line's text is printed.
-pub(crate) fn run_line<E: CatchUp<Time = Bitime>, W: Out>(
+pub(crate) fn run_line<E: CatchUp, W: Out>(
     alloc: Global,
     engine: &mut E,
     script: &Script,

@@ -4,7 +4,6 @@
 //! questions are not asked. Workers step once all lines are done, so a run for two reads does each
 //! node's work once, however many questions the script has.
 ghost use Rattle.std.specs.Prelude.{◌≡◌, IfErr, IfOk, IsTrue, OnOk};
-ghost use Rattle.lattice.specs.Bitimes.{bitime_times};
 ghost use Rattle.update.specs.Refusals.{OnlyMemory};
 ghost use Rattle.update.specs.declared.refusal.Refusal.TheVariants.{OutOfMemory};
 ghost use Rattle.grammar.specs.Commands.{IsAbout, is_view_of};
@@ -42,11 +41,7 @@ pub struct TwoReads {
 pub type Rows = Result<Bag, Refusal>;
 
 // Carries out a command, but asks nothing. A refused command changes nothing.
-fn follow<E: Engine<Time = Bitime>>(
-    alloc: Global,
-    engine: &mut E,
-    command: &Command,
-) -> Result<(), Refusal>
+fn follow<E: Engine>(alloc: Global, engine: &mut E, command: &Command) -> Result<(), Refusal>
     requires about { IsAbout (E.plan engine.old) command.now }
     ensures plan { E.plan engine.new ≡ E.plan engine.old }
     ensures stands { (s : BitemporalSession) → E.stands engine.old s
@@ -65,11 +60,7 @@ fn follow<E: Engine<Time = Bitime>>(
 }
 
 // Carries out all lines in order.
-fn follow_all<E: Engine<Time = Bitime>>(
-    alloc: Global,
-    engine: &mut E,
-    script: &Script,
-) -> Result<(), Refusal>
+fn follow_all<E: Engine>(alloc: Global, engine: &mut E, script: &Script) -> Result<(), Refusal>
     requires plan { script.now.plan ≡ E.plan engine.old }
     ensures plan { E.plan engine.new ≡ E.plan engine.old }
     ensures stands { (s : BitemporalSession) → E.stands engine.old s
@@ -96,7 +87,7 @@ fn told(rows: Rows) -> Result<Rows, Refusal>
 }
 
 // Reads a view, once the engine has caught up.
-fn ask<E: CatchUp<Time = Bitime>>(
+fn ask<E: CatchUp>(
     alloc: Global,
     engine: &mut E,
     view: NodeId,
@@ -106,7 +97,7 @@ fn ask<E: CatchUp<Time = Bitime>>(
     ensures plan { E.plan engine.new ≡ E.plan engine.old }
     ensures answered { (s : BitemporalSession) → E.stands engine.old s
         → IfOk result (λ rows. E.stands engine.new s
-        × FindsRows bitime_times (λ refusal. ⊥) (E.plan engine.old) s view time rows) }
+        × FindsRows (λ refusal. ⊥) (E.plan engine.old) s view time rows) }
     ensures ends { (s : BitemporalSession) → E.stands engine.old s
         → IfErr result (E.ends (E.plan engine.old) s) }
 {
@@ -115,7 +106,7 @@ fn ask<E: CatchUp<Time = Bitime>>(
 }
 
 // Reads a view at two times.
-fn ask_twice<E: CatchUp<Time = Bitime>>(
+fn ask_twice<E: CatchUp>(
     alloc: Global,
     engine: &mut E,
     reads: TwoReads,
@@ -123,9 +114,8 @@ fn ask_twice<E: CatchUp<Time = Bitime>>(
     requires view { IsTrue (is_view_of (E.plan engine.old) reads.view) }
     ensures answered { (s : BitemporalSession) → E.stands engine.old s
         → IfOk result (λ rows.
-        FindsRows bitime_times (λ refusal. ⊥) (E.plan engine.old) s reads.view reads.first rows.0
-        × FindsRows bitime_times (λ refusal. ⊥) (E.plan engine.old) s reads.view reads.second
-        rows.1) }
+        FindsRows (λ refusal. ⊥) (E.plan engine.old) s reads.view reads.first rows.0
+        × FindsRows (λ refusal. ⊥) (E.plan engine.old) s reads.view reads.second rows.1) }
     ensures ends { (s : BitemporalSession) → E.stands engine.old s
         → IfErr result (E.ends (E.plan engine.old) s) }
 {

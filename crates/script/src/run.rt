@@ -3,7 +3,7 @@
 //! A crew's loop is the same with one thing more: before a question its workers run ahead. It is a
 //! function of its own, since threads need a runtime whose bounds stand at the function.
 ghost use Rattle.std.specs.Prelude.{◌≡◌, ◌⊎◌, ◌↔◌, ◌++◌, ℕ, List, [], IfErr, OnOk, IsErrOf};
-ghost use Rattle.lattice.specs.Bitimes.{bitime_times, bitime_cmp};
+ghost use Rattle.lattice.specs.Bitimes.{bitime_times};
 ghost use Rattle.update.specs.declared.refusal.Refusal.TheVariants.{Overflow};
 ghost use Rattle.grammar.specs.Commands.{IsAbout, IsQuestion};
 ghost use Rattle.shared_board.specs.Found.{dataflow_of};
@@ -31,7 +31,7 @@ use std::sync::Wait;
 use std::thread::Threads;
 
 // Carries out all lines in order. The text of the last ones may still wait in the buffer.
-fn run_lines<E: CatchUp<Time = Bitime>, W: Out, V: Watch>(
+fn run_lines<E: CatchUp, W: Out, V: Watch>(
     alloc: Global,
     engine: &mut E,
     script: &Script,
@@ -67,7 +67,7 @@ fn run_lines<E: CatchUp<Time = Bitime>, W: Out, V: Watch>(
 
 /// Carries out a script on an engine that has its plan. The output takes what the lines write in
 /// the session for which the engine stands.
-pub(crate) fn run<E: CatchUp<Time = Bitime>, W: Out, V: Watch>(
+pub(crate) fn run<E: CatchUp, W: Out, V: Watch>(
     alloc: Global,
     engine: &mut E,
     script: &Script,
@@ -121,7 +121,7 @@ fn run_crew_line<R: Threads + Wait + Sync, G: Gate + Sync, W: Out>(
         → IfErr result (λ fault. fault ≡ Refused 10
         → IsQuestion line.now.command × W.took out.old buffer.old 0 out.new) }
     ensures known { (s : BitemporalSession) → StandsAs bitime_times crew.old s
-        → IfErr result (IsCrewEnd (EndsByBound bitime_times bitime_cmp script.now.plan s)) }
+        → IfErr result (IsCrewEnd (EndsByBound script.now.plan s)) }
 {
     if let Command::View(_) = line.command {
         if let Err(refusal) = crew.run_ahead(alloc, gate) {
@@ -150,12 +150,11 @@ fn run_crew_lines<R: Threads + Wait + Sync, G: Gate + Sync, W: Out, V: Watch>(
         (lines_text script.now s script.now.commands) (failures fault) out.new) }
     ensures overflow { (s : BitemporalSession) → StandsAs bitime_times crew.old s
         → IfErr result (λ fault. fault ≡ Refused 10 → (part : List ℕ)
-        × IsTextBefore (λ now. EndsByBound bitime_times bitime_cmp script.now.plan now Overflow)
-        script.now s script.now.commands part × W.took out.old (buffer.old ++ part) 0 out.new) }
+        × IsTextBefore (λ now. EndsByBound script.now.plan now Overflow) script.now s
+        script.now.commands part × W.took out.old (buffer.old ++ part) 0 out.new) }
     ensures known { (s : BitemporalSession) → StandsAs bitime_times crew.old s
         → IfErr result (IsCrewEnd (λ refusal. HoldsAlong
-        (λ now. EndsByBound bitime_times bitime_cmp script.now.plan now refusal) script.now.plan s
-        script.now.commands)) }
+        (λ now. EndsByBound script.now.plan now refusal) script.now.plan s script.now.commands)) }
 {
     for line in script.command_lines() {
         run_crew_line(alloc, crew, script, line, gate, buffer, out)?;
@@ -181,12 +180,11 @@ fn run_crew<R: Threads + Wait + Sync, G: Gate + Sync, W: Out, V: Watch>(
         (lines_text script.now s script.now.commands) (failures fault) out.new) }
     ensures overflow { (s : BitemporalSession) → StandsAs bitime_times crew.old s
         → IfErr result (λ fault. fault ≡ Refused 10 → (part : List ℕ)
-        × IsTextBefore (λ now. EndsByBound bitime_times bitime_cmp script.now.plan now Overflow)
-        script.now s script.now.commands part × W.took out.old part 0 out.new) }
+        × IsTextBefore (λ now. EndsByBound script.now.plan now Overflow) script.now s
+        script.now.commands part × W.took out.old part 0 out.new) }
     ensures known { (s : BitemporalSession) → StandsAs bitime_times crew.old s
         → IfErr result (IsCrewEnd (λ refusal. HoldsAlong
-        (λ now. EndsByBound bitime_times bitime_cmp script.now.plan now refusal) script.now.plan s
-        script.now.commands)) }
+        (λ now. EndsByBound script.now.plan now refusal) script.now.plan s script.now.commands)) }
 {
     let mut buffer = OutputBuffer::new(alloc);
     run_crew_lines(alloc, crew, script, gate, &mut buffer, out, watch)?;

@@ -1,6 +1,7 @@
+use Rattle.lattice.specs.Bitimes.{bitime_times}
 use Rattle.engines.proofs.OracleEngineLemmas.{AreSome}
 use Rattle.engines.proofs.oracle_engine.frontiers.Given as goal
 
 -- the frontiers of the inputs so far
 abbrev pub invariant-loop-n : goal.invariant-loop-n
-invariant-loop-n g l = AreSome g.T.PartialOrder.times l.plan l.inputs l.n l.all.items
+invariant-loop-n l = AreSome bitime_times l.plan l.inputs l.n l.all.items

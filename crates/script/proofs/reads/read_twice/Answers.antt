@@ -1,6 +1,6 @@
 use Rattle.std.proofs.Common.{◌≡◌, ℕ, List, Result, Ok, Err, ◌⊎◌, inl, subst, ◌∙◌, ap}
 use Rattle.std.specs.Prelude.{IfOk, IfErr}
-use Rattle.lattice.specs.Bitimes.{bitime_times, bitime_cmp}
+use Rattle.lattice.specs.Bitimes.{bitime_times}
 use Rattle.lattice.specs.declared.product.Pair.{Pair}
 use Rattle.update.specs.Bags.{Entry}
 use Rattle.update.specs.declared.refusal.Refusal.{Refusal}
@@ -17,7 +17,7 @@ use Rattle.script.proofs.reads.read_twice.Goals as goal
 -- taken
 module _ (s : BitemporalSession) (view : ℕ) (first second : Pair ℕ ℕ) where
   abbrev finds : List Node → Pair ℕ ℕ → Result (List Entry) Refusal → Type 0
-  finds p time = FindsRows bitime_times (λ refusal. ⊥) p s view time
+  finds p time = FindsRows (λ refusal. ⊥) p s view time
 
   first_of : (p q : List Node) (r : Result (Result (List Entry) Refusal × Result (List Entry) Refusal) Refusal) → p ≡ q → IfOk r (λ rows. finds p first rows.0 × finds p second rows.1) → IfOk r (λ rows. finds q first rows.0)
   first_of p q (Ok rows) e h = subst (λ (plan : List Node). finds plan first rows.0) e h.0
@@ -28,9 +28,9 @@ module _ (s : BitemporalSession) (view : ℕ) (first second : Pair ℕ ℕ) wher
   second_of p q (Err refusal) e h = tt
 
 -- the cause of an end, among others
-ended : {X : Type 0} (s : BitemporalSession) (p q : List Node) (r : Result X Refusal) → p ≡ q → IfErr r (EndsByBound bitime_times bitime_cmp p s) → IfErr r (λ refusal. EndsByBound q s refusal ⊎ ((refusal ≡ NoThread) ⊎ (refusal ≡ BadWorkers)))
+ended : {X : Type 0} (s : BitemporalSession) (p q : List Node) (r : Result X Refusal) → p ≡ q → IfErr r (EndsByBound p s) → IfErr r (λ refusal. EndsByBound q s refusal ⊎ ((refusal ≡ NoThread) ⊎ (refusal ≡ BadWorkers)))
 ended s p q (Ok x) e h = tt
-ended s p q (Err refusal) e h = inl (subst (λ (plan : List Node). EndsByBound bitime_times bitime_cmp plan s refusal) e h)
+ended s p q (Err refusal) e h = inl (subst (λ (plan : List Node). EndsByBound plan s refusal) e h)
 
 pub returns-clause-first : goal.returns-clause-first
 returns-clause-first g c =

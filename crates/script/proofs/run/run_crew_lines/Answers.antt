@@ -1,6 +1,6 @@
 use Rattle.std.proofs.Common.{◌≡◌, suc, ◌+◌, ◌<◌, List, length, get_or, take, drop, take-append-drop, refl, sym, subst, arith}
 use Rattle.std.proofs.lemmas.Result.{err_from_is_err_and}
-use Rattle.lattice.specs.Bitimes.{bitime_times, bitime_cmp}
+use Rattle.lattice.specs.Bitimes.{bitime_times}
 use Rattle.grammar.specs.declared.command.CommandLine.{CommandLine}
 use Rattle.engines.specs.Bounds.{EndsByBound, ends_by_bound}
 use Rattle.crews.specs.BoardStates.{StandsAs}
@@ -54,7 +54,7 @@ returns-in_err-run_crew_line-clause-known g c =
     let p = err_from_is_err_and c.from_residual.result c.from_residual.ensures.1 in
     λ s h. rw (p.1, p.2)
     (crew_weaker
-    {B = λ refusal. HoldsAlong (λ now. EndsByBound bitime_times bitime_cmp t.plan now refusal) t.plan s t.commands}
+    {B = λ refusal. HoldsAlong (λ now. EndsByBound t.plan now refusal) t.plan s t.commands}
     (λ refusal ends. (take i t.commands, drop i t.commands, take-append-drop i t.commands, ends))
     _ (c.in_err-run_crew_line.ensures.known (after_lines t.plan s (take i t.commands)) (c.loop-line.invariant.stands s h)))
 
@@ -80,7 +80,7 @@ returns-in_err-run_crew_line-clause-overflow g c =
         behind = drop (suc i) t.commands;
         in_order = sym (all_lines t.commands i line within is);
         asks = met.0;
-        cause = cause_of_crew_end (ends_by_bound bitime_times bitime_cmp t.plan (before s)) _ (c.in_err-run_crew_line.ensures.known (before s) stands) ten;
+        cause = cause_of_crew_end (ends_by_bound t.plan (before s)) _ (c.in_err-run_crew_line.ensures.known (before s) stands) ten;
         written = refl;
       },
       wrote_all g.W.Out.took g.met.W.Out.in_turn c.args.out.now c.loop-line.out c.run_crew_line.new.out c.args.buffer.now text c.loop-line.buffer (c.loop-line.invariant.wrote s h) met.1,

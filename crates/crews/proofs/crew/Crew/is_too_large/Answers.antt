@@ -1,6 +1,6 @@
 use Rattle.std.proofs.Common.{◌≡◌, true, ℕ, subst}
 use Rattle.std.proofs.lemmas.Cmp.{then_total, on_total, nat_cmp_total}
-use Rattle.lattice.specs.Bitimes.{bitime_times, bitime_cmp}
+use Rattle.lattice.specs.Bitimes.{bitime_times}
 use Rattle.hub.specs.Known.{Known}
 use Rattle.lattice.specs.Naturals.{nat_order, nat_bounds, nat_extends}
 use Rattle.lattice.specs.Pairs.{pair_order, pair_bounds, pair_extends}
@@ -36,6 +36,6 @@ returns-clause-cause g c s =
     let total = then_total (on_total (λ (t : Pair ℕ ℕ). t.first) nat_cmp_total) (on_total (λ (t : Pair ℕ ℕ). t.second) nat_cmp_total) in
     let new = c.is_too_large_wait-large.new.self in
     let step = client_step bitime_times o k new (Look k.number) number one c.known.ensures c.is_too_large_wait-large.ensures.0 in
-    subst (λ (e : Known (BoardEvent (Pair ℕ ℕ))). StandsAs bitime_times e s → c.is_too_large_wait-large.result ≡ true → IsLarge bitime_times bitime_cmp (dataflow_of e).nodes s) c.self.view_is
+    subst (λ (e : Known (BoardEvent (Pair ℕ ℕ))). StandsAs bitime_times e s → c.is_too_large_wait-large.result ≡ true → IsLarge (dataflow_of e).nodes s) c.self.view_is
     (λ a told. large_session o l x total (dataflow_of k) (state_found bitime_times new) s step.dataflow
     (session_found bitime_times o (dataflow_of k) (state_left bitime_times k) (state_found bitime_times new) s step.clients a) (c.is_too_large_wait-large.ensures.1 told))

@@ -24,5 +24,5 @@ returns-clause-answered g c s =
     let ts = c.args.frontier.now in
     let ends = ends_of k new _ _ _ c.advance_wait-told.result c.advance_wait-told.ensures in
     let there = subst (λ (e : Known (BoardEvent (Pair ℕ ℕ))). IsTrue (is_input_of (dataflow_of e).nodes i)) (sym c.self.view_is) c.requires in
-    subst (λ (e : Known (BoardEvent (Pair ℕ ℕ))). StandsAs bitime_times e s → TakesFrontier bitime_times (dataflow_of e).nodes s i ts (StandsAs bitime_times new) c.advance_wait-told.result) c.self.view_is
+    subst (λ (e : Known (BoardEvent (Pair ℕ ℕ))). StandsAs bitime_times e s → TakesFrontier (dataflow_of e).nodes s i ts (StandsAs bitime_times new) c.advance_wait-told.result) c.self.view_is
     (λ a. frontier_answered bitime_times o k new number one c.known.ensures s c.advance_wait-told.result a i ts (input_there (dataflow_of k) i there).0 ends.done ends.accepted ends.refused ends.looked)

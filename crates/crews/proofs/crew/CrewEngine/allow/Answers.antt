@@ -22,5 +22,5 @@ returns-clause-answered g c s =
     let v = c.args.view in
     let ts = c.args.frontier.now in
     let ends = ends_of k new _ _ _ c.allow_wait-told.result c.allow_wait-told.ensures in
-    subst (λ (e : Known (BoardEvent (Pair ℕ ℕ))). StandsAs bitime_times e s → TakesSince bitime_times (dataflow_of e).nodes s v ts (StandsAs bitime_times new) c.allow_wait-told.result) c.self.view_is
+    subst (λ (e : Known (BoardEvent (Pair ℕ ℕ))). StandsAs bitime_times e s → TakesSince (dataflow_of e).nodes s v ts (StandsAs bitime_times new) c.allow_wait-told.result) c.self.view_is
     (λ a. since_answered bitime_times o k new number one c.known.ensures s c.allow_wait-told.result a v ts ends.done ends.accepted ends.refused ends.looked)

@@ -29,5 +29,5 @@ returns-clause-answered g c s =
     let IsSent : List ℤ → ℤ → Type 0 = λ columns d. IsFed bitime_times k new (IsDoneInTurn k new) (row_fed c.args.input columns c.args.update.time d) c.feed_wait-told.result in
     let fed = subst (λ columns. IsSent columns diff) c.columns-columns.ensures.columns (subst (IsSent c.columns-columns.result.now) (to_z-of_z w64 diff fits) c.feed_wait-told.ensures) in
     let e = ends_of k new _ _ _ c.feed_wait-told.result fed in
-    subst (λ (x : Known (BoardEvent (Pair ℕ ℕ))). StandsAs bitime_times x s → TakesChange bitime_times (dataflow_of x).nodes s f (StandsAs bitime_times new) c.feed_wait-told.result) c.self.view_is
+    subst (λ (x : Known (BoardEvent (Pair ℕ ℕ))). StandsAs bitime_times x s → TakesChange (dataflow_of x).nodes s f (StandsAs bitime_times new) c.feed_wait-told.result) c.self.view_is
     (λ a. change_answered bitime_times o k new number one c.known.ensures s c.feed_wait-told.result a f e.done e.accepted e.refused e.looked)

@@ -1,6 +1,6 @@
 use Rattle.std.proofs.Common.{ℕ, ◌<◌, length, List, IsTrue, ltb-true, sym, subst, ◌∙◌}
 use Rattle.std.proofs.lemmas.Cmp.{then_total, on_total, nat_cmp_total}
-use Rattle.lattice.specs.Bitimes.{bitime_times, bitime_cmp}
+use Rattle.lattice.specs.Bitimes.{bitime_times}
 use Rattle.hub.specs.Known.{Known}
 use Rattle.lattice.specs.Naturals.{nat_order, nat_bounds, nat_extends}
 use Rattle.lattice.specs.Pairs.{pair_order, pair_bounds, pair_extends}
@@ -57,7 +57,7 @@ returns-clause-answered g c s =
     let found : StandsAs bitime_times k s → HasSession p w s = session_found bitime_times o p (state_left bitime_times k) w s step.clients in
     let Changes : Type 0 = List (Update (Pair ℕ ℕ)) in
     let Answered : Known (BoardEvent (Pair ℕ ℕ)) → Result Changes Refusal → Type 0 = λ e r. StandsAs bitime_times e s
-    → FindsChanges bitime_times bitime_cmp (EndsByBound bitime_times bitime_cmp (dataflow_of e).nodes s) (dataflow_of e).nodes s v r in
+    → FindsChanges (EndsByBound (dataflow_of e).nodes s) (dataflow_of e).nodes s v r in
     subst (λ e. Answered e c.match-changes.result) c.self.view_is
     (elim c.match-changes.branch [
       | in-Ok z ↦ subst (Answered k) (sym z.result-is)
@@ -66,7 +66,7 @@ returns-clause-answered g c s =
             z.from.ensures ∙ changes_found bitime_times o p step.dataflow w s (found a) v caught l x total within z.in-Ok.changes.items z.in-Ok.ensures.1.differences,
           ))
       | in-Err z ↦ subst (Answered k) (sym z.result-is)
-          (λ a. refused_alike (HasLargeListed bitime_times p w v) (IsLarge bitime_times bitime_cmp p.nodes s) (changes_refusal_in bitime_times w v) _ z.in-Err.refusal
+          (λ a. refused_alike (HasLargeListed bitime_times p w v) (IsLarge p.nodes s) (changes_refusal_in bitime_times w v) _ z.in-Err.refusal
           (same_changes_refusal bitime_times o p step.dataflow w s (found a) v caught)
           (large_changes o l x total p step.dataflow w s (found a) v within) z.in-Err.ensures.1)
     ])

@@ -1,6 +1,6 @@
 use Rattle.std.proofs.Common.{ℕ, ◌<◌, length, List, IsTrue, ltb-true, refl, inl, inr, sym, subst}
 use Rattle.std.proofs.lemmas.Cmp.{then_total, on_total, nat_cmp_total}
-use Rattle.lattice.specs.Bitimes.{bitime_times, bitime_cmp}
+use Rattle.lattice.specs.Bitimes.{bitime_times}
 use Rattle.hub.specs.Known.{Known}
 use Rattle.lattice.specs.Naturals.{nat_order, nat_bounds, nat_extends}
 use Rattle.lattice.specs.Pairs.{pair_order, pair_bounds, pair_extends}
@@ -55,7 +55,7 @@ returns-clause-answered g c s =
     let caught = step.caught v (subst (IsQuiet bitime_times p) (sym (step.quiet still)) still) in
     let found : StandsAs bitime_times k s → HasSession p w s = session_found bitime_times o p (state_left bitime_times k) w s step.clients in
     let Answered : Known (BoardEvent (Pair ℕ ℕ)) → Result (List (Pair ℕ ℕ)) Refusal → Type 0 = λ e r. StandsAs bitime_times e s
-    → FindsFrontier bitime_times bitime_cmp (EndsByBound bitime_times bitime_cmp (dataflow_of e).nodes s) (dataflow_of e).nodes s v r in
+    → FindsFrontier (EndsByBound (dataflow_of e).nodes s) (dataflow_of e).nodes s v r in
     subst (λ e. Answered e c.match-frontier.result) c.self.view_is
     (elim c.match-frontier.branch [
       | in-Ok z ↦ subst (Answered k) (sym z.result-is)

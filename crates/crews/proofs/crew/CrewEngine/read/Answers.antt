@@ -1,7 +1,7 @@
 use Rattle.std.proofs.Common.{ℕ, ◌<◌, length, IsTrue, ltb-true, sym, subst}
 use Rattle.std.proofs.lemmas.Result.{IfOk-weaker}
 use Rattle.std.proofs.lemmas.Cmp.{then_total, on_total, nat_cmp_total}
-use Rattle.lattice.specs.Bitimes.{bitime_times, bitime_cmp}
+use Rattle.lattice.specs.Bitimes.{bitime_times}
 use Rattle.hub.specs.Known.{Known}
 use Rattle.lattice.specs.Naturals.{nat_order, nat_bounds, nat_extends}
 use Rattle.lattice.specs.Pairs.{pair_order, pair_bounds, pair_extends}
@@ -56,9 +56,9 @@ returns-clause-answered g c s =
     let caught = step.caught v (subst (IsQuiet bitime_times p) (sym (step.quiet still)) still) in
     let found : StandsAs bitime_times k s → HasSession p w s = session_found bitime_times o p (state_left bitime_times k) w s step.clients in
     let t = c.args.time in
-    subst (λ (e : Known (BoardEvent (Pair ℕ ℕ))). StandsAs bitime_times e s → FindsRows bitime_times (EndsByBound bitime_times bitime_cmp (dataflow_of e).nodes s) (dataflow_of e).nodes s v t c.read_wait-rows.result) c.self.view_is
+    subst (λ (e : Known (BoardEvent (Pair ℕ ℕ))). StandsAs bitime_times e s → FindsRows (EndsByBound (dataflow_of e).nodes s) (dataflow_of e).nodes s v t c.read_wait-rows.result) c.self.view_is
     (λ a. read_answered bitime_times o p step.dataflow w s (found a) v caught t
-    (HasLargeCount (query_at bitime_times p.nodes (changes_in w) v t)) (IsLarge bitime_times bitime_cmp p.nodes s) c.read_wait-rows.result
+    (HasLargeCount (query_at bitime_times p.nodes (changes_in w) v t)) (IsLarge p.nodes s) c.read_wait-rows.result
     (large_read o l x total p step.dataflow w s (found a) v within t)
     (on_ok_of c.read_wait-rows.result (λ bag read. read.accepted) answer.found) answer.refused
     (IfOk-weaker c.read_wait-rows.result _ _ (λ bag read. read.is_bag) answer.found) (IfOk-weaker c.read_wait-rows.result _ _ (λ bag read. read.query) answer.found))
