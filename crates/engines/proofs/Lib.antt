@@ -1,7 +1,4 @@
 pub mod BagLemmas
-pub mod TurnLemmas
-pub mod BoardStateLemmas
-pub mod ReadLemmas
 pub mod OrderLemmas
 pub mod InputLemmas
 pub mod ChangesLemmas

@@ -52,7 +52,7 @@ use Rattle.engines.proofs.BagLemmas.{consolidated_bag-only}
 use Rattle.engines.proofs.ChangesLemmas.{changes_are, differences_only}
 use Rattle.engines.proofs.InputLemmas.{query_at_inputs}
 use Rattle.engines.proofs.OrderLemmas.{in_order-sorted, in_order-has, in_order-only}
-use Rattle.engines.proofs.BoardStateLemmas.{answered, refused_by}
+use Rattle.engines.proofs.RefusalLemmas.{answered, refused_by}
 use Rattle.engines.proofs.LargeLemmas.{large_above, large_difference}
 
 -- ---- the index of an input's list

@@ -7,6 +7,4 @@ pub mod Bitemporal
 pub mod Engines
 pub mod Bounds
 pub mod Answers
-pub mod BoardStates
-pub mod Employment
 pub mod OracleStates

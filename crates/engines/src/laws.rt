@@ -3,27 +3,18 @@
 ghost use Rattle.std.specs.Prelude.{◌≡◌, ◌<◌, ℕ, List, length};
 ghost use Rattle.std.specs.List.Sorted.{IsStrictlySortedBy};
 ghost use Rattle.antichain.specs.Antichains.{SameElements};
-ghost use Rattle.atomic_table.specs.Seated.{TableId};
-ghost use Rattle.hub.specs.Known.{Known};
-ghost use Rattle.lattice.specs.Bitimes.{bitime_times, Bitime};
 ghost use Rattle.update.specs.Bags.{Entry, Alike, IsBag};
 ghost use Rattle.update.specs.declared.change.Update.{Update};
 ghost use Rattle.plan.specs.Changes.{AreDifferences};
 ghost use Rattle.plan.specs.Rules.{IsPlan};
 ghost use Rattle.plan.specs.Bounds.{HasLargeBound, IsBound};
 ghost use Rattle.plan.specs.declared.node.Node.{Node};
-ghost use Rattle.histories.specs.Histories.Readings.{IsQuiet};
 ghost use Rattle.histories.specs.Histories.States.{fed_to};
 ghost use Rattle.oracle.specs.Evaluation.{HasLargeAbove, list_of, sums_at};
 ghost use Rattle.oracle.specs.Listing.{HasLargeDifference};
-ghost use Rattle.shared_board.specs.declared.event.BoardEvent.{BoardEvent};
-ghost use Rattle.shared_board.specs.Found.{dataflow_of};
-ghost use Rattle.shared_board.specs.Tenures.{IsActor, IsFirst, state_left, opening_for};
 ghost use Rattle.engines.specs.Bags.{consolidated_bag};
 ghost use Rattle.engines.specs.OracleStates.{IsRegister, Records, Register};
-ghost use Rattle.engines.specs.Sessions.{Session, view_frontier, frontier_at, changes_at};
-ghost use Rattle.engines.specs.BoardStates.{StandsAs};
-ghost use Rattle.engines.specs.Bitemporal.{opening_session};
+ghost use Rattle.engines.specs.Sessions.{Session, first_session, view_frontier, frontier_at, changes_at};
 
 use lattice::Lattice;
 
@@ -78,15 +69,9 @@ pub fn bounds_exist<T: Lattice>()
         → (bound : ℕ) × IsBound T.times T.cmp p changes n bound }
 {}
 
-/// Each engine can stand for a session. For each plan there are a client of a board that has looked
-/// once, and a register of the oracle engine. Both stand for the session before the first command,
-/// and nothing is in flight on the board.
-pub fn engines_can_stand()
-    ensures board { (p : List Node) → IsPlan p → (hub : TableId)
-        → (k : Known (BoardEvent Bitime)) × IsActor bitime_times k
-        × IsFirst (opening_for p 1 1) 1 k
-        × StandsAs bitime_times k (opening_session p)
-        × IsQuiet bitime_times (dataflow_of k) (state_left bitime_times k) }
-    ensures oracle { (p : List Node) → (r : Register Bitime) × (r.plan ≡ p) × IsRegister r
-        × Records r (opening_session p) }
+/// The oracle engine can stand for a session: for each plan there is a register that stands for the
+/// session before the first command.
+pub fn the_oracle_engine_can_stand<T: Lattice>()
+    ensures { (p : List Node) (least : T) → (r : Register T) × (r.plan ≡ p) × IsRegister r
+        × Records r (first_session least p) }
 {}

@@ -14,7 +14,8 @@ ghost use Rattle.engines.specs.Bitemporal.{BitemporalSession};
 ghost use Rattle.script.specs.Text.{after_command, after_lines};
 
 use crate::line::{ends_run, hand_over, hand_since};
-use engines::{CatchUp, Crew, Engine};
+use crews::Crew;
+use engines::{CatchUp, Engine};
 use grammar::{Command, Script};
 use lattice::Bitime;
 use plan::NodeId;

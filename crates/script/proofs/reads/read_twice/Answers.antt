@@ -9,7 +9,7 @@ use Rattle.plan.specs.declared.node.Node.{Node}
 use Rattle.engines.specs.Answers.{FindsRows}
 use Rattle.engines.specs.Bounds.{EndsByBound}
 use Rattle.script.specs.Reads.{last_session}
-use Rattle.engines.specs.BoardStates.{StandsAs}
+use Rattle.crews.specs.BoardStates.{StandsAs}
 use Rattle.engines.specs.Bitemporal.{BitemporalSession, opening_session}
 use Rattle.script.proofs.reads.read_twice.Goals as goal
 

@@ -3,7 +3,7 @@ use Rattle.std.proofs.lemmas.Result.{err_from_is_err_and}
 use Rattle.lattice.specs.Bitimes.{bitime_times}
 use Rattle.grammar.specs.declared.command.CommandLine.{CommandLine}
 use Rattle.engines.specs.Bounds.{EndsByBound, ends_by_bound}
-use Rattle.engines.specs.BoardStates.{StandsAs}
+use Rattle.crews.specs.BoardStates.{StandsAs}
 use Rattle.engines.specs.Bitemporal.{BitemporalSession}
 use Rattle.script.specs.Text.{HoldsAlong, after_command, after_lines, piece, lines_text}
 use Rattle.script.proofs.EndLemmas.{crew_weaker, cause_of_crew_end}

@@ -2,7 +2,7 @@ use Rattle.std.proofs.Common.{◌≡◌, take}
 use Rattle.lattice.specs.Bitimes.{bitime_times}
 use Rattle.shared_board.specs.Found.{dataflow_of}
 use Rattle.output.specs.Outs.{Wrote}
-use Rattle.engines.specs.BoardStates.{StandsAs}
+use Rattle.crews.specs.BoardStates.{StandsAs}
 use Rattle.engines.specs.Bitemporal.{BitemporalSession}
 use Rattle.script.specs.Text.{after_lines, lines_text}
 use Rattle.script.proofs.run.run_crew_lines.Given as goal

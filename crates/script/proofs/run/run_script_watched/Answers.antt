@@ -5,7 +5,7 @@ use Rattle.update.specs.declared.refusal.Refusal.TheVariants.{BadWorkers}
 use Rattle.plan.specs.declared.node.Node.{Node}
 use Rattle.script.specs.RunEnds.{failures}
 use Rattle.output.specs.Outs.{IsBeginning, Broke}
-use Rattle.engines.specs.BoardStates.{StandsAs}
+use Rattle.crews.specs.BoardStates.{StandsAs}
 use Rattle.engines.specs.Bitemporal.{opening_session}
 use Rattle.script.specs.Text.{text}
 use Rattle.script.proofs.EndLemmas.{crew_counts, crew_ends, not_both, overflow_texts}

@@ -1,0 +1,4 @@
+pub mod TurnLemmas
+pub mod BoardStateLemmas
+pub mod ReadLemmas
+pub mod WitnessLemmas
