@@ -1,14 +1,15 @@
 -- What an actor knows during a tenure, and after it.
 use Rattle.std.proofs.Common.{◌≡◌, ℕ, zero, suc, arith, ◌<◌, Bool, List, [], ◌∷◌, ◌++◌, length, Option, Some, None, sym, refl, ap, ◌∙◌, subst, IsTrue, ◌≤◌}
-use Rattle.std.specs.Prelude.{Result, Ok, Err, IfOk, IfErr, IfSome, IsSomeAnd, get_or, slice_get}
+use Rattle.std.specs.Prelude.{Result, Ok, Err, IfOk, IfErr, get_or, slice_get}
 use Rattle.std.specs.Option.{unwrap_or}
 use Rattle.std.proofs.lemmas.Option.{none-some}
 use Rattle.std.specs.declared.cmp.Ordering.{Ordering}
 use Rattle.atomic_table.specs.Seated.{TableId}
 use Rattle.hub.specs.declared.view.Entry.{Entry}
 use Rattle.hub.specs.Histories.{entry, NoneBy}
-use Rattle.hub.specs.Known.{Known}
+use Rattle.hub.specs.Known.{Known, Tenure}
 use Rattle.hub.specs.Passes.{AgreesWith}
+use Rattle.hub.specs.Tenures.{IsTenureOf}
 use Rattle.histories.specs.declared.event.Event.{Event}
 use Rattle.histories.specs.declared.event.Event.TheVariants.{Feed, Advance, Allow, Look, Take, TakeHeld, Give}
 use Rattle.std.proofs.lemmas.List.{append-nil}
@@ -23,12 +24,10 @@ use Rattle.histories.specs.declared.event.Bundle.{Bundle}
 use Rattle.histories.specs.declared.event.Emission.{Emission}
 use Rattle.shared_board.proofs.ApartLemmas.{give_apart}
 use Rattle.shared_board.specs.declared.event.BoardEvent.{BoardEvent}
+use Rattle.shared_board.specs.Calls.{HasLooked}
 use Rattle.shared_board.specs.Widths.{HasWidths}
-use Rattle.shared_board.specs.Tenures.{WaitsOrNot, WaitsOrNotIn, Opening, SharedState, events, opening_of_board, doing, is_change, AreOn, left_by, StandsFor, opening_in, AreKnown, found_last, state_found, state_left, IsNextTenure, IsActor, IsFirst}
+use Rattle.shared_board.specs.Tenures.{IsOneEvent, WaitsOrNot, WaitsOrNotIn, Opening, SharedState, events, opening_of_board, doing, doing_on, is_change, AreOn, left_by, StandsFor, opening_in, AreKnown, found_last, state_found, state_left, IsNextTenure, IsActor, IsFirst}
 use Rattle.lattice.specs.Times.{Times}
-
-pub is_some_at : {A : Type 0} (o : Option A) (P : A → Type 0) → IsSomeAnd o P → (x : A) → o ≡ Some x → P x
-is_some_at o P h x e = subst (λ (z : Option _). IsSomeAnd z P) e h
 
 pub if_ok_map : {X E : Type 0} (r : Result X E) (P Q : X → Type 0) → ((x : X) → P x → Q x) → IfOk r P → IfOk r Q
 if_ok_map (Ok x) P Q f h = f x h
@@ -38,17 +37,9 @@ pub if_err_map : {X E : Type 0} (r : Result X E) (P Q : E → Type 0) → ((e : 
 if_err_map (Ok x) P Q f h = tt
 if_err_map (Err e) P Q f h = f e h
 
-pub if_some_map : {X : Type 0} (o : Option X) (P Q : X → Type 0) → ((x : X) → P x → Q x) → IfSome o P → IfSome o Q
-if_some_map None P Q f h = tt
-if_some_map (Some x) P Q f h = f x h
-
 pub both_ok : {X E : Type 0} (r : Result X E) (P Q R : X → Type 0) → ((x : X) → P x → Q x → R x) → IfOk r P → IfOk r Q → IfOk r R
 both_ok (Ok x) P Q R f h k = f x h k
 both_ok (Err e) P Q R f h k = tt
-
-pub both_some : {X : Type 0} (o : Option X) (P Q R : X → Type 0) → ((x : X) → P x → Q x → R x) → IfSome o P → IfSome o Q → IfSome o R
-both_some None P Q R f h k = tt
-both_some (Some x) P Q R f h k = f x h k
 
 module _ {T : Type 0} where
   -- an actor that has seen an entry knows the terms of the board
@@ -94,117 +85,132 @@ module _ {T : Type 0} where
       let last = client_apart times p (left_by times p (others ++ seen)) k e.by t.actors e.event.event workers one on.0.own on.0.actor none.0 legal.0 in
       record { fed = last.fed ∙ before.fed; open_times = last.open_times ∙ before.open_times; since = λ v. last.since v ∙ before.since v }
 
-  -- the actor is in a tenure, and found this board, which stands for these entries
-  pub record IsIn (times : Times T) (cmp : T → T → Ordering) (k : Known (BoardEvent T)) (b : SharedState T) (hub : TableId) (number : ℕ) (found : List (Entry (BoardEvent T))) : Type 0 where
+module _ {T S : Type 0} where
+  -- an actor of this hub and number is in a tenure, and makes its call on this board, which stands
+  -- for the entries that the tenure found
+  pub record IsIn (times : Times T) (cmp : T → T → Ordering) (hub : TableId) (own : ℕ) (k : Known (BoardEvent T)) (h : Tenure S (BoardEvent T)) (b : SharedState T) : Type 0 where
+    pub same_hub : k.hub ≡ hub
+    pub own_number : k.number ≡ own
     pub actor : IsActor times k
-    pub its_hub : hub ≡ k.hub
-    pub its_number : number ≡ k.number
-    pub agrees : AgreesWith k found
-    pub stands : StandsFor times cmp b found
+    pub tenure : IsTenureOf k h
+    pub stands : StandsFor times cmp b h.found
 
-  -- what holds of a pass after the tenure
-  pub record IsAfter (times : Times T) (k : Known (BoardEvent T)) (found : List (Entry (BoardEvent T))) (event : Event T) (accepted : Option ℕ) (n : Known (BoardEvent T)) : Type 0 where
-    pub same_hub : n.hub ≡ k.hub
-    pub same_number : n.number ≡ k.number
+module _ {T : Type 0} where
+  -- what holds of its pass after the tenure in which it found these entries
+  pub record IsAfter (times : Times T) (hub : TableId) (own : ℕ) (k : Known (BoardEvent T)) (found : List (Entry (BoardEvent T))) (event : Event T) (accepted : Option ℕ) (n : Known (BoardEvent T)) : Type 0 where
+    pub old_number : k.number ≡ own
+    pub same_hub : n.hub ≡ hub
+    pub own_number : n.number ≡ own
     pub adds : IsNextTenure k event n
     pub actor : IsActor times n
     pub counted : (m : ℕ) → accepted ≡ Some m → length (state_left times n).fed ≡ m
     pub terms : opening_in n.seen ≡ opening_in k.seen
     pub found_is : found_last n ≡ found
 
-  module _ (times : Times T) (cmp : T → T → Ordering) (k : Known (BoardEvent T)) (b : SharedState T) (hub : TableId) (number : ℕ) (found : List (Entry (BoardEvent T))) (t : IsIn times cmp k b hub number found) where
-    -- the board that an actor finds is on the terms that it knows
-    pub opening_found : opening_of_board b ≡ opening_in k.seen
-    opening_found = knows_terms (opening_of_board b) t.agrees.0 k.seen (subst (λ (es : List (Entry (BoardEvent T))). AreOn (opening_of_board b) es) t.agrees.1 t.stands.on) t.actor.known
+module _ {T : Type 0} {times : Times T} {hub : TableId} {own : ℕ} {k : Known (BoardEvent T)} {found : List (Entry (BoardEvent T))} {event : Event T} {accepted : Option ℕ} {n : Known (BoardEvent T)} (a : IsAfter times hub own k found event accepted n) where
+  -- the actor made an event that names it by its number
+  pub adds_as : (at : ℕ → Event T) → event ≡ at own → IsNextTenure k (at k.number) n
+  adds_as at is = subst (λ (x : Event T). IsNextTenure k x n) (is ∙ ap at (sym a.old_number)) a.adds
 
-    -- what is known of the terms holds of the board that a call is made on
-    pub at_board : (F : Opening → Type 0) → F (opening_in k.seen) → (m : SharedState T) → m ≡ b → F (opening_of_board m)
-    at_board F f m same = subst F (sym (ap opening_of_board same ∙ opening_found)) f
+  pub looked : event ≡ Look own → HasLooked k n
+  looked is = adds_as (λ j. Look j) is
 
-    -- what a call says of all entries that the board may stand for holds of those that were found
-    pub of_found : (F : Dataflow → State T → Type 0) → (m : SharedState T) → m ≡ b → ((es : List (Entry (BoardEvent T))) → StandsFor times cmp m es → F m.board.dataflow (left_by times m.board.dataflow es))
-        → {event : Event T} → {accepted : Option ℕ} → (n : Known (BoardEvent T)) → IsAfter times k found event accepted n → F (opening_in k.seen).dataflow (state_found times n)
-    of_found F m same says n after =
-        let here = says found (subst (λ (x : SharedState T). StandsFor times cmp x found) (sym same) t.stands) in
-        let known = subst (λ (x : Opening). F x.dataflow (left_by times x.dataflow found)) (ap opening_of_board same ∙ opening_found) here in
-        subst (λ (x : Opening × List (Entry (BoardEvent T))). F (opening_in k.seen).dataflow (left_by times x.0.dataflow x.1)) (λ i. (sym after.terms i, sym after.found_is i)) known
+  -- the invariant of an actor that has this pass back
+  pub kept : (now : Option ℕ) → now ≡ accepted → (n.hub ≡ hub) × (n.number ≡ own) × IsActor times n × ((m : ℕ) → now ≡ Some m → length (state_left times n).fed ≡ m)
+  kept now is = (a.same_hub, a.own_number, a.actor, λ m e. a.counted m (sym is ∙ e))
 
-    -- the board on which the call was made stands for what was found
-    pub stood_at : (m : SharedState T) → m ≡ b → StandsFor times cmp m found
-    stood_at m same = subst (λ (x : SharedState T). StandsFor times cmp x found) (sym same) t.stands
+module _ {T S : Type 0} {times : Times T} {cmp : T → T → Ordering} {hub : TableId} {own : ℕ} {k : Known (BoardEvent T)} {h : Tenure S (BoardEvent T)} {b : SharedState T} (t : IsIn times cmp hub own k h b) where
+  agrees : AgreesWith k h.found
+  agrees = t.tenure.2
 
+  -- the board that an actor finds is on the terms that it knows
+  pub opening_found : opening_of_board b ≡ opening_in k.seen
+  opening_found = knows_terms (opening_of_board b) agrees.0 k.seen (subst (λ (es : List (Entry (BoardEvent T))). AreOn (opening_of_board b) es) agrees.1 t.stands.on) t.actor.known
+
+  -- what is known of the terms, and of the actor's number, holds of the board
+  pub on_board : (F : Opening → ℕ → Type 0) → F (opening_in k.seen) k.number → F (opening_of_board b) own
+  on_board F f = subst (λ (x : Opening × ℕ). F x.0 x.1) (λ i. (sym opening_found i, t.own_number i)) f
+
+  pub is_actor : own < b.actors
+  is_actor = on_board (λ x j. j < x.actors) t.actor.actor
+
+  -- what a call says of all entries that the board may stand for holds of those that were found
+  pub of_found : (F : Dataflow → State T → Type 0) → ((es : List (Entry (BoardEvent T))) → StandsFor times cmp b es → F b.board.dataflow (left_by times b.board.dataflow es))
+      → {event : Event T} → {accepted : Option ℕ} → (n : Known (BoardEvent T)) → IsAfter times hub own k h.found event accepted n → F (opening_in k.seen).dataflow (state_found times n)
+  of_found F says n after =
+      let here = says h.found t.stands in
+      let known = subst (λ (x : Opening). F x.dataflow (left_by times x.dataflow h.found)) opening_found here in
+      subst (λ (x : Opening × List (Entry (BoardEvent T))). F (opening_in k.seen).dataflow (left_by times x.0.dataflow x.1)) (λ i. (sym after.terms i, sym after.found_is i)) known
+
+  -- the hand of a worker is as it left it
+  pub hand_found : own < b.board.dataflow.workers → (state_left times k).hand k.number ≡ None → get_or b.board.hand own None ≡ None
+  hand_found worker free =
+      let p = b.board.dataflow in
+      let apart = others_apart times p (opening_of_board b) k.number agrees.0 k.seen agrees.2 (subst (λ (es : List (Entry (BoardEvent T))). AreOn (opening_of_board b) es) agrees.1 t.stands.on) in
+      t.stands.stands.hand own worker
+      ∙ (ap (λ (es : List (Entry (BoardEvent T))). (left_by times p es).hand own) agrees.1
+      ∙ (ap (λ (j : ℕ). (left_by times p (agrees.0 ++ k.seen)).hand j) (sym t.own_number) ∙ (apart.hand ∙ (ap (λ (x : Opening). (left_by times x.dataflow k.seen).hand k.number) opening_found ∙ free))))
+
+  -- a give that was allowed when the worker left is allowed on the board that was found
+  pub give_found : (g : Emission T) (ts : List T) (sent : List (Bundle T)) → g.worker ≡ k.number
+      → IsGive times (opening_in k.seen).dataflow (state_left times k) g ts sent → IsGive times b.board.dataflow (left_by times b.board.dataflow h.found) g ts sent
+  give_found g ts sent its may =
+      let p = (opening_in k.seen).dataflow in
+      let apart = others_apart times p (opening_of_board b) g.worker agrees.0 k.seen (subst (λ n. NoneBy n agrees.0) (sym its) agrees.2) (subst (λ (es : List (Entry (BoardEvent T))). AreOn (opening_of_board b) es) agrees.1 t.stands.on) in
+      subst (λ (x : Opening × List (Entry (BoardEvent T))). IsGive times x.0.dataflow (left_by times x.0.dataflow x.1) g ts sent) (λ i. (sym opening_found i, sym agrees.1 i))
+      (give_apart times p (state_left times k) (left_by times p (agrees.0 ++ k.seen)) g ts sent apart may)
+
+  -- the call left this board, which stands for one entry more
+  module _ (c : SharedState T) (terms : opening_of_board c ≡ opening_of_board b) (next : StandsFor times cmp c (entry own (doing (opening_of_board b) c.board.last) ∷ h.found)) (last : BoardEvent T) (is : last ≡ doing_on c) where
     -- the board may be given back
-    pub leaves_with : (m c : SharedState T) (own : ℕ) → k.number ≡ own → opening_of_board c ≡ opening_of_board m → StandsFor times cmp c (entry own (doing (opening_of_board m) c.board.last) ∷ found) → StandsFor times cmp c (entry number (doing (opening_of_board c) c.board.last) ∷ found)
-    leaves_with m c own e terms next = subst (λ (x : Opening × ℕ). StandsFor times cmp c (entry x.1 (doing x.0 c.board.last) ∷ found)) (λ i. (sym terms i, (sym e ∙ sym t.its_number) i)) next
+    pub leaves : StandsFor times cmp c (entry h.number last ∷ h.found)
+    leaves = subst (λ (x : ℕ × BoardEvent T). StandsFor times cmp c (entry x.0 x.1 ∷ h.found)) (λ i. ((sym t.own_number ∙ sym t.tenure.1) i, (ap (λ (x : Opening). doing x c.board.last) (sym terms) ∙ sym is) i)) next
 
-    pub leaves : (m c : SharedState T) (own : ℕ) → m ≡ b → k.number ≡ own → opening_of_board c ≡ opening_of_board m → ((es : List (Entry (BoardEvent T))) → StandsFor times cmp m es → StandsFor times cmp c (entry own (doing (opening_of_board m) c.board.last) ∷ es))
-        → StandsFor times cmp c (entry number (doing (opening_of_board c) c.board.last) ∷ found)
-    leaves m c own same e terms next = leaves_with m c own e terms (next found (stood_at m same))
-
-    -- the call of the tenure was made on m by this actor, and left c
-    pub after_with : (m c : SharedState T) (own : ℕ) → m ≡ b → k.number ≡ own → opening_of_board c ≡ opening_of_board m → StandsFor times cmp c (entry own (doing (opening_of_board m) c.board.last) ∷ found)
-        → (n : Known (BoardEvent T)) → n ≡ record { hub = hub; number = number; seen = entry number (doing (opening_of_board c) c.board.last) ∷ found } → IsAfter times k found c.board.last c.accepted n
-    after_with m c own same e terms next n is_n =
+    pub after : (n : Known (BoardEvent T)) → n ≡ record { hub = h.hub; number = h.number; seen = entry h.number last ∷ h.found } → IsAfter times hub own k h.found c.board.last c.accepted n
+    after n is_n =
         let event = c.board.last in
-        let all : opening_of_board c ≡ opening_in k.seen = terms ∙ (ap opening_of_board same ∙ opening_found) in
-        let known : n ≡ record { hub = k.hub; number = k.number; seen = entry k.number (doing (opening_in k.seen) event) ∷ found } = is_n ∙ (λ i. record { hub = t.its_hub i; number = t.its_number i; seen = entry (t.its_number i) (doing (all i) event) ∷ found }) in
-        let here = subst (λ (x : Opening × ℕ). StandsFor times cmp c (entry x.1 (doing x.0 event) ∷ found)) (λ i. ((ap opening_of_board same ∙ opening_found) i, sym e i)) next in
-        subst (IsAfter times k found event c.accepted) (sym known) (record {
-          same_hub = refl;
-          same_number = refl;
+        let all : opening_of_board c ≡ opening_in k.seen = terms ∙ opening_found in
+        let known : n ≡ record { hub = k.hub; number = k.number; seen = entry k.number (doing (opening_in k.seen) event) ∷ h.found }
+        = is_n ∙ (λ i. record { hub = t.tenure.0 i; number = t.tenure.1 i; seen = entry (t.tenure.1 i) ((is ∙ ap (λ (x : Opening). doing x event) all) i) ∷ h.found }) in
+        let here = subst (λ (x : Opening × ℕ). StandsFor times cmp c (entry x.1 (doing x.0 event) ∷ h.found)) (λ i. (opening_found i, sym t.own_number i)) next in
+        subst (IsAfter times hub own k h.found event c.accepted) (sym known) (record {
+          old_number = t.own_number;
+          same_hub = t.same_hub;
+          own_number = t.own_number;
           adds = record {
-            others = t.agrees.0;
-            apart = t.agrees.2;
-            new_is = λ i. record { hub = k.hub; number = k.number; seen = entry k.number (doing (opening_in k.seen) event) ∷ t.agrees.1 i };
+            others = agrees.0;
+            apart = agrees.2;
+            new_is = λ i. record { hub = k.hub; number = k.number; seen = entry k.number (doing (opening_in k.seen) event) ∷ agrees.1 i };
           };
           actor = record {
-            known = subst (λ (x : Opening). AreOn x (entry k.number (doing (opening_in k.seen) event) ∷ found)) all here.on;
+            known = subst (λ (x : Opening). AreOn x (entry k.number (doing (opening_in k.seen) event) ∷ h.found)) all here.on;
             dataflow = subst (λ (x : Opening). IsDataflow x.dataflow) all here.dataflow;
-            legal = subst (λ (x : Opening). IsLegal times x.dataflow (event ∷ events found)) all here.stands.legal;
-            wide = subst (λ (x : Opening). HasWidths x.dataflow (left_by times x.dataflow (entry k.number (doing (opening_in k.seen) event) ∷ found))) all here.wide;
+            legal = subst (λ (x : Opening). IsLegal times x.dataflow (event ∷ events h.found)) all here.stands.legal;
+            wide = subst (λ (x : Opening). HasWidths x.dataflow (left_by times x.dataflow (entry k.number (doing (opening_in k.seen) event) ∷ h.found))) all here.wide;
             actor = t.actor.actor;
           };
-          counted = λ j f. ap (λ (x : Opening). length (left_by times x.dataflow (entry k.number (doing (opening_in k.seen) event) ∷ found)).fed) (sym all) ∙ here.counted j f;
+          counted = λ j f. ap (λ (x : Opening). length (left_by times x.dataflow (entry k.number (doing (opening_in k.seen) event) ∷ h.found)).fed) (sym all) ∙ here.counted j f;
           terms = refl;
           found_is = refl;
         })
 
-    pub after_tenure : (m c : SharedState T) (own : ℕ) → m ≡ b → k.number ≡ own → opening_of_board c ≡ opening_of_board m → ((es : List (Entry (BoardEvent T))) → StandsFor times cmp m es → StandsFor times cmp c (entry own (doing (opening_of_board m) c.board.last) ∷ es))
-        → (n : Known (BoardEvent T)) → n ≡ record { hub = hub; number = number; seen = entry number (doing (opening_of_board c) c.board.last) ∷ found } → IsAfter times k found c.board.last c.accepted n
-    after_tenure m c own same e terms next n is_n = after_with m c own same e terms (next found (stood_at m same)) n is_n
-
-    -- what waits on the board that the call left waits in the state that the actor leaves
-    pub waits_left : (m c : SharedState T) (own : ℕ) → m ≡ b → k.number ≡ own → opening_of_board c ≡ opening_of_board m → ((es : List (Entry (BoardEvent T))) → StandsFor times cmp m es → StandsFor times cmp c (entry own (doing (opening_of_board m) c.board.last) ∷ es))
-        → (n : Known (BoardEvent T)) → n ≡ record { hub = hub; number = number; seen = entry number (doing (opening_of_board c) c.board.last) ∷ found } → (more : Bool) (node worker : ℕ) → WaitsOrNot more node worker c.board.stations → WaitsOrNotIn more node worker (state_left times n)
-    waits_left m c own same e terms next n is_n more node worker waits =
-        let here = next found (stood_at m same) in
+    -- what waits on the board waits in the state that the actor leaves
+    pub waits_left : (n : Known (BoardEvent T)) → n ≡ record { hub = h.hub; number = h.number; seen = entry h.number last ∷ h.found } → (more : Bool) (node worker : ℕ) → WaitsOrNot more node worker c.board.stations → WaitsOrNotIn more node worker (state_left times n)
+    waits_left n is_n more node worker waits =
+        let known : n ≡ record { hub = h.hub; number = h.number; seen = entry h.number (doing_on c) ∷ h.found } = is_n ∙ (λ i. record { hub = h.hub; number = h.number; seen = entry h.number (is i) ∷ h.found }) in
         let queues : (site : Site) → queue_of c.board.stations site ≡ queue site (state_left times n).in_flight
-        = λ site. here.stands.queues site ∙ ap (λ (x : Known (BoardEvent T)). queue site (state_left times x).in_flight) (sym is_n) in (
+        = λ site. next.stands.queues site ∙ ap (λ (x : Known (BoardEvent T)). queue site (state_left times x).in_flight) (sym known) in (
           λ some. let x = waits.0 some in (x.0, subst (λ bs. 0 < length bs) (queues (place node x.0 worker)) x.1),
           λ none port. sym (queues (place node port worker)) ∙ waits.1 none port,
         )
 
-    -- the hand of a worker is as it left it
-    pub hand_found : (m : SharedState T) → m ≡ b → (own : ℕ) → k.number ≡ own → own < m.board.dataflow.workers → (state_left times k).hand k.number ≡ None → get_or m.board.hand own None ≡ None
-    hand_found m same own e worker free =
-        let p = m.board.dataflow in
-        let stands = subst (λ (x : SharedState T). StandsFor times cmp x found) (sym same) t.stands in
-        let terms : opening_of_board m ≡ opening_in k.seen = ap opening_of_board same ∙ opening_found in
-        let apart = others_apart times p (opening_of_board m) k.number t.agrees.0 k.seen t.agrees.2 (subst (λ (es : List (Entry (BoardEvent T))). AreOn (opening_of_board m) es) t.agrees.1 stands.on) in
-        stands.stands.hand own worker
-        ∙ (ap (λ (es : List (Entry (BoardEvent T))). (left_by times p es).hand own) t.agrees.1
-        ∙ (ap (λ (n : ℕ). (left_by times p (t.agrees.0 ++ k.seen)).hand n) (sym e) ∙ (apart.hand ∙ (ap (λ (x : Opening). (left_by times x.dataflow k.seen).hand k.number) terms ∙ free))))
+-- the call was one event, and left this board
+module _ {T S : Type 0} {times : Times T} {cmp : T → T → Ordering} {hub : TableId} {own : ℕ} {k : Known (BoardEvent T)} {h : Tenure S (BoardEvent T)} {b c : SharedState T} (t : IsIn times cmp hub own k h b) (e : IsOneEvent times cmp b c own) where
+  pub one_leaves : (last : BoardEvent T) → last ≡ doing_on c → StandsFor times cmp c (entry h.number last ∷ h.found)
+  one_leaves last is = leaves t c e.terms (e.stands h.found t.stands) last is
 
-    -- a give that was allowed when the worker left is allowed on the board that was found
-    pub give_found : (m : SharedState T) → m ≡ b → (g : Emission T) (ts : List T) (sent : List (Bundle T)) → g.worker ≡ k.number
-        → IsGive times (opening_in k.seen).dataflow (state_left times k) g ts sent → IsGive times m.board.dataflow (left_by times m.board.dataflow found) g ts sent
-    give_found m same g ts sent own may =
-        let p = (opening_in k.seen).dataflow in
-        let stands = subst (λ (x : SharedState T). StandsFor times cmp x found) (sym same) t.stands in
-        let terms : opening_of_board m ≡ opening_in k.seen = ap opening_of_board same ∙ opening_found in
-        let apart = others_apart times p (opening_of_board m) g.worker t.agrees.0 k.seen (subst (λ n. NoneBy n t.agrees.0) (sym own) t.agrees.2) (subst (λ (es : List (Entry (BoardEvent T))). AreOn (opening_of_board m) es) t.agrees.1 stands.on) in
-        subst (λ (x : Opening × List (Entry (BoardEvent T))). IsGive times x.0.dataflow (left_by times x.0.dataflow x.1) g ts sent) (λ i. (sym terms i, sym t.agrees.1 i))
-        (give_apart times p (state_left times k) (left_by times p (t.agrees.0 ++ k.seen)) g ts sent apart may)
+  pub after_one : (last : BoardEvent T) → last ≡ doing_on c → (n : Known (BoardEvent T)) → n ≡ record { hub = h.hub; number = h.number; seen = entry h.number last ∷ h.found } → IsAfter times hub own k h.found c.board.last c.accepted n
+  after_one last is n is_n = after t c e.terms (e.stands h.found t.stands) last is n is_n
 
 module _ {T : Type 0} (times : Times T) (cmp : T → T → Ordering) where
   -- what holds of a pass after its first tenure

@@ -1,68 +1,131 @@
--- What an actor knows when it has entered without waiting, and how its calls end.
-use Rattle.std.proofs.Common.{◌≡◌, ℕ, List, Option, Some, None, subst, inr}
+-- What an actor knows once it has entered, and how its calls end.
+use Rattle.std.proofs.Common.{◌≡◌, ℕ, List, ◌∷◌, ◌++◌, Option, Some, None, length, subst, sym, ap, ◌∙◌, inr}
 use Rattle.std.specs.Prelude.{Result, Ok, Err, IfOk, IfErr, IfSome, OnOk, OnErr, IsSomeAnd}
 use Rattle.std.specs.Option.{unwrap_or}
 use Rattle.std.specs.declared.cmp.Ordering.{Ordering}
 use Rattle.atomic_table.specs.Seated.{TableId}
 use Rattle.update.specs.Bags.{Alike, IsBag, Entry as BagEntry}
+use Rattle.update.specs.Refusals.{IsRefusalBy}
 use Rattle.update.specs.declared.change.Update.{Update}
 use Rattle.update.specs.declared.refusal.Refusal.{Refusal}
+use Rattle.plan.specs.Changes.{AreDifferences, query_at}
 use Rattle.hub.specs.declared.view.Entry.{Entry}
+use Rattle.hub.specs.Histories.{entry}
 use Rattle.hub.specs.Known.{Known, Tenure}
 use Rattle.hub.specs.Tenures.{IsTenureOf}
 use Rattle.histories.specs.declared.event.Event.{Event}
+use Rattle.histories.specs.declared.event.Event.TheVariants.{Look}
+use Rattle.histories.specs.Histories.Dataflows.{Dataflow}
+use Rattle.histories.specs.Histories.Outstanding.{frontier}
+use Rattle.histories.specs.Histories.Promises.{changes_in}
+use Rattle.histories.specs.Histories.States.{State}
 use Rattle.shared_board.specs.declared.event.BoardEvent.{BoardEvent}
-use Rattle.shared_board.specs.Calls.{AreListed, HasLooked, IsAnswered, IsAnsweredInTurn, IsDone, IsDoneInTurn, IsRead}
-use Rattle.shared_board.specs.Found.{AreDifferencesFound, changes_refusal_found, query_found, read_refusal_found}
-use Rattle.shared_board.specs.Tenures.{IsNextTenure, IsActor, SharedState, StandsFor}
-use Rattle.shared_board.proofs.ActorLemmas.{IsIn}
+use Rattle.shared_board.specs.Calls.{AreListed, IsAnswered, IsAnsweredInTurn, IsDone, IsDoneInTurn, IsRead}
+use Rattle.shared_board.specs.Found.{IsChangesRefusalFound, IsReadRefusalFound}
+use Rattle.shared_board.specs.Large.{HasNoSmallBound}
+use Rattle.shared_board.specs.Tenures.{IsActor, Opening, SharedState, StandsFor, IsReadRefusalIn, IsChangesRefusalIn, changes_refusal_in, doing, left_by, opening_in, opening_of_board, read_refusal_in, state_found, state_left}
+use Rattle.shared_board.proofs.ActorLemmas.{IsIn, IsAfter, adds_as, looked, of_found, opening_found}
 use Rattle.lattice.specs.Times.{Times}
 
-module _ {T : Type 0} (times : Times T) (cmp : T → T → Ordering) where
-  -- an actor of this hub and number has entered, and found this board
-  pub record HasEntered (hub : TableId) (own : ℕ) (k : Known (BoardEvent T)) (b : SharedState T) (its_hub : TableId) (number : ℕ) (found : List (Entry (BoardEvent T))) : Type 0 where
-    pub same_hub : k.hub ≡ hub
-    pub own_number : k.number ≡ own
-    pub within : IsIn times cmp k b its_hub number found
-
-  pub entered : {S : Type 0} (o : Option (Known (BoardEvent T))) (d k : Known (BoardEvent T)) (hub : TableId) (own : ℕ) (Q : Known (BoardEvent T) → Type 0)
+module _ {T S : Type 0} (times : Times T) (cmp : T → T → Ordering) where
+  -- an actor that has entered with the pass that lay in it is in a tenure
+  pub entered : (o : Option (Known (BoardEvent T))) (d k : Known (BoardEvent T)) (hub : TableId) (own : ℕ) (Q : Known (BoardEvent T) → Type 0)
       → IsSomeAnd o (λ p. (p.hub ≡ hub) × (p.number ≡ own) × IsActor times p × Q p) → unwrap_or o d ≡ k
-      → (t : Tenure S (BoardEvent T)) → IfSome o (λ p. IsTenureOf p t) → (b : SharedState T) → StandsFor times cmp b t.found
-      → HasEntered hub own k b t.hub t.number t.found
-  entered None d k hub own Q there is t of b stands = absurd there
-  entered (Some p) d k hub own Q there is t of b stands =
-      subst (λ (x : Known (BoardEvent T)). HasEntered hub own x b t.hub t.number t.found) is (record {
-        same_hub = there.0;
-        own_number = there.1;
-        within = record { actor = there.2; its_hub = of.0; its_number = of.1; agrees = of.2; stands = stands };
-      })
+      → (h : Tenure S (BoardEvent T)) → IfSome o (λ p. IsTenureOf p h) → (m b : SharedState T) → StandsFor times cmp b h.found → m ≡ b
+      → IsIn times cmp hub own k h m
+  entered None d k hub own Q there is h of m b stands same = absurd there
+  entered (Some p) d k hub own Q there is h of m b stands same =
+      subst (λ (x : Known (BoardEvent T) × SharedState T). IsIn times cmp hub own x.0 h x.1) (λ i. (is i, sym same i))
+      (record { same_hub = there.0; own_number = there.1; actor = there.2; tenure = of; stands = stands })
 
+  -- the same, of the pass that was taken out
+  pub entered_by : (o : Option (Known (BoardEvent T))) (p d k : Known (BoardEvent T)) (hub : TableId) (own : ℕ) (Q : Known (BoardEvent T) → Type 0) → o ≡ Some p
+      → IsSomeAnd o (λ p. (p.hub ≡ hub) × (p.number ≡ own) × IsActor times p × Q p) → unwrap_or o d ≡ k
+      → (h : Tenure S (BoardEvent T)) → IsTenureOf p h → (m b : SharedState T) → StandsFor times cmp b h.found → m ≡ b
+      → IsIn times cmp hub own k h m
+  entered_by o p d k hub own Q lay there is h of m b stands same =
+      entered o d k hub own Q there is h (subst (λ (x : Option (Known (BoardEvent T))). IfSome x (λ q. IsTenureOf q h)) (sym lay) of) m b stands same
+
+module _ {T : Type 0} (times : Times T) where
+  -- what more the invariant of an actor says holds of what it knows
+  pub remembered : (o : Option (Known (BoardEvent T))) (d k : Known (BoardEvent T)) (hub : TableId) (own : ℕ) (Q : Known (BoardEvent T) → Type 0)
+      → IsSomeAnd o (λ p. (p.hub ≡ hub) × (p.number ≡ own) × IsActor times p × Q p) → unwrap_or o d ≡ k → Q k
+  remembered None d k hub own Q there is = absurd there
+  remembered (Some p) d k hub own Q there is = subst Q is there.3
+
+-- a worker that tells its cause leaves a board that stands for its look
+module _ {T S : Type 0} {times : Times T} {cmp : T → T → Ordering} {hub : TableId} {own : ℕ} {k : Known (BoardEvent T)} {h : Tenure S (BoardEvent T)} {b : SharedState T} (t : IsIn times cmp hub own k h b) where
+  pub told : (c : SharedState T) (count : Option ℕ) → ((n : ℕ) → count ≡ Some n → length (state_left times k).fed ≡ n)
+      → HasNoSmallBound times cmp (opening_in k.seen).dataflow.nodes (changes_in (state_left times k))
+      → ((es : List (Entry (BoardEvent T))) → StandsFor times cmp b es → (later earlier : List (Entry (BoardEvent T))) → es ≡ later ++ earlier
+      → ((n : ℕ) → count ≡ Some n → length (left_by times b.board.dataflow earlier).fed ≡ n)
+      → HasNoSmallBound times cmp b.board.dataflow.nodes (changes_in (left_by times b.board.dataflow earlier))
+      → StandsFor times cmp c (entry own (doing (opening_of_board b) c.board.last) ∷ es))
+      → StandsFor times cmp c (entry own (doing (opening_of_board b) c.board.last) ∷ h.found)
+  told c count counted cause tells = tells h.found t.stands t.tenure.2.0 k.seen t.tenure.2.1
+      (λ n e. ap (λ (x : Opening). length (left_by times x.dataflow k.seen).fed) (opening_found t) ∙ counted n e)
+      (subst (λ (x : Opening). HasNoSmallBound times cmp x.dataflow.nodes (changes_in (left_by times x.dataflow k.seen))) (sym (opening_found t)) cause)
+
+-- how a call in the actor's turn ends
+module _ {T S : Type 0} {times : Times T} {cmp : T → T → Ordering} {hub : TableId} {own : ℕ} {k n : Known (BoardEvent T)} {h : Tenure S (BoardEvent T)} {b : SharedState T} {event : Event T} {accepted : Option ℕ}
+    (t : IsIn times cmp hub own k h b) (a : IsAfter times hub own k h.found event accepted n) where
+  -- what a clause of the board's call says of all entries that the board may stand for
+  abbrev pub Says : (Dataflow → State T → Type 0) → Type 0
+  Says F = (es : List (Entry (BoardEvent T))) → StandsFor times cmp b es → F b.board.dataflow (left_by times b.board.dataflow es)
+
+  found_so : (F : Dataflow → State T → Type 0) → Says F → F (opening_in k.seen).dataflow (state_found times n)
+  found_so F says = of_found t F says n a
+
+  -- the same, where the board was first asked and then called
+  pub found_at : (F : Dataflow → State T → Type 0) (x : SharedState T) → x ≡ b → ((es : List (Entry (BoardEvent T))) → StandsFor times cmp x es → F x.board.dataflow (left_by times x.board.dataflow es))
+      → F (opening_in k.seen).dataflow (state_found times n)
+  found_at F x same says = found_so F (subst (λ (y : SharedState T). (es : List (Entry (BoardEvent T))) → StandsFor times cmp y es → F y.board.dataflow (left_by times y.board.dataflow es)) same says)
+
+  pub done_in_turn : (at : ℕ → Event T) (fault : Dataflow → State T → Option Refusal) (r : Result (Unit {0}) Refusal) → OnOk r (event ≡ at own) → OnErr r (event ≡ Look own)
+      → Says (λ p w. OnOk r (fault p w ≡ None)) → Says (λ p w. IfErr r (IsRefusalBy (fault p w)))
+      → IsDoneInTurn k n (at k.number) (fault (opening_in k.seen).dataflow (state_found times n)) (IsRefusalBy (fault (opening_in k.seen).dataflow (state_found times n))) r
+  done_in_turn at fault (Ok x) did looks accepts refuses = (adds_as a at did, found_so (λ p w. fault p w ≡ None) accepts)
+  done_in_turn at fault (Err x) did looks accepts refuses = (looked a looks, found_so (λ p w. IsRefusalBy (fault p w) x) refuses)
+
+  pub answered_in_turn : {A : Type 0} (Found : Dataflow → State T → A → Type 0) (Refused : Refusal → Type 0) (r : Result A Refusal) → event ≡ Look own
+      → Says (λ p w. IfOk r (Found p w)) → IfErr r Refused
+      → IsAnsweredInTurn k n (Found (opening_in k.seen).dataflow (state_found times n)) Refused r
+  answered_in_turn Found Refused (Ok x) looks finds refuses = (looked a looks, found_so (λ p w. Found p w x) finds)
+  answered_in_turn Found Refused (Err x) looks finds refuses = (looked a looks, refuses)
+
+  pub read_in_turn : (v : ℕ) (x : T) (r : Result (List BagEntry) Refusal) → event ≡ Look own
+      → Says (λ p w. OnOk r (read_refusal_in times p w v x ≡ None)) → IfOk r IsBag → Says (λ p w. IfOk r (λ bag. Alike bag (query_at times p.nodes (changes_in w) v x)))
+      → Says (λ p w. IfErr r (IsReadRefusalIn times p w v x))
+      → IsAnsweredInTurn k n (λ bag. IsRead times k n v x bag) (IsReadRefusalFound times k n v x) r
+  read_in_turn v x (Ok bag) looks accepts is_bag query refuses = (
+    looked a looks,
+    record {
+      accepted = found_so (λ p w. read_refusal_in times p w v x ≡ None) accepts;
+      is_bag = is_bag;
+      query = found_so (λ p w. Alike bag (query_at times p.nodes (changes_in w) v x)) query;
+    },
+  )
+  read_in_turn v x (Err e) looks accepts is_bag query refuses = (looked a looks, found_so (λ p w. IsReadRefusalIn times p w v x e) refuses)
+
+  pub listed_in_turn : {V : Type 0} (items : V → List (Update T)) (v : ℕ) (r : Result V Refusal) → event ≡ Look own
+      → Says (λ p w. OnOk r (changes_refusal_in times w v ≡ None)) → Says (λ p w. IfOk r (λ us. AreDifferences times cmp p.nodes (changes_in w) (frontier times p w v) v (items us)))
+      → Says (λ p w. IfErr r (IsChangesRefusalIn times p w v))
+      → IsAnsweredInTurn k n (λ us. AreListed times k n cmp v (items us)) (IsChangesRefusalFound times k n v) r
+  listed_in_turn items v (Ok us) looks accepts differences refuses = (
+    looked a looks,
+    record {
+      accepted = found_so (λ p w. changes_refusal_in times w v ≡ None) accepts;
+      differences = found_so (λ p w. AreDifferences times cmp p.nodes (changes_in w) (frontier times p w v) v (items us)) differences;
+    },
+  )
+  listed_in_turn items v (Err e) looks accepts differences refuses = (looked a looks, found_so (λ p w. IsChangesRefusalIn times p w v e) refuses)
+
+-- a call that found the board at home ends as in the actor's turn
 module _ {T : Type 0} (old new : Known (BoardEvent T)) where
-  pub done_in_turn : (event : Event T) (fault : Option Refusal) (Refused : Refusal → Type 0) (r : Result (Unit {0}) Refusal)
-      → OnOk r (IsNextTenure old event new) → OnErr r (HasLooked old new) → OnOk r (fault ≡ None) → IfErr r Refused → IsDoneInTurn old new event fault Refused r
-  done_in_turn event fault Refused (Ok x) adds looked accepted refused = (adds, accepted)
-  done_in_turn event fault Refused (Err x) adds looked accepted refused = (looked, refused)
+  pub done : (event : Event T) (fault : Option Refusal) (Refused : Refusal → Type 0) (r : Result (Unit {0}) Refusal) → IsDoneInTurn old new event fault Refused r → IsDone old new event fault Refused r
+  done event fault Refused (Ok x) ends = ends
+  done event fault Refused (Err x) ends = inr ends
 
-  pub done : (event : Event T) (fault : Option Refusal) (Refused : Refusal → Type 0) (r : Result (Unit {0}) Refusal)
-      → OnOk r (IsNextTenure old event new) → OnErr r (HasLooked old new) → OnOk r (fault ≡ None) → IfErr r Refused → IsDone old new event fault Refused r
-  done event fault Refused (Ok x) adds looked accepted refused = (adds, accepted)
-  done event fault Refused (Err x) adds looked accepted refused = inr (looked, refused)
-
-  pub answered_in_turn : {A : Type 0} (Found : A → Type 0) (Refused : Refusal → Type 0) (r : Result A Refusal) → HasLooked old new → IfOk r Found → IfErr r Refused → IsAnsweredInTurn old new Found Refused r
-  answered_in_turn Found Refused (Ok x) looked found refused = (looked, found)
-  answered_in_turn Found Refused (Err x) looked found refused = (looked, refused)
-
-  pub answered : {A : Type 0} (Found : A → Type 0) (Refused : Refusal → Type 0) (r : Result A Refusal) → HasLooked old new → IfOk r Found → IfErr r Refused → IsAnswered old new Found Refused r
-  answered Found Refused (Ok x) looked found refused = (looked, found)
-  answered Found Refused (Err x) looked found refused = inr (looked, refused)
-
-module _ {T : Type 0} (times : Times T) (old new : Known (BoardEvent T)) (v : ℕ) where
-  pub read_of : (t : T) (r : Result (List BagEntry) Refusal) → OnOk r (read_refusal_found times old new v t ≡ None) → IfOk r IsBag → IfOk r (λ bag. Alike bag (query_found times old new v t))
-      → IfOk r (λ bag. IsRead times old new v t bag)
-  read_of t (Ok bag) accepted is_bag query = record { accepted = accepted; is_bag = is_bag; query = query }
-  read_of t (Err x) accepted is_bag query = tt
-
-  pub listed_of : {V : Type 0} (items : V → List (Update T)) (cmp : T → T → Ordering) (r : Result V Refusal) → OnOk r (changes_refusal_found times old new v ≡ None)
-      → IfOk r (λ us. AreDifferencesFound times old new cmp v (items us)) → IfOk r (λ us. AreListed times old new cmp v (items us))
-  listed_of items cmp (Ok us) accepted differences = record { accepted = accepted; differences = differences }
-  listed_of items cmp (Err x) accepted differences = tt
+  pub answered : {A : Type 0} (Found : A → Type 0) (Refused : Refusal → Type 0) (r : Result A Refusal) → IsAnsweredInTurn old new Found Refused r → IsAnswered old new Found Refused r
+  answered Found Refused (Ok x) ends = ends
+  answered Found Refused (Err x) ends = inr ends

@@ -7,24 +7,21 @@ use Rattle.std.proofs.lemmas.List.{length-append}
 use Rattle.hub.specs.declared.view.Entry.{Entry}
 use Rattle.hub.specs.Histories.{entry}
 use Rattle.update.specs.declared.refusal.Refusal.{Refusal}
-use Rattle.plan.specs.Rules.{first_refusal}
 use Rattle.histories.specs.declared.event.Event.{Event}
 use Rattle.histories.specs.declared.event.Event.TheVariants.{Feed, Look, Advance, Allow, Take, TakeHeld, Give}
 use Rattle.histories.specs.declared.event.Bundle.{Bundle}
 use Rattle.histories.specs.declared.event.Emission.{Emission}
 use Rattle.histories.specs.declared.event.Fed.{Fed}
 use Rattle.histories.specs.Histories.Dataflows.{Dataflow, IsDataflow}
-use Rattle.histories.specs.Histories.States.{fed_to}
-use Rattle.histories.specs.Histories.{actor_of, next_state, IsAllowed}
+use Rattle.histories.specs.Histories.States.{State, fed_to}
+use Rattle.histories.specs.Histories.{actor_of, next_state, state_after, IsAllowed, IsGive}
 use Rattle.histories.specs.Histories.Promises.{changes_in}
-use Rattle.outstanding.specs.Inputs.{feed_faults, advance_faults}
-use Rattle.machine.specs.Boards as boards
 use Rattle.machine.specs.Boards.{BoardState, Stands, after_look, after_feed, after_advance, after_allow, after_take, after_turn, after_give}
 use Rattle.shared_board.specs.declared.event.BoardEvent.{BoardEvent}
 use Rattle.shared_board.specs.Large.{HasNoSmallBound}
 use Rattle.shared_board.specs.Widths.{are_wide_for, HasWidths, IsSentWide}
 use Rattle.shared_board.proofs.WidthLemmas.{widths_after}
-use Rattle.shared_board.specs.Tenures.{Opening, SharedState, events, opening_of_board, doing, is_change, AreOn, left_by, StandsFor, feed_refusal_in, advance_refusal_in, allow_refusal_in}
+use Rattle.shared_board.specs.Tenures.{IsOneEvent, Opening, SharedState, events, opening_of_board, doing, is_change, AreOn, left_by, StandsFor}
 use Rattle.lattice.specs.Times.{Times}
 
 true_among : (a b : Bool) → (a || b) ≡ true → (a ≡ true) ⊎ (b ≡ true)
@@ -71,81 +68,114 @@ module _ {T : Type 0} (times : Times T) (cmp : T → T → Ordering) where
     large = λ e. subst (λ (fs : List (Fed T)). HasNoSmallBound times cmp b.board.dataflow.nodes (λ i. fed_to i fs)) (sym same) (old.large (subst IsTrue large e));
   })
 
-  -- ---- the events of clients
-
   -- the board goes on to stand for its last event too
   abbrev pub Extends : BoardState T → BoardState T → Type 0
   Extends b c = (h : List (Event T)) → Stands times b h → Stands times c (c.last ∷ h)
 
-  -- after this change of the board alone, the entry of its last event is right
-  abbrev pub GoesOn : SharedState T → BoardState T → ℕ → Type 0
-  GoesOn b c actor = Extends b.board c → (es : List (Entry (BoardEvent T))) → StandsFor times cmp b es → StandsFor times cmp (record b { board = c }) (entry actor (doing (opening_of_board b) c.last) ∷ es)
+  -- of a board as a call keeps it, and as its clauses see it
+  module _ {b s : SharedState T} (seen : b ≡ s) where
+    -- a clause on all entries that the board may stand for
+    pub in_view : (F : Dataflow → State T → Type 0) → ((es : List (Entry (BoardEvent T))) → StandsFor times cmp b es → F b.board.dataflow (left_by times b.board.dataflow es))
+        → (es : List (Entry (BoardEvent T))) → StandsFor times cmp s es → F s.board.dataflow (left_by times s.board.dataflow es)
+    in_view F says = subst (λ (x : SharedState T). (es : List (Entry (BoardEvent T))) → StandsFor times cmp x es → F x.board.dataflow (left_by times x.board.dataflow es)) seen says
 
-  pub looked : (b : SharedState T) (c : BoardState T) (actor : ℕ) → c ≡ after_look actor b.board → GoesOn b c actor
-  looked b c actor is = subst (λ (d : BoardState T). GoesOn b d actor) (sym is)
-      (λ extends es a. one_more_but_fed b (record b { board = after_look actor b.board }) actor (Look actor) es a refl refl (λ e. absurd (false≢true e)) (extends (events es) a.stands) tt refl refl refl)
+    -- what the board says of each history that it may stand for, it says of entries
+    pub of_history : (F : Dataflow → State T → Type 0) → ((h : List (Event T)) → Stands times b.board h → F b.board.dataflow (state_after times b.board.dataflow h))
+        → (es : List (Entry (BoardEvent T))) → StandsFor times cmp s es → F s.board.dataflow (left_by times s.board.dataflow es)
+    of_history F says = in_view F (λ es a. says (events es) a.stands)
 
-  -- a question that changes nothing, and then a look
-  pub asked : (b : SharedState T) (m c : BoardState T) (actor : ℕ) → m ≡ b.board → c ≡ after_look actor m → Extends m c
-      → (es : List (Entry (BoardEvent T))) → StandsFor times cmp b es → StandsFor times cmp (record b { board = c }) (entry actor (doing (opening_of_board b) c.last) ∷ es)
-  asked b m c actor kept is extends = looked b c actor (is ∙ ap (after_look actor) kept) (subst (λ (d : BoardState T). Extends d c) kept extends)
+    is_actor : (actor : ℕ) → actor < s.actors → actor < b.actors
+    is_actor actor h = subst (λ (x : SharedState T). actor < x.actors) (sym seen) h
 
-  pub closed : (b : SharedState T) (c : BoardState T) (client i : ℕ) → client < b.actors → c ≡ after_advance client i [] b.board → GoesOn b c client
-  closed b c client i there is = subst (λ (d : BoardState T). GoesOn b d client) (sym is)
-      (λ extends es a. one_more_but_fed b (record b { board = after_advance client i [] b.board }) client (Advance client i []) es a refl refl (λ _. there) (extends (events es) a.stands) tt refl refl refl)
+    -- a change of the board alone, by an event that feeds nothing
+    goes_on_at : (c d : BoardState T) (actor : ℕ) → c ≡ d → opening_of_board (record b { board = d }) ≡ opening_of_board b → actor_of d.last ≡ actor → (IsTrue (is_change d.last) → actor < b.actors) → IsSentWide b.board.dataflow d.last
+        → ((w : State T) → (next_state times b.board.dataflow w d.last).fed ≡ w.fed)
+        → (es : List (Entry (BoardEvent T))) → StandsFor times cmp b es → Stands times c (c.last ∷ events es) → StandsFor times cmp (record b { board = c }) (entry actor (doing (opening_of_board b) c.last) ∷ es)
+    goes_on_at c d actor is terms own may wide same es a =
+        subst (λ (x : BoardState T). Stands times x (x.last ∷ events es) → StandsFor times cmp (record b { board = x }) (entry actor (doing (opening_of_board b) x.last) ∷ es)) (sym is)
+        (λ stands. one_more_but_fed b (record b { board = d }) actor d.last es a terms own may stands wide (same (left_by times b.board.dataflow es)) refl refl)
 
-  pub advanced : (b : SharedState T) (c : BoardState T) (client i : ℕ) (ts : List T) (r : Result (Unit {0}) Refusal) → client < b.actors
-      → OnOk r (c ≡ after_advance client i ts b.board) → OnErr r (c ≡ after_look client b.board) → GoesOn b c client
-  advanced b c client i ts (Err refusal) there done looks = looked b c client looks
-  advanced b c client i ts (Ok x) there done looks = subst (λ (d : BoardState T). GoesOn b d client) (sym done)
-      (λ extends es a. one_more_but_fed b (record b { board = after_advance client i ts b.board }) client (Advance client i ts) es a refl refl (λ _. there) (extends (events es) a.stands) tt refl refl refl)
+    goes_on : (c d : BoardState T) (actor : ℕ) → c ≡ d → opening_of_board (record b { board = d }) ≡ opening_of_board b → actor_of d.last ≡ actor → (IsTrue (is_change d.last) → actor < b.actors) → IsSentWide b.board.dataflow d.last
+        → ((w : State T) → (next_state times b.board.dataflow w d.last).fed ≡ w.fed) → Extends b.board c → IsOneEvent times cmp s (record b { board = c }) actor
+    goes_on c d actor is terms own may wide same extends =
+        subst (λ (x : SharedState T). IsOneEvent times cmp x (record b { board = c }) actor) seen (record {
+          terms = ap (λ (x : BoardState T). opening_of_board (record b { board = x })) is ∙ terms;
+          stands = λ es a. goes_on_at c d actor is terms own may wide same es a (extends (events es) a.stands);
+        })
 
-  pub allowed : (b : SharedState T) (c : BoardState T) (client v : ℕ) (ts : List T) (r : Result (Unit {0}) Refusal) → client < b.actors
-      → OnOk r (c ≡ after_allow client v ts b.board) → OnErr r (c ≡ after_look client b.board) → GoesOn b c client
-  allowed b c client v ts (Err refusal) there done looks = looked b c client looks
-  allowed b c client v ts (Ok x) there done looks = subst (λ (d : BoardState T). GoesOn b d client) (sym done)
-      (λ extends es a. one_more_but_fed b (record b { board = after_allow client v ts b.board }) client (Allow client v ts) es a refl refl (λ _. there) (extends (events es) a.stands) tt refl refl refl)
+    pub looked : (c : BoardState T) (actor : ℕ) → c ≡ after_look actor b.board → Extends b.board c → IsOneEvent times cmp s (record b { board = c }) actor
+    looked c actor is = goes_on c (after_look actor b.board) actor is refl refl (λ e. absurd (false≢true e)) tt (λ w. refl)
 
-  -- after a change that was counted, the entry of the board's last event is right
-  abbrev pub Counts : SharedState T → BoardState T → ℕ → Option ℕ → Type 0
-  Counts b c client counted = Extends b.board c → (es : List (Entry (BoardEvent T))) → StandsFor times cmp b es
-      → StandsFor times cmp (record { board = c; actors = b.actors; accepted = counted; too_large = false }) (entry client (doing (opening_of_board b) c.last) ∷ es)
+    -- a question that changes nothing, and then a look
+    pub asked : (m c : BoardState T) (actor : ℕ) → m ≡ b.board → c ≡ after_look actor m → Extends m c → IsOneEvent times cmp s (record b { board = c }) actor
+    asked m c actor kept is extends = looked c actor (is ∙ ap (after_look actor) kept) (subst (λ (d : BoardState T). Extends d c) kept extends)
 
-  pub accepted : (b : SharedState T) (c : BoardState T) (client : ℕ) (f : Fed T) (counted : Option ℕ) → client < b.actors → c ≡ after_feed client f b.board
-      → ((n : ℕ) → counted ≡ Some n → (m : ℕ) × (b.accepted ≡ Some m) × (n ≡ m + 1)) → Counts b c client counted
-  accepted b c client f counted there is one = subst (λ (d : BoardState T). Counts b d client counted) (sym is)
-      (λ extends es a. one_more b (record { board = after_feed client f b.board; actors = b.actors; accepted = counted; too_large = false }) client (Feed client f) es a (record {
-        terms = refl;
-        own = refl;
-        there = λ _. there;
-        stands = extends (events es) a.stands;
-        sent = tt;
-        counted = λ k e. let m = one k e in let before = a.counted m.0 m.1 in let after = m.2 in omega (arith, before, after);
-        large = λ e. absurd (false≢true e);
-      }))
+    -- ---- the events of clients
 
-  -- ---- the events of workers
+    pub closed : (c : BoardState T) (client i : ℕ) → client < s.actors → c ≡ after_advance client i [] b.board → Extends b.board c → IsOneEvent times cmp s (record b { board = c }) client
+    closed c client i h is = goes_on c (after_advance client i [] b.board) client is refl refl (λ _. is_actor client h) tt (λ w. refl)
 
-  pub taken : (b : SharedState T) (c : BoardState T) (worker number : ℕ) (bundle : Bundle T) → bundle.place.worker ≡ worker → c ≡ after_take number bundle b.board → GoesOn b c worker
-  taken b c worker number bundle own is = subst (λ (d : BoardState T). GoesOn b d worker) (sym is)
-      (λ extends es a. one_more_but_fed b (record b { board = after_take number bundle b.board }) worker (Take number bundle) es a refl own (λ e. absurd (false≢true e)) (extends (events es) a.stands) tt refl refl refl)
+    pub advanced : (c : BoardState T) (client i : ℕ) (ts : List T) (r : Result (Unit {0}) Refusal) → client < s.actors
+        → OnOk r (c ≡ after_advance client i ts b.board) → OnErr r (c ≡ after_look client b.board) → Extends b.board c → IsOneEvent times cmp s (record b { board = c }) client
+    advanced c client i ts (Err refusal) h done looks = looked c client looks
+    advanced c client i ts (Ok x) h done looks = goes_on c (after_advance client i ts b.board) client done refl refl (λ _. is_actor client h) tt (λ w. refl)
 
-  pub turned : (b : SharedState T) (m c : BoardState T) (worker node : ℕ) → m ≡ b.board → c ≡ after_turn worker node m → Extends m c
-      → (es : List (Entry (BoardEvent T))) → StandsFor times cmp b es → StandsFor times cmp (record b { board = c }) (entry worker (doing (opening_of_board b) c.last) ∷ es)
-  turned b m c worker node kept is extends = subst (λ (d : BoardState T). GoesOn b d worker) (sym (is ∙ ap (after_turn worker node) kept))
-      (λ extends es a. one_more_but_fed b (record b { board = after_turn worker node b.board }) worker (TakeHeld worker node) es a refl refl (λ e. absurd (false≢true e)) (extends (events es) a.stands) tt refl refl refl)
-      (subst (λ (d : BoardState T). Extends d c) kept extends)
+    pub allowed : (c : BoardState T) (client v : ℕ) (ts : List T) (r : Result (Unit {0}) Refusal) → client < s.actors
+        → OnOk r (c ≡ after_allow client v ts b.board) → OnErr r (c ≡ after_look client b.board) → Extends b.board c → IsOneEvent times cmp s (record b { board = c }) client
+    allowed c client v ts (Err refusal) h done looks = looked c client looks
+    allowed c client v ts (Ok x) h done looks = goes_on c (after_allow client v ts b.board) client done refl refl (λ _. is_actor client h) tt (λ w. refl)
 
-  -- the board goes on if the give is allowed
-  abbrev pub Gives : SharedState T → BoardState T → ℕ → Type 0
-  Gives b c worker = (es : List (Entry (BoardEvent T))) → StandsFor times cmp b es → Stands times c (c.last ∷ events es) → StandsFor times cmp (record b { board = c }) (entry worker (doing (opening_of_board b) c.last) ∷ es)
+    -- a change that was counted
+    pub accepted : (c : BoardState T) (client : ℕ) (f : Fed T) (counted : Option ℕ) → client < s.actors → c ≡ after_feed client f b.board
+        → ((n : ℕ) → counted ≡ Some n → (m : ℕ) × (b.accepted ≡ Some m) × (n ≡ m + 1)) → Extends b.board c
+        → IsOneEvent times cmp s (record { board = c; actors = b.actors; accepted = counted; too_large = false }) client
+    accepted c client f counted h is one extends =
+        let kept : BoardState T → SharedState T = λ x. record { board = x; actors = b.actors; accepted = counted; too_large = false } in
+        subst (λ (x : SharedState T). IsOneEvent times cmp x (kept c) client) seen
+        (subst (λ (d : BoardState T). Extends b.board d → IsOneEvent times cmp b (kept d) client) (sym is)
+        (λ extends. record {
+          terms = refl;
+          stands = λ es a. one_more b (kept (after_feed client f b.board)) client (Feed client f) es a (record {
+            terms = refl;
+            own = refl;
+            there = λ _. is_actor client h;
+            stands = extends (events es) a.stands;
+            sent = tt;
+            counted = λ k e. let m = one k e in let before = a.counted m.0 m.1 in let after = m.2 in omega (arith, before, after);
+            large = λ e. absurd (false≢true e);
+          });
+        })
+        extends)
 
-  pub gave : {X : Type 0} (b : SharedState T) (c : BoardState T) (g : Emission T) (held : List T) (sent : List (Bundle T)) (r : Result (Unit {0}) X)
-      → IsTrue (are_wide_for b.board.dataflow sent) → OnOk r (c ≡ after_give g held sent b.board) → OnErr r (c ≡ after_look g.worker b.board) → Gives b c g.worker
-  gave b c g held sent (Err refusal) wide done looks = subst (λ (d : BoardState T). Gives b d g.worker) (sym looks)
-      (λ es a stands. one_more_but_fed b (record b { board = after_look g.worker b.board }) g.worker (Look g.worker) es a refl refl (λ e. absurd (false≢true e)) stands tt refl refl refl)
-  gave b c g held sent (Ok x) wide done looks = subst (λ (d : BoardState T). Gives b d g.worker) (sym done)
-      (λ es a stands. one_more_but_fed b (record b { board = after_give g held sent b.board }) g.worker (Give g held sent) es a refl refl (λ e. absurd (false≢true e)) stands wide refl refl refl)
+    -- ---- the events of workers
+
+    pub taken : (c : BoardState T) (worker number : ℕ) (bundle : Bundle T) → bundle.place.worker ≡ worker → c ≡ after_take number bundle b.board → Extends b.board c → IsOneEvent times cmp s (record b { board = c }) worker
+    taken c worker number bundle own is = goes_on c (after_take number bundle b.board) worker is refl own (λ e. absurd (false≢true e)) tt (λ w. refl)
+
+    pub turned : (m c : BoardState T) (worker node : ℕ) → m ≡ b.board → c ≡ after_turn worker node m → Extends m c → IsOneEvent times cmp s (record b { board = c }) worker
+    turned m c worker node kept is extends =
+        goes_on c (after_turn worker node b.board) worker (is ∙ ap (after_turn worker node) kept) refl refl (λ e. absurd (false≢true e)) tt (λ w. refl) (subst (λ (d : BoardState T). Extends d c) kept extends)
+
+    -- the board goes on if the give is allowed
+    give_in_view : (c : BoardState T) (g : Emission T) (held : List T) (sent : List (Bundle T))
+        → ((es : List (Entry (BoardEvent T))) → StandsFor times cmp b es → Stands times c (c.last ∷ events es) → StandsFor times cmp (record b { board = c }) (entry g.worker (doing (opening_of_board b) c.last) ∷ es))
+        → ((h : List (Event T)) → Stands times b.board h → IsGive times b.board.dataflow (state_after times b.board.dataflow h) g held sent → Stands times c (c.last ∷ h))
+        → (es : List (Entry (BoardEvent T))) → StandsFor times cmp s es → IsGive times s.board.dataflow (left_by times s.board.dataflow es) g held sent
+        → StandsFor times cmp (record b { board = c }) (entry g.worker (doing (opening_of_board s) c.last) ∷ es)
+    give_in_view c g held sent goes extends =
+        subst (λ (x : SharedState T). (es : List (Entry (BoardEvent T))) → StandsFor times cmp x es → IsGive times x.board.dataflow (left_by times x.board.dataflow es) g held sent → StandsFor times cmp (record b { board = c }) (entry g.worker (doing (opening_of_board x) c.last) ∷ es)) seen
+        (λ es a may. goes es a (extends (events es) a.stands may))
+
+    pub gave : {X : Type 0} (c : BoardState T) (g : Emission T) (held : List T) (sent : List (Bundle T)) (r : Result (Unit {0}) X)
+        → IsTrue (are_wide_for s.board.dataflow sent) → OnOk r (c ≡ after_give g held sent b.board) → OnErr r (c ≡ after_look g.worker b.board)
+        → ((h : List (Event T)) → Stands times b.board h → IsGive times b.board.dataflow (state_after times b.board.dataflow h) g held sent → Stands times c (c.last ∷ h))
+        → (es : List (Entry (BoardEvent T))) → StandsFor times cmp s es → IsGive times s.board.dataflow (left_by times s.board.dataflow es) g held sent
+        → StandsFor times cmp (record b { board = c }) (entry g.worker (doing (opening_of_board s) c.last) ∷ es)
+    gave c g held sent (Err refusal) wide done looks =
+        give_in_view c g held sent (goes_on_at c (after_look g.worker b.board) g.worker looks refl refl (λ e. absurd (false≢true e)) tt (λ w. refl))
+    gave c g held sent (Ok x) wide done looks =
+        let here = subst (λ (x : SharedState T). IsTrue (are_wide_for x.board.dataflow sent)) (sym seen) wide in
+        give_in_view c g held sent (goes_on_at c (after_give g held sent b.board) g.worker done refl refl (λ e. absurd (false≢true e)) here (λ w. refl))
 
   -- ---- a number that is too large
 
@@ -200,18 +230,3 @@ module _ {T : Type 0} (times : Times T) (cmp : T → T → Ordering) where
             (sym (ap (λ (xs : List (Entry (BoardEvent T))). (left_by times b.board.dataflow xs).fed) cut ∙ same_fed b.board.dataflow later earlier whole)) cause) (true_among b.too_large same e);
       }))
       extends
-
-  -- ---- refusals
-
-  -- the board refuses a change if and only if its history does
-  pub same_feed_refusal : (b : SharedState T) (f : Fed T) (es : List (Entry (BoardEvent T))) → f.input < length b.board.dataflow.nodes → StandsFor times cmp b es
-      → boards.feed_refusal times b.board f ≡ feed_refusal_in times b.board.dataflow (left_by times b.board.dataflow es) f
-  same_feed_refusal b f es within a = λ j. first_refusal (feed_faults times b.board.dataflow.nodes (a.stands.open_times f.input j) (a.stands.accepted f.input within j) f)
-
-  pub same_advance_refusal : (b : SharedState T) (i : ℕ) (ts : List T) (es : List (Entry (BoardEvent T))) → StandsFor times cmp b es
-      → boards.advance_refusal times b.board i ts ≡ advance_refusal_in times (left_by times b.board.dataflow es) i ts
-  same_advance_refusal b i ts es a = λ j. first_refusal (advance_faults times (a.stands.open_times i j) ts)
-
-  pub same_allow_refusal : (b : SharedState T) (v : ℕ) (ts : List T) (es : List (Entry (BoardEvent T))) → v < length b.board.dataflow.nodes → StandsFor times cmp b es
-      → boards.allow_refusal times b.board v ts ≡ allow_refusal_in times (left_by times b.board.dataflow es) v ts
-  same_allow_refusal b v ts es within a = λ j. first_refusal (advance_faults times (a.stands.since v within j) ts)

@@ -1,10 +1,11 @@
 -- What is read of a shared board is right for the entries that it stands for.
 use Rattle.std.proofs.Common.{◌≡◌, ℕ, ◌<◌, Bool, not, ◌||◌, List, [], ◌∷◌, length, Option, Some, None, IsTrue, refl, sym, ◌∙◌, ap, subst, inl, inr}
-use Rattle.std.specs.Prelude.{FitsSigned, Result, Ok, Err, IfErr}
+use Rattle.std.specs.Prelude.{FitsSigned, Result, Ok, Err, IfErr, OnOk}
 use Rattle.std.specs.Int.{w64}
 use Rattle.std.specs.List.{filter}
 use Rattle.std.specs.declared.cmp.Ordering.{Ordering}
 use Rattle.std.proofs.lemmas.Bool.{or_left, or_right}
+use Rattle.std.proofs.lemmas.Result.{on_ok_weaker}
 use Rattle.lattice.specs.Times.{Times}
 use Rattle.lattice.specs.Frontiers.{is_beyond}
 use Rattle.lattice.specs.Order.{PartialOrderLaws}
@@ -30,6 +31,7 @@ use Rattle.machine.proofs.BoardLemmas.FrontLemmas.{front_stands}
 use Rattle.histories.proofs.HistoryLemmas.HeadlineLemmas.{headline_lem}
 use Rattle.shared_board.specs.declared.event.BoardEvent.{BoardEvent}
 use Rattle.shared_board.specs.Tenures.{SharedState, StandsFor, events, left_by, read_refusal_in, changes_refusal_in, HasLargeListed, IsReadRefusalIn, IsChangesRefusalIn}
+use Rattle.shared_board.proofs.SharedLemmas.{in_view}
 
 -- the same refusal, of a cause that follows
 refused_as : (cause wanted : Type 0) (own other : Option Refusal) → own ≡ other → (cause → own ≡ None → wanted) → (r : Refusal) → IsRefusalOr cause own r → IsRefusalOr wanted other r
@@ -83,3 +85,27 @@ module _ {T : Type 0} (times : Times T) (cmp : T → T → Ordering) (o : Partia
 
     pub changes_refused : {X : Type 0} (r : Result X Refusal) → IfErr r (reads.IsChangesRefusal times b.board v) → IfErr r (IsChangesRefusalIn times b.board.dataflow w v)
     changes_refused r is = err_as _ _ _ _ same_changes_refusal large_changes r is
+
+-- the same of the board as clauses see it
+module _ {T : Type 0} (times : Times T) (cmp : T → T → Ordering) (o : PartialOrderLaws times) {b s : SharedState T} (seen : b ≡ s) (board : IsBoard b.board) (v : ℕ) (within : v < length s.board.dataflow.nodes) where
+  here : v < length b.board.dataflow.nodes
+  here = subst (λ (x : SharedState T). v < length x.board.dataflow.nodes) (sym seen) within
+
+  its : (view : IsTrue (is_output (node_of s.board.dataflow v))) → IsTrue (is_output (node_of b.board.dataflow v))
+  its view = subst (λ (x : SharedState T). IsTrue (is_output (node_of x.board.dataflow v))) (sym seen) view
+
+  pub read_accepts : {X : Type 0} (t : T) (r : Result X Refusal) → OnOk r (reads.read_refusal_on times b.board v t ≡ None)
+      → (es : List (Entry (BoardEvent T))) → StandsFor times cmp s es → OnOk r (read_refusal_in times s.board.dataflow (left_by times s.board.dataflow es) v t ≡ None)
+  read_accepts t r accepts = in_view times cmp seen (λ p w. OnOk r (read_refusal_in times p w v t ≡ None)) (λ es a. on_ok_weaker r (λ e. sym (same_read_refusal times cmp o b board v here es a t) ∙ e) accepts)
+
+  pub read_refuses : {X : Type 0} (view : IsTrue (is_output (node_of s.board.dataflow v))) (t : T) (r : Result X Refusal) → IfErr r (reads.IsReadRefusal times b.board v t)
+      → (es : List (Entry (BoardEvent T))) → StandsFor times cmp s es → IfErr r (IsReadRefusalIn times s.board.dataflow (left_by times s.board.dataflow es) v t)
+  read_refuses view t r refuses = in_view times cmp seen (λ p w. IfErr r (IsReadRefusalIn times p w v t)) (λ es a. read_refused times cmp o b board v here es a (its view) t r refuses)
+
+  pub changes_accepts : {X : Type 0} (r : Result X Refusal) → OnOk r (reads.changes_refusal_on times b.board v ≡ None)
+      → (es : List (Entry (BoardEvent T))) → StandsFor times cmp s es → OnOk r (changes_refusal_in times (left_by times s.board.dataflow es) v ≡ None)
+  changes_accepts r accepts = in_view times cmp seen (λ p w. OnOk r (changes_refusal_in times w v ≡ None)) (λ es a. on_ok_weaker r (λ e. sym (same_changes_refusal times cmp o b board v here es a) ∙ e) accepts)
+
+  pub changes_refuses : {X : Type 0} (view : IsTrue (is_output (node_of s.board.dataflow v))) (r : Result X Refusal) → IfErr r (reads.IsChangesRefusal times b.board v)
+      → (es : List (Entry (BoardEvent T))) → StandsFor times cmp s es → IfErr r (IsChangesRefusalIn times s.board.dataflow (left_by times s.board.dataflow es) v)
+  changes_refuses view r refuses = in_view times cmp seen (λ p w. IfErr r (IsChangesRefusalIn times p w v)) (λ es a. changes_refused times cmp o b board v here es a (its view) r refuses)

@@ -113,6 +113,13 @@ module _ {T : Type 0} where
       pub counted : (n : ℕ) → b.accepted ≡ Some n → length (left_by b.board.dataflow es).fed ≡ n
       pub large : IsTrue b.too_large → HasNoSmallBound times cmp b.board.dataflow.nodes (changes_in (left_by b.board.dataflow es))
 
+    -- a call on the board is one event of this actor, whatever its answer
+    pub record IsOneEvent (cmp : T → T → Ordering) (old new : SharedState T) (actor : ℕ) : Type 0 where
+      -- the board is on the same terms
+      pub terms : opening_of_board new ≡ opening_of_board old
+      -- whatever entries it stood for, it stands for one more: its last event, by the actor
+      pub stands : (es : List (Entry (BoardEvent T))) → StandsFor cmp old es → StandsFor cmp new (entry actor (doing (opening_of_board old) new.board.last) ∷ es)
+
   module _ (times : Times T) where
     -- the refusal of a change in a state, of a new frontier of an input, and of a new since of a
     -- view

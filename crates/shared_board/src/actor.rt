@@ -18,6 +18,7 @@ mod client;
 mod entry;
 mod in_turn;
 
+use crate::actor::entry::enter;
 use crate::event::BoardEvent;
 use crate::protocol::BoardProtocol;
 use hub::{Hub, Pass, Protocol};
@@ -111,10 +112,7 @@ impl<T: Minimum, P: BoardProtocol<T>> Actor<T, P> {
             (changes_in (state_left T.times self.old)) }
         ensures looked { IsNextTenure self.old (Look self.old.number) self.new }
     {
-        let Some(pass) = self.pass.take() else {
-            unreachable!()
-        };
-        let mut tenure = self.hub.enter(rt, pass);
+        let mut tenure = enter(rt, &self.hub, &mut self.pass);
         let board = tenure.state();
         board.tell_too_large(self.number, self.accepted);
         self.accepted = board.accepted();

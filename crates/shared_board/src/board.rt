@@ -2,8 +2,8 @@
 //!
 //! Each call that changes something is one event of the board, by the actor that is named. So each
 //! contract has two parts: whatever entries the board stood for before the call, it stands
-//! afterwards for one more; and the answer is right for each list of entries that it stood for. A
-//! tenure of a hub makes just one such call.
+//! afterwards for one more (`IsOneEvent`); and the answer is right for each list of entries that it
+//! stood for. A tenure of a hub makes just one such call.
 //!
 //! `too_large` records that a worker found a number too large. A bound may shrink when a change is
 //! accepted, so the board counts the changes that it accepted. A report counts only if no change
@@ -25,7 +25,7 @@ ghost use Rattle.histories.specs.Histories.Readings.{IsQuiet};
 ghost use Rattle.histories.specs.Histories.States.{change_to};
 ghost use Rattle.shared_board.specs.declared.event.BoardEvent.{BoardEvent};
 ghost use Rattle.shared_board.specs.Large.{HasNoSmallBound};
-ghost use Rattle.shared_board.specs.Tenures.{IsKeptBeside, StandsFor, WaitsOrNot, doing, left_by, opening_for, opening_of_board, feed_refusal_in, advance_refusal_in, allow_refusal_in, read_refusal_in, changes_refusal_in, IsReadRefusalIn, IsChangesRefusalIn};
+ghost use Rattle.shared_board.specs.Tenures.{IsKeptBeside, IsOneEvent, StandsFor, WaitsOrNot, doing, left_by, opening_for, opening_of_board, feed_refusal_in, advance_refusal_in, allow_refusal_in, read_refusal_in, changes_refusal_in, IsReadRefusalIn, IsChangesRefusalIn};
 ghost use Rattle.shared_board.specs.Widths.{are_wide_for};
 
 mod pieces;
@@ -125,11 +125,8 @@ impl<T: Minimum> SharedBoard<T> {
 
     /// An actor looks. Takes no memory.
     pub fn look(&mut self, actor: usize)
-        ensures terms { opening_of_board self.new ≡ opening_of_board self.old }
+        ensures event { IsOneEvent T.times T.cmp self.old self.new actor }
         ensures beside { IsKeptBeside self.old self.new }
-        ensures stands { (es : List (Entry (BoardEvent T))) → StandsFor T.times T.cmp self.old es
-            → StandsFor T.times T.cmp self.new
-            (entry actor (doing (opening_of_board self.old) self.new.board.last) ∷ es) }
         ensures looked { self.new.board.last ≡ Look actor }
     {
         self.board.look(actor);
@@ -141,13 +138,10 @@ impl<T: Minimum> SharedBoard<T> {
         requires client { self.old.board.dataflow.workers ≤ client }
         requires actor { client < self.old.actors }
         requires input { IsInput self.old.board.dataflow input }
-        ensures terms { opening_of_board self.new ≡ opening_of_board self.old }
+        ensures event { IsOneEvent T.times T.cmp self.old self.new client }
         ensures beside { OnErr result (IsKeptBeside self.old self.new) }
         ensures fed { OnOk result (self.new.board.last ≡ Feed client (change_to input update)) }
         ensures unchanged { OnErr result (self.new.board.last ≡ Look client) }
-        ensures stands { (es : List (Entry (BoardEvent T))) → StandsFor T.times T.cmp self.old es
-            → StandsFor T.times T.cmp self.new
-            (entry client (doing (opening_of_board self.old) self.new.board.last) ∷ es) }
         ensures accepted { (es : List (Entry (BoardEvent T)))
             → StandsFor T.times T.cmp self.old es
             → OnOk result (feed_refusal_in T.times self.old.board.dataflow
@@ -171,13 +165,10 @@ impl<T: Minimum> SharedBoard<T> {
         requires client { self.old.board.dataflow.workers ≤ client }
         requires actor { client < self.old.actors }
         requires input { IsInput self.old.board.dataflow input }
-        ensures terms { opening_of_board self.new ≡ opening_of_board self.old }
+        ensures event { IsOneEvent T.times T.cmp self.old self.new client }
         ensures beside { IsKeptBeside self.old self.new }
         ensures advanced { OnOk result (self.new.board.last ≡ Advance client input times.now) }
         ensures unchanged { OnErr result (self.new.board.last ≡ Look client) }
-        ensures stands { (es : List (Entry (BoardEvent T))) → StandsFor T.times T.cmp self.old es
-            → StandsFor T.times T.cmp self.new
-            (entry client (doing (opening_of_board self.old) self.new.board.last) ∷ es) }
         ensures accepted { (es : List (Entry (BoardEvent T)))
             → StandsFor T.times T.cmp self.old es
             → OnOk result (advance_refusal_in T.times
@@ -195,12 +186,9 @@ impl<T: Minimum> SharedBoard<T> {
         requires client { self.old.board.dataflow.workers ≤ client }
         requires actor { client < self.old.actors }
         requires input { IsInput self.old.board.dataflow input }
-        ensures terms { opening_of_board self.new ≡ opening_of_board self.old }
+        ensures event { IsOneEvent T.times T.cmp self.old self.new client }
         ensures beside { IsKeptBeside self.old self.new }
         ensures closed { self.new.board.last ≡ Advance client input [] }
-        ensures stands { (es : List (Entry (BoardEvent T))) → StandsFor T.times T.cmp self.old es
-            → StandsFor T.times T.cmp self.new
-            (entry client (doing (opening_of_board self.old) self.new.board.last) ∷ es) }
     {
         self.board.close(client, input);
     }
@@ -212,13 +200,10 @@ impl<T: Minimum> SharedBoard<T> {
         requires actor { client < self.old.actors }
         requires within { view < length self.old.board.dataflow.nodes }
         requires view { IsTrue (is_output (node_of self.old.board.dataflow view)) }
-        ensures terms { opening_of_board self.new ≡ opening_of_board self.old }
+        ensures event { IsOneEvent T.times T.cmp self.old self.new client }
         ensures beside { IsKeptBeside self.old self.new }
         ensures allowed { OnOk result (self.new.board.last ≡ Allow client view times.now) }
         ensures unchanged { OnErr result (self.new.board.last ≡ Look client) }
-        ensures stands { (es : List (Entry (BoardEvent T))) → StandsFor T.times T.cmp self.old es
-            → StandsFor T.times T.cmp self.new
-            (entry client (doing (opening_of_board self.old) self.new.board.last) ∷ es) }
         ensures accepted { (es : List (Entry (BoardEvent T)))
             → StandsFor T.times T.cmp self.old es
             → OnOk result (allow_refusal_in T.times
@@ -234,12 +219,9 @@ impl<T: Minimum> SharedBoard<T> {
     /// The frontier of a view. The event is a look. Refused only with `OutOfMemory`.
     pub fn frontier(&mut self, client: usize, view: NodeId) -> Result<Antichain<T>, Refusal>
         requires within { view < length self.old.board.dataflow.nodes }
-        ensures terms { opening_of_board self.new ≡ opening_of_board self.old }
+        ensures event { IsOneEvent T.times T.cmp self.old self.new client }
         ensures beside { IsKeptBeside self.old self.new }
         ensures looked { self.new.board.last ≡ Look client }
-        ensures stands { (es : List (Entry (BoardEvent T))) → StandsFor T.times T.cmp self.old es
-            → StandsFor T.times T.cmp self.new
-            (entry client (doing (opening_of_board self.old) self.new.board.last) ∷ es) }
         ensures frontier { (es : List (Entry (BoardEvent T)))
             → StandsFor T.times T.cmp self.old es
             → IfOk result (λ found. SameElements found (frontier T.times self.old.board.dataflow
@@ -255,12 +237,9 @@ impl<T: Minimum> SharedBoard<T> {
     pub fn read(&mut self, client: usize, view: NodeId, t: T) -> Result<Bag, Refusal>
         requires within { view < length self.old.board.dataflow.nodes }
         requires view { IsTrue (is_output (node_of self.old.board.dataflow view)) }
-        ensures terms { opening_of_board self.new ≡ opening_of_board self.old }
+        ensures event { IsOneEvent T.times T.cmp self.old self.new client }
         ensures beside { IsKeptBeside self.old self.new }
         ensures looked { self.new.board.last ≡ Look client }
-        ensures stands { (es : List (Entry (BoardEvent T))) → StandsFor T.times T.cmp self.old es
-            → StandsFor T.times T.cmp self.new
-            (entry client (doing (opening_of_board self.old) self.new.board.last) ∷ es) }
         ensures accepted { (es : List (Entry (BoardEvent T)))
             → StandsFor T.times T.cmp self.old es
             → OnOk result (read_refusal_in T.times self.old.board.dataflow
@@ -285,12 +264,9 @@ impl<T: Minimum> SharedBoard<T> {
     pub fn changes(&mut self, client: usize, view: NodeId) -> Result<Vec<Update<T>>, Refusal>
         requires within { view < length self.old.board.dataflow.nodes }
         requires view { IsTrue (is_output (node_of self.old.board.dataflow view)) }
-        ensures terms { opening_of_board self.new ≡ opening_of_board self.old }
+        ensures event { IsOneEvent T.times T.cmp self.old self.new client }
         ensures beside { IsKeptBeside self.old self.new }
         ensures looked { self.new.board.last ≡ Look client }
-        ensures stands { (es : List (Entry (BoardEvent T))) → StandsFor T.times T.cmp self.old es
-            → StandsFor T.times T.cmp self.new
-            (entry client (doing (opening_of_board self.old) self.new.board.last) ∷ es) }
         ensures accepted { (es : List (Entry (BoardEvent T)))
             → StandsFor T.times T.cmp self.old es
             → OnOk result (changes_refusal_in T.times
@@ -315,12 +291,9 @@ impl<T: Minimum> SharedBoard<T> {
     /// Whether the board is quiet. The event is a look. Never refused. Cost: that of
     /// [`Board::is_quiet`].
     pub fn is_quiet(&mut self, actor: usize) -> bool
-        ensures terms { opening_of_board self.new ≡ opening_of_board self.old }
+        ensures event { IsOneEvent T.times T.cmp self.old self.new actor }
         ensures beside { IsKeptBeside self.old self.new }
         ensures looked { self.new.board.last ≡ Look actor }
-        ensures stands { (es : List (Entry (BoardEvent T))) → StandsFor T.times T.cmp self.old es
-            → StandsFor T.times T.cmp self.new
-            (entry actor (doing (opening_of_board self.old) self.new.board.last) ∷ es) }
         ensures quiet { (es : List (Entry (BoardEvent T))) → StandsFor T.times T.cmp self.old es
             → (IsTrue result ↔ IsQuiet T.times self.old.board.dataflow
             (left_by T.times self.old.board.dataflow es)) }

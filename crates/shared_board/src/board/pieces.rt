@@ -5,9 +5,8 @@
 //! since that would be two tenures for a piece. So the search and the take are one call, and one
 //! event. If there is no piece, then the event is a look, and the answer says whether the board is
 //! quiet.
-ghost use Rattle.std.specs.Prelude.{◌≡◌, ◌<◌, ℕ, List, ◌∷◌, None, Some, IfOk, IfErr, IfSome, IsTrue, length, get_or};
+ghost use Rattle.std.specs.Prelude.{◌≡◌, ◌<◌, ℕ, List, None, Some, IfOk, IfErr, IfSome, IsTrue, length, get_or};
 ghost use Rattle.hub.specs.declared.view.Entry.{Entry};
-ghost use Rattle.hub.specs.Histories.{entry};
 ghost use Rattle.update.specs.declared.refusal.Refusal.TheVariants.{OutOfMemory};
 ghost use Rattle.plan.specs.Nodes.{arranged_by};
 ghost use Rattle.histories.specs.declared.event.Event.TheVariants.{Look};
@@ -19,7 +18,7 @@ ghost use Rattle.machine.specs.declared.board.pieces.Piece.TheVariants.{Waiting,
 ghost use Rattle.machine.specs.Boards.Reads.{is_ready};
 ghost use Rattle.shared_board.specs.declared.event.BoardEvent.{BoardEvent};
 ghost use Rattle.shared_board.specs.Pieces.{IsTaken, TellsMore, piece_of};
-ghost use Rattle.shared_board.specs.Tenures.{IsKeptBeside, StandsFor, WaitsOrNot, doing, left_by, opening_of_board};
+ghost use Rattle.shared_board.specs.Tenures.{IsKeptBeside, IsOneEvent, StandsFor, WaitsOrNot, left_by};
 
 use crate::board::SharedBoard;
 use lattice::Minimum;
@@ -62,7 +61,7 @@ impl<T: Minimum> SharedBoard<T> {
     pub fn take_piece(&mut self, worker: usize, pick: usize) -> Result<Taken<T>, Refusal>
         requires worker { worker < self.old.board.dataflow.workers }
         requires free { get_or self.old.board.hand worker None ≡ None }
-        ensures terms { opening_of_board self.new ≡ opening_of_board self.old }
+        ensures event { IsOneEvent T.times T.cmp self.old self.new worker }
         ensures beside { IsKeptBeside self.old self.new }
         ensures taken { IfOk result (λ taken.
             (es : List (Entry (BoardEvent T))) → StandsFor T.times T.cmp self.old es
@@ -73,9 +72,6 @@ impl<T: Minimum> SharedBoard<T> {
             (TellsMore (λ more n. WaitsOrNot more n worker self.new.board.stations)) }
         ensures refused { IfErr result (λ refusal. (refusal ≡ OutOfMemory)
             × (self.new.board.last ≡ Look worker)) }
-        ensures stands { (es : List (Entry (BoardEvent T))) → StandsFor T.times T.cmp self.old es
-            → StandsFor T.times T.cmp self.new
-            (entry worker (doing (opening_of_board self.old) self.new.board.last) ∷ es) }
     {
         let Some(piece) = self.picked(worker, pick) else {
             return self.find_nothing(worker);
@@ -88,7 +84,7 @@ impl<T: Minimum> SharedBoard<T> {
         requires worker { worker < self.old.board.dataflow.workers }
         requires free { get_or self.old.board.hand worker None ≡ None }
         requires piece { IsPiece T.times self.old.board worker piece.now }
-        ensures terms { opening_of_board self.new ≡ opening_of_board self.old }
+        ensures event { IsOneEvent T.times T.cmp self.old self.new worker }
         ensures beside { IsKeptBeside self.old self.new }
         ensures taken { IfOk result (λ taken.
             (es : List (Entry (BoardEvent T))) → StandsFor T.times T.cmp self.old es
@@ -101,9 +97,6 @@ impl<T: Minimum> SharedBoard<T> {
             (TellsMore (λ more n. WaitsOrNot more n worker self.new.board.stations)) }
         ensures refused { IfErr result (λ refusal. (refusal ≡ OutOfMemory)
             × (self.new.board.last ≡ Look worker)) }
-        ensures stands { (es : List (Entry (BoardEvent T))) → StandsFor T.times T.cmp self.old es
-            → StandsFor T.times T.cmp self.new
-            (entry worker (doing (opening_of_board self.old) self.new.board.last) ∷ es) }
     {
         match piece {
             Piece::Waiting { site, number } => self.take_at(*site, *number),
@@ -136,7 +129,7 @@ impl<T: Minimum> SharedBoard<T> {
         requires waits { number < length (queue_of self.old.board.stations site) }
         requires turn { arranged_by (node_of self.old.board.dataflow site.node) ≡ None
             → number ≡ 0 }
-        ensures terms { opening_of_board self.new ≡ opening_of_board self.old }
+        ensures event { IsOneEvent T.times T.cmp self.old self.new site.worker }
         ensures beside { IsKeptBeside self.old self.new }
         ensures taken { IfOk result (λ taken. (p : Dataflow) (w : State T) (pick : ℕ)
             → piece_of T.times p w site.worker pick ≡ Some (Waiting site number)
@@ -145,9 +138,6 @@ impl<T: Minimum> SharedBoard<T> {
             (TellsMore (λ more n. WaitsOrNot more n site.worker self.new.board.stations)) }
         ensures refused { IfErr result (λ refusal. (refusal ≡ OutOfMemory)
             × (self.new.board.last ≡ Look site.worker)) }
-        ensures stands { (es : List (Entry (BoardEvent T))) → StandsFor T.times T.cmp self.old es
-            → StandsFor T.times T.cmp self.new
-            (entry site.worker (doing (opening_of_board self.old) self.new.board.last) ∷ es) }
     {
         let node = site.node;
         let worker = site.worker;
@@ -163,7 +153,7 @@ impl<T: Minimum> SharedBoard<T> {
         requires within { node < length self.old.board.dataflow.nodes }
         requires free { get_or self.old.board.hand worker None ≡ None }
         requires ready { IsTrue (is_ready T.times self.old.board worker node) }
-        ensures terms { opening_of_board self.new ≡ opening_of_board self.old }
+        ensures event { IsOneEvent T.times T.cmp self.old self.new worker }
         ensures beside { IsKeptBeside self.old self.new }
         ensures taken { IfOk result (λ taken.
             (es : List (Entry (BoardEvent T))) → StandsFor T.times T.cmp self.old es
@@ -177,9 +167,6 @@ impl<T: Minimum> SharedBoard<T> {
             (TellsMore (λ more n. WaitsOrNot more n worker self.new.board.stations)) }
         ensures refused { IfErr result (λ refusal. (refusal ≡ OutOfMemory)
             × (self.new.board.last ≡ Look worker)) }
-        ensures stands { (es : List (Entry (BoardEvent T))) → StandsFor T.times T.cmp self.old es
-            → StandsFor T.times T.cmp self.new
-            (entry worker (doing (opening_of_board self.old) self.new.board.last) ∷ es) }
     {
         match self.board.input_times(node) {
             Ok(upper) => {
@@ -199,7 +186,7 @@ impl<T: Minimum> SharedBoard<T> {
             → StandsFor T.times T.cmp self.old es
             → HasNoPiece T.times self.old.board.dataflow
             (left_by T.times self.old.board.dataflow es) worker }
-        ensures terms { opening_of_board self.new ≡ opening_of_board self.old }
+        ensures event { IsOneEvent T.times T.cmp self.old self.new worker }
         ensures beside { IsKeptBeside self.old self.new }
         ensures taken { IfOk result (λ taken.
             (es : List (Entry (BoardEvent T))) → StandsFor T.times T.cmp self.old es
@@ -210,9 +197,6 @@ impl<T: Minimum> SharedBoard<T> {
             (TellsMore (λ more n. WaitsOrNot more n worker self.new.board.stations)) }
         ensures refused { IfErr result (λ refusal. (refusal ≡ OutOfMemory)
             × (self.new.board.last ≡ Look worker)) }
-        ensures stands { (es : List (Entry (BoardEvent T))) → StandsFor T.times T.cmp self.old es
-            → StandsFor T.times T.cmp self.new
-            (entry worker (doing (opening_of_board self.old) self.new.board.last) ∷ es) }
     {
         let quiet = self.is_quiet(worker);
         Ok(Taken::Nothing { quiet })

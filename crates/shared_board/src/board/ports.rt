@@ -2,15 +2,14 @@
 //!
 //! A worker asks for those of all its joins and reductions at once. One event moves no frontier
 //! between two of the answers, so all of them hold of one state.
-ghost use Rattle.std.specs.Prelude.{◌≡◌, List, ◌∷◌, IfOk, length};
+ghost use Rattle.std.specs.Prelude.{◌≡◌, List, IfOk, length};
 ghost use Rattle.update.specs.Refusals.{OnlyMemory};
 ghost use Rattle.hub.specs.declared.view.Entry.{Entry};
-ghost use Rattle.hub.specs.Histories.{entry};
 ghost use Rattle.histories.specs.declared.event.Event.TheVariants.{Look};
 ghost use Rattle.machine.specs.Boards.Reads.{on_board};
 ghost use Rattle.shared_board.specs.declared.event.BoardEvent.{BoardEvent};
 ghost use Rattle.shared_board.specs.Ports.{AreFrontsOf, AreWithin};
-ghost use Rattle.shared_board.specs.Tenures.{IsKeptBeside, StandsFor, doing, left_by, opening_of_board};
+ghost use Rattle.shared_board.specs.Tenures.{IsKeptBeside, IsOneEvent, StandsFor, left_by};
 
 use crate::board::SharedBoard;
 use antichain::Antichain;
@@ -29,12 +28,9 @@ impl<T: Minimum> SharedBoard<T> {
         ports: &[Site],
     ) -> Result<Vec<Antichain<T>>, Refusal>
         requires within { AreWithin self.old.board.dataflow ports.now }
-        ensures terms { opening_of_board self.new ≡ opening_of_board self.old }
+        ensures event { IsOneEvent T.times T.cmp self.old self.new actor }
         ensures beside { IsKeptBeside self.old self.new }
         ensures looked { self.new.board.last ≡ Look actor }
-        ensures stands { (es : List (Entry (BoardEvent T))) → StandsFor T.times T.cmp self.old es
-            → StandsFor T.times T.cmp self.new
-            (entry actor (doing (opening_of_board self.old) self.new.board.last) ∷ es) }
         ensures len { IfOk result (λ fronts. length fronts.items ≡ length ports.now) }
         ensures found { (es : List (Entry (BoardEvent T))) → StandsFor T.times T.cmp self.old es
             → IfOk result (λ fronts. AreFrontsOf T.times self.old.board.dataflow

@@ -1,76 +1,42 @@
-use Rattle.std.proofs.Common.{◌∷◌, rules, ◌≡◌, ◌<◌, ◌≤◌, sym, subst, ap, ◌∙◌, None}
-use Rattle.std.specs.Prelude.{IfErr, OnOk}
-use Rattle.std.proofs.lemmas.Result.{on_ok_weaker, on_err_weaker}
-use Rattle.hub.specs.Histories.{entry}
-use Rattle.update.specs.Refusals.{IsRefusalBy}
-use Rattle.histories.specs.declared.event.Event.{Event}
-use Rattle.histories.specs.declared.event.Event.TheVariants.{Advance, Look}
+use Rattle.std.proofs.Common.{rules, ◌≤◌, ◌∙◌}
+use Rattle.std.specs.Arc.{arc_value}
+use Rattle.hub.specs.Passes.{hub_id}
+use Rattle.histories.specs.declared.event.Event.TheVariants.{Advance}
 use Rattle.histories.specs.Histories.{IsInput}
-use Rattle.histories.specs.Histories.Dataflows.{Dataflow}
-use Rattle.histories.specs.Histories.States.{State}
-use Rattle.shared_board.specs.declared.event.BoardEvent.{BoardEvent}
-use Rattle.shared_board.specs.Tenures.{IsNextTenure, Opening, StandsFor, advance_refusal_in}
-use Rattle.shared_board.proofs.ActorLemmas.{after_tenure, at_board, leaves, of_found}
-use Rattle.shared_board.proofs.CallLemmas.{entered, done_in_turn}
+use Rattle.shared_board.specs.Tenures.{advance_refusal_in}
+use Rattle.shared_board.proofs.ActorLemmas.{IsIn, after_one, is_actor, kept, on_board, one_leaves}
+use Rattle.shared_board.proofs.CallLemmas.{done_in_turn, entered}
+use Rattle.shared_board.proofs.actor.Actor.advance.Given.{Over}
+use Rattle.shared_board.proofs.actor.Actor.advance.Goals.{After-deref_mut}
 use Rattle.shared_board.proofs.actor.Actor.advance.Goals as goal
+
+-- the call is made in a tenure
+tenure : (g : Over) (c : After-deref_mut g) → IsIn g.T.PartialOrder.times g.T.Ord.cmp (hub_id (arc_value c.self.inside.hub)) c.self.inside.number c.args.self.now c.enter-tenure.result c.deref_mut.result.now
+tenure g c =
+    entered g.T.PartialOrder.times g.T.Ord.cmp c.self.inside.pass _ c.args.self.now _ _ _ c.self.invariant c.self.view_is c.enter-tenure.result c.enter-tenure.ensures.found c.deref_mut.result.now c.enter-tenure.result.state.value (g.met.P.BoardProtocol.stands_for c.enter-tenure.result.state c.enter-tenure.result.found c.enter-tenure.ensures.stands) (search rules)
 
 pub advance-told-requires-clause-client : goal.advance-told-requires-clause-client
 advance-told-requires-clause-client g c =
-    let k = c.args.self.now in
-    let held = c.enter-tenure.result in
-    let m = c.deref_mut.result.now in
-    let same : m ≡ held.state.value = search rules in
-    let e = entered g.T.PartialOrder.times g.T.Ord.cmp c.self.inside.pass _ k _ _ _ c.self.invariant c.self.view_is held c.enter-tenure.ensures.found held.state.value (g.met.P.BoardProtocol.stands_for held.state held.found c.enter-tenure.ensures.stands) in
-    subst (λ n. m.board.dataflow.workers ≤ n) e.own_number (at_board g.T.PartialOrder.times g.T.Ord.cmp k held.state.value held.hub held.number held.found e.within (λ (x : Opening). x.dataflow.workers ≤ k.number) c.requires.client m same)
+    on_board (tenure g (goal.at.advance-told-requires-clause-client g c).After-deref_mut) (λ x n. x.dataflow.workers ≤ n) c.requires.client
 
 pub advance-told-requires-clause-actor : goal.advance-told-requires-clause-actor
-advance-told-requires-clause-actor g c =
-    let k = c.args.self.now in
-    let held = c.enter-tenure.result in
-    let m = c.deref_mut.result.now in
-    let same : m ≡ held.state.value = search rules in
-    let e = entered g.T.PartialOrder.times g.T.Ord.cmp c.self.inside.pass _ k _ _ _ c.self.invariant c.self.view_is held c.enter-tenure.ensures.found held.state.value (g.met.P.BoardProtocol.stands_for held.state held.found c.enter-tenure.ensures.stands) in
-    subst (λ n. n < m.actors) e.own_number (at_board g.T.PartialOrder.times g.T.Ord.cmp k held.state.value held.hub held.number held.found e.within (λ (x : Opening). k.number < x.actors) e.within.actor.actor m same)
+advance-told-requires-clause-actor g c = is_actor (tenure g (goal.at.advance-told-requires-clause-actor g c).After-deref_mut)
 
 pub advance-told-requires-clause-input : goal.advance-told-requires-clause-input
 advance-told-requires-clause-input g c =
-    let k = c.args.self.now in
-    let held = c.enter-tenure.result in
-    let m = c.deref_mut.result.now in
-    let same : m ≡ held.state.value = search rules in
-    let e = entered g.T.PartialOrder.times g.T.Ord.cmp c.self.inside.pass _ k _ _ _ c.self.invariant c.self.view_is held c.enter-tenure.ensures.found held.state.value (g.met.P.BoardProtocol.stands_for held.state held.found c.enter-tenure.ensures.stands) in
-    at_board g.T.PartialOrder.times g.T.Ord.cmp k held.state.value held.hub held.number held.found e.within (λ (x : Opening). IsInput x.dataflow c.args.input) c.requires.input m same
+    on_board (tenure g (goal.at.advance-told-requires-clause-input g c).After-deref_mut) (λ x n. IsInput x.dataflow c.args.input) c.requires.input
 
 pub leave-requires : goal.leave-requires
 leave-requires g c =
-    let k = c.args.self.now in
-    let held = c.enter-tenure.result in
-    let m = c.deref_mut.result.now in
-    let same : m ≡ held.state.value = search rules in
-    let e = entered g.T.PartialOrder.times g.T.Ord.cmp c.self.inside.pass _ k _ _ _ c.self.invariant c.self.view_is held c.enter-tenure.ensures.found held.state.value (g.met.P.BoardProtocol.stands_for held.state held.found c.enter-tenure.ensures.stands) in
-    g.met.P.BoardProtocol.may_stand _ _ (subst (λ (d : BoardEvent _). StandsFor g.T.PartialOrder.times g.T.Ord.cmp c.advance-told.new.self (entry held.number d ∷ held.found)) (sym (g.met.P.BoardProtocol.last_is _))
-    (leaves g.T.PartialOrder.times g.T.Ord.cmp k held.state.value held.hub held.number held.found e.within m c.advance-told.new.self c.self.inside.number same e.own_number c.advance-told.ensures.terms c.advance-told.ensures.stands))
+    g.met.P.BoardProtocol.may_stand _ _ (one_leaves (tenure g (goal.at.leave-requires g c).After-deref_mut) c.advance-told.ensures.event _ (g.met.P.BoardProtocol.last_is _))
 
 pub invariant_of-self : goal.invariant_of-self
 invariant_of-self g c =
-    let k = c.args.self.now in
-    let held = c.enter-tenure.result in
-    let m = c.deref_mut.result.now in
-    let same : m ≡ held.state.value = search rules in
-    let e = entered g.T.PartialOrder.times g.T.Ord.cmp c.self.inside.pass _ k _ _ _ c.self.invariant c.self.view_is held c.enter-tenure.ensures.found held.state.value (g.met.P.BoardProtocol.stands_for held.state held.found c.enter-tenure.ensures.stands) in
-    let after = after_tenure g.T.PartialOrder.times g.T.Ord.cmp k held.state.value held.hub held.number held.found e.within m c.advance-told.new.self c.self.inside.number same e.own_number c.advance-told.ensures.terms c.advance-told.ensures.stands c.leave.result (c.leave.ensures ∙ ap (λ (d : BoardEvent _). record { hub = held.hub; number = held.number; seen = entry held.number d ∷ held.found }) (g.met.P.BoardProtocol.last_is _)) in
-    (after.same_hub ∙ e.same_hub, after.same_number ∙ e.own_number, after.actor, λ n x. after.counted n (sym (c.accepted-self-inside.ensures ∙ search rules) ∙ x))
+    let a = after_one (tenure g (goal.at.invariant_of-self g c).After-deref_mut) c.advance-told.ensures.event _ (g.met.P.BoardProtocol.last_is _) c.leave.result c.leave.ensures in
+    kept a _ (c.accepted-self-inside.ensures ∙ search rules)
 
 pub returns : goal.returns
 returns g c =
-    let k = c.args.self.now in
-    let held = c.enter-tenure.result in
-    let m = c.deref_mut.result.now in
-    let same : m ≡ held.state.value = search rules in
-    let e = entered g.T.PartialOrder.times g.T.Ord.cmp c.self.inside.pass _ k _ _ _ c.self.invariant c.self.view_is held c.enter-tenure.ensures.found held.state.value (g.met.P.BoardProtocol.stands_for held.state held.found c.enter-tenure.ensures.stands) in
-    let after = after_tenure g.T.PartialOrder.times g.T.Ord.cmp k held.state.value held.hub held.number held.found e.within m c.advance-told.new.self c.self.inside.number same e.own_number c.advance-told.ensures.terms c.advance-told.ensures.stands c.leave.result (c.leave.ensures ∙ ap (λ (d : BoardEvent _). record { hub = held.hub; number = held.number; seen = entry held.number d ∷ held.found }) (g.met.P.BoardProtocol.last_is _)) in
-    done_in_turn k c.leave.result (Advance k.number c.args.input c.args.times.now) _ _ c.advance-told.result
-    (on_ok_weaker c.advance-told.result (λ x. subst (λ (x : Event g.row.T.Denot). IsNextTenure k x c.leave.result) (x ∙ ap (λ n. Advance n c.args.input c.args.times.now) (sym e.own_number)) after.adds) c.advance-told.ensures.advanced)
-    (on_err_weaker c.advance-told.result (λ x. subst (λ (x : Event g.row.T.Denot). IsNextTenure k x c.leave.result) (x ∙ ap (λ n. Look n) (sym e.own_number)) after.adds) c.advance-told.ensures.unchanged)
-    (of_found g.T.PartialOrder.times g.T.Ord.cmp k held.state.value held.hub held.number held.found e.within (λ (p : Dataflow) (w : State g.row.T.Denot). OnOk c.advance-told.result (advance_refusal_in g.T.PartialOrder.times w c.args.input c.args.times.now ≡ None)) m same c.advance-told.ensures.accepted c.leave.result after)
-    (of_found g.T.PartialOrder.times g.T.Ord.cmp k held.state.value held.hub held.number held.found e.within (λ (p : Dataflow) (w : State g.row.T.Denot). IfErr c.advance-told.result (IsRefusalBy (advance_refusal_in g.T.PartialOrder.times w c.args.input c.args.times.now))) m same c.advance-told.ensures.refused c.leave.result after)
+    let t = tenure g (goal.at.returns g c).After-deref_mut in
+    let a = after_one t c.advance-told.ensures.event _ (g.met.P.BoardProtocol.last_is _) c.leave.result c.leave.ensures in
+    done_in_turn t a (λ n. Advance n c.args.input c.args.times.now) (λ p w. advance_refusal_in g.T.PartialOrder.times w c.args.input c.args.times.now) c.advance-told.result c.advance-told.ensures.advanced c.advance-told.ensures.unchanged c.advance-told.ensures.accepted c.advance-told.ensures.refused

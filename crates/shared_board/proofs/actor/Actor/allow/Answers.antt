@@ -1,85 +1,47 @@
-use Rattle.std.proofs.Common.{◌∷◌, rules, ◌≡◌, ◌<◌, ◌≤◌, sym, subst, ap, ◌∙◌, length, None, IsTrue}
-use Rattle.std.specs.Prelude.{IfErr, OnOk}
-use Rattle.std.proofs.lemmas.Result.{on_ok_weaker, on_err_weaker}
-use Rattle.hub.specs.Histories.{entry}
-use Rattle.update.specs.Refusals.{IsRefusalBy}
+use Rattle.std.proofs.Common.{rules, ◌≤◌, ◌<◌, ◌∙◌, length, IsTrue}
+use Rattle.std.specs.Arc.{arc_value}
+use Rattle.hub.specs.Passes.{hub_id}
 use Rattle.plan.specs.Nodes.{is_output}
-use Rattle.histories.specs.declared.event.Event.{Event}
-use Rattle.histories.specs.declared.event.Event.TheVariants.{Allow, Look}
-use Rattle.histories.specs.Histories.Dataflows.{Dataflow, node_of}
-use Rattle.histories.specs.Histories.States.{State}
-use Rattle.shared_board.specs.declared.event.BoardEvent.{BoardEvent}
-use Rattle.shared_board.specs.Tenures.{IsNextTenure, Opening, StandsFor, allow_refusal_in}
-use Rattle.shared_board.proofs.ActorLemmas.{after_tenure, at_board, leaves, of_found}
-use Rattle.shared_board.proofs.CallLemmas.{entered, done_in_turn}
+use Rattle.histories.specs.declared.event.Event.TheVariants.{Allow}
+use Rattle.histories.specs.Histories.Dataflows.{node_of}
+use Rattle.shared_board.specs.Tenures.{allow_refusal_in}
+use Rattle.shared_board.proofs.ActorLemmas.{IsIn, after_one, is_actor, kept, on_board, one_leaves}
+use Rattle.shared_board.proofs.CallLemmas.{done_in_turn, entered}
+use Rattle.shared_board.proofs.actor.Actor.allow.Given.{Over}
+use Rattle.shared_board.proofs.actor.Actor.allow.Goals.{After-deref_mut}
 use Rattle.shared_board.proofs.actor.Actor.allow.Goals as goal
+
+-- the call is made in a tenure
+tenure : (g : Over) (c : After-deref_mut g) → IsIn g.T.PartialOrder.times g.T.Ord.cmp (hub_id (arc_value c.self.inside.hub)) c.self.inside.number c.args.self.now c.enter-tenure.result c.deref_mut.result.now
+tenure g c =
+    entered g.T.PartialOrder.times g.T.Ord.cmp c.self.inside.pass _ c.args.self.now _ _ _ c.self.invariant c.self.view_is c.enter-tenure.result c.enter-tenure.ensures.found c.deref_mut.result.now c.enter-tenure.result.state.value (g.met.P.BoardProtocol.stands_for c.enter-tenure.result.state c.enter-tenure.result.found c.enter-tenure.ensures.stands) (search rules)
 
 pub allow-told-requires-clause-client : goal.allow-told-requires-clause-client
 allow-told-requires-clause-client g c =
-    let k = c.args.self.now in
-    let held = c.enter-tenure.result in
-    let m = c.deref_mut.result.now in
-    let same : m ≡ held.state.value = search rules in
-    let e = entered g.T.PartialOrder.times g.T.Ord.cmp c.self.inside.pass _ k _ _ _ c.self.invariant c.self.view_is held c.enter-tenure.ensures.found held.state.value (g.met.P.BoardProtocol.stands_for held.state held.found c.enter-tenure.ensures.stands) in
-    subst (λ n. m.board.dataflow.workers ≤ n) e.own_number (at_board g.T.PartialOrder.times g.T.Ord.cmp k held.state.value held.hub held.number held.found e.within (λ (x : Opening). x.dataflow.workers ≤ k.number) c.requires.client m same)
+    on_board (tenure g (goal.at.allow-told-requires-clause-client g c).After-deref_mut) (λ x n. x.dataflow.workers ≤ n) c.requires.client
 
 pub allow-told-requires-clause-actor : goal.allow-told-requires-clause-actor
-allow-told-requires-clause-actor g c =
-    let k = c.args.self.now in
-    let held = c.enter-tenure.result in
-    let m = c.deref_mut.result.now in
-    let same : m ≡ held.state.value = search rules in
-    let e = entered g.T.PartialOrder.times g.T.Ord.cmp c.self.inside.pass _ k _ _ _ c.self.invariant c.self.view_is held c.enter-tenure.ensures.found held.state.value (g.met.P.BoardProtocol.stands_for held.state held.found c.enter-tenure.ensures.stands) in
-    subst (λ n. n < m.actors) e.own_number (at_board g.T.PartialOrder.times g.T.Ord.cmp k held.state.value held.hub held.number held.found e.within (λ (x : Opening). k.number < x.actors) e.within.actor.actor m same)
+allow-told-requires-clause-actor g c = is_actor (tenure g (goal.at.allow-told-requires-clause-actor g c).After-deref_mut)
 
 pub allow-told-requires-clause-within : goal.allow-told-requires-clause-within
 allow-told-requires-clause-within g c =
-    let k = c.args.self.now in
-    let held = c.enter-tenure.result in
-    let m = c.deref_mut.result.now in
-    let same : m ≡ held.state.value = search rules in
-    let e = entered g.T.PartialOrder.times g.T.Ord.cmp c.self.inside.pass _ k _ _ _ c.self.invariant c.self.view_is held c.enter-tenure.ensures.found held.state.value (g.met.P.BoardProtocol.stands_for held.state held.found c.enter-tenure.ensures.stands) in
-    at_board g.T.PartialOrder.times g.T.Ord.cmp k held.state.value held.hub held.number held.found e.within (λ (x : Opening). c.args.view < length x.dataflow.nodes) c.requires.within m same
+    on_board (tenure g (goal.at.allow-told-requires-clause-within g c).After-deref_mut) (λ x n. c.args.view < length x.dataflow.nodes) c.requires.within
 
 pub allow-told-requires-clause-view : goal.allow-told-requires-clause-view
 allow-told-requires-clause-view g c =
-    let k = c.args.self.now in
-    let held = c.enter-tenure.result in
-    let m = c.deref_mut.result.now in
-    let same : m ≡ held.state.value = search rules in
-    let e = entered g.T.PartialOrder.times g.T.Ord.cmp c.self.inside.pass _ k _ _ _ c.self.invariant c.self.view_is held c.enter-tenure.ensures.found held.state.value (g.met.P.BoardProtocol.stands_for held.state held.found c.enter-tenure.ensures.stands) in
-    at_board g.T.PartialOrder.times g.T.Ord.cmp k held.state.value held.hub held.number held.found e.within (λ (x : Opening). IsTrue (is_output (node_of x.dataflow c.args.view))) c.requires.view m same
+    on_board (tenure g (goal.at.allow-told-requires-clause-view g c).After-deref_mut) (λ x n. IsTrue (is_output (node_of x.dataflow c.args.view))) c.requires.view
 
 pub leave-requires : goal.leave-requires
 leave-requires g c =
-    let k = c.args.self.now in
-    let held = c.enter-tenure.result in
-    let m = c.deref_mut.result.now in
-    let same : m ≡ held.state.value = search rules in
-    let e = entered g.T.PartialOrder.times g.T.Ord.cmp c.self.inside.pass _ k _ _ _ c.self.invariant c.self.view_is held c.enter-tenure.ensures.found held.state.value (g.met.P.BoardProtocol.stands_for held.state held.found c.enter-tenure.ensures.stands) in
-    g.met.P.BoardProtocol.may_stand _ _ (subst (λ (d : BoardEvent _). StandsFor g.T.PartialOrder.times g.T.Ord.cmp c.allow-told.new.self (entry held.number d ∷ held.found)) (sym (g.met.P.BoardProtocol.last_is _))
-    (leaves g.T.PartialOrder.times g.T.Ord.cmp k held.state.value held.hub held.number held.found e.within m c.allow-told.new.self c.self.inside.number same e.own_number c.allow-told.ensures.terms c.allow-told.ensures.stands))
+    g.met.P.BoardProtocol.may_stand _ _ (one_leaves (tenure g (goal.at.leave-requires g c).After-deref_mut) c.allow-told.ensures.event _ (g.met.P.BoardProtocol.last_is _))
 
 pub invariant_of-self : goal.invariant_of-self
 invariant_of-self g c =
-    let k = c.args.self.now in
-    let held = c.enter-tenure.result in
-    let m = c.deref_mut.result.now in
-    let same : m ≡ held.state.value = search rules in
-    let e = entered g.T.PartialOrder.times g.T.Ord.cmp c.self.inside.pass _ k _ _ _ c.self.invariant c.self.view_is held c.enter-tenure.ensures.found held.state.value (g.met.P.BoardProtocol.stands_for held.state held.found c.enter-tenure.ensures.stands) in
-    let after = after_tenure g.T.PartialOrder.times g.T.Ord.cmp k held.state.value held.hub held.number held.found e.within m c.allow-told.new.self c.self.inside.number same e.own_number c.allow-told.ensures.terms c.allow-told.ensures.stands c.leave.result (c.leave.ensures ∙ ap (λ (d : BoardEvent _). record { hub = held.hub; number = held.number; seen = entry held.number d ∷ held.found }) (g.met.P.BoardProtocol.last_is _)) in
-    (after.same_hub ∙ e.same_hub, after.same_number ∙ e.own_number, after.actor, λ n x. after.counted n (sym (c.accepted-self-inside.ensures ∙ search rules) ∙ x))
+    let a = after_one (tenure g (goal.at.invariant_of-self g c).After-deref_mut) c.allow-told.ensures.event _ (g.met.P.BoardProtocol.last_is _) c.leave.result c.leave.ensures in
+    kept a _ (c.accepted-self-inside.ensures ∙ search rules)
 
 pub returns : goal.returns
 returns g c =
-    let k = c.args.self.now in
-    let held = c.enter-tenure.result in
-    let m = c.deref_mut.result.now in
-    let same : m ≡ held.state.value = search rules in
-    let e = entered g.T.PartialOrder.times g.T.Ord.cmp c.self.inside.pass _ k _ _ _ c.self.invariant c.self.view_is held c.enter-tenure.ensures.found held.state.value (g.met.P.BoardProtocol.stands_for held.state held.found c.enter-tenure.ensures.stands) in
-    let after = after_tenure g.T.PartialOrder.times g.T.Ord.cmp k held.state.value held.hub held.number held.found e.within m c.allow-told.new.self c.self.inside.number same e.own_number c.allow-told.ensures.terms c.allow-told.ensures.stands c.leave.result (c.leave.ensures ∙ ap (λ (d : BoardEvent _). record { hub = held.hub; number = held.number; seen = entry held.number d ∷ held.found }) (g.met.P.BoardProtocol.last_is _)) in
-    done_in_turn k c.leave.result (Allow k.number c.args.view c.args.times.now) _ _ c.allow-told.result
-    (on_ok_weaker c.allow-told.result (λ x. subst (λ (x : Event g.row.T.Denot). IsNextTenure k x c.leave.result) (x ∙ ap (λ n. Allow n c.args.view c.args.times.now) (sym e.own_number)) after.adds) c.allow-told.ensures.allowed)
-    (on_err_weaker c.allow-told.result (λ x. subst (λ (x : Event g.row.T.Denot). IsNextTenure k x c.leave.result) (x ∙ ap (λ n. Look n) (sym e.own_number)) after.adds) c.allow-told.ensures.unchanged)
-    (of_found g.T.PartialOrder.times g.T.Ord.cmp k held.state.value held.hub held.number held.found e.within (λ (p : Dataflow) (w : State g.row.T.Denot). OnOk c.allow-told.result (allow_refusal_in g.T.PartialOrder.times w c.args.view c.args.times.now ≡ None)) m same c.allow-told.ensures.accepted c.leave.result after)
-    (of_found g.T.PartialOrder.times g.T.Ord.cmp k held.state.value held.hub held.number held.found e.within (λ (p : Dataflow) (w : State g.row.T.Denot). IfErr c.allow-told.result (IsRefusalBy (allow_refusal_in g.T.PartialOrder.times w c.args.view c.args.times.now))) m same c.allow-told.ensures.refused c.leave.result after)
+    let t = tenure g (goal.at.returns g c).After-deref_mut in
+    let a = after_one t c.allow-told.ensures.event _ (g.met.P.BoardProtocol.last_is _) c.leave.result c.leave.ensures in
+    done_in_turn t a (λ n. Allow n c.args.view c.args.times.now) (λ p w. allow_refusal_in g.T.PartialOrder.times w c.args.view c.args.times.now) c.allow-told.result c.allow-told.ensures.allowed c.allow-told.ensures.unchanged c.allow-told.ensures.accepted c.allow-told.ensures.refused

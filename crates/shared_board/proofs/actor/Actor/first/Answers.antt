@@ -15,5 +15,5 @@ invariant_of-result g c =
     let on : opening_of_board c.deref_mut.result.now ≡ opening_for c.args.plan.now c.args.workers c.args.clients = ap opening_of_board (sym asked) ∙ c.is_on-right.ensures.0 c.if-not-right.false in
     let after = after_first g.T.PartialOrder.times g.T.Ord.cmp (opening_for c.args.plan.now c.args.workers c.args.clients) c.args.number c.args.pass
     (ap (λ (k : Known (BoardEvent g.row.T.Denot)). k.number) c.requires.pass) (ap (λ (k : Known (BoardEvent g.row.T.Denot)). k.seen) c.requires.pass)
-    held.state.value c.deref_mut.result.now c.look.new.self held.hub held.number held.found t.0.0 t.0.1 t.0.2 (g.met.P.BoardProtocol.stands_for held.state held.found t.1) same on c.requires.actor c.look.ensures.terms c.look.ensures.stands c.look.ensures.looked c.leave-pass.result (c.leave-pass.ensures ∙ ap (λ (d : BoardEvent _). record { hub = held.hub; number = held.number; seen = entry held.number d ∷ held.found }) (g.met.P.BoardProtocol.last_is _)) in
+    held.state.value c.deref_mut.result.now c.look.new.self held.hub held.number held.found t.0.0 t.0.1 t.0.2 (g.met.P.BoardProtocol.stands_for held.state held.found t.1) same on c.requires.actor c.look.ensures.event.terms c.look.ensures.event.stands c.look.ensures.looked c.leave-pass.result (c.leave-pass.ensures ∙ ap (λ (d : BoardEvent _). record { hub = held.hub; number = held.number; seen = entry held.number d ∷ held.found }) (g.met.P.BoardProtocol.last_is _)) in
     (after.its_hub ∙ ap (λ (k : Known (BoardEvent g.row.T.Denot)). k.hub) c.requires.pass, after.its_number, after.actor, λ n e. after.counted n (sym (c.accepted-accepted.ensures ∙ search rules) ∙ e))

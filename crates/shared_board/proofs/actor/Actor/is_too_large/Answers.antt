@@ -1,43 +1,30 @@
-use Rattle.std.proofs.Common.{◌∷◌, rules, ◌≡◌, sym, subst, ap, ◌∙◌, IsTrue}
-use Rattle.hub.specs.Histories.{entry}
-use Rattle.histories.specs.declared.event.Event.{Event}
-use Rattle.histories.specs.declared.event.Event.TheVariants.{Look}
-use Rattle.histories.specs.Histories.Dataflows.{Dataflow}
+use Rattle.std.proofs.Common.{rules, ◌∙◌, IsTrue}
+use Rattle.std.specs.Arc.{arc_value}
+use Rattle.hub.specs.Passes.{hub_id}
 use Rattle.histories.specs.Histories.Promises.{changes_in}
-use Rattle.histories.specs.Histories.States.{State}
-use Rattle.shared_board.specs.declared.event.BoardEvent.{BoardEvent}
 use Rattle.shared_board.specs.Large.{HasNoSmallBound}
-use Rattle.shared_board.specs.Tenures.{IsNextTenure, StandsFor}
-use Rattle.shared_board.proofs.ActorLemmas.{after_tenure, leaves, of_found}
-use Rattle.shared_board.proofs.CallLemmas.{entered}
+use Rattle.shared_board.proofs.ActorLemmas.{IsIn, after_one, kept, looked, one_leaves}
+use Rattle.shared_board.proofs.CallLemmas.{entered, found_at}
+use Rattle.shared_board.proofs.actor.Actor.is_too_large.Given.{Over}
+use Rattle.shared_board.proofs.actor.Actor.is_too_large.Goals.{After-deref_mut}
 use Rattle.shared_board.proofs.actor.Actor.is_too_large.Goals as goal
+
+-- the call is made in a tenure
+tenure : (g : Over) (c : After-deref_mut g) → IsIn g.T.PartialOrder.times g.T.Ord.cmp (hub_id (arc_value c.self.inside.hub)) c.self.inside.number c.args.self.now c.enter-tenure.result c.deref_mut.result.now
+tenure g c =
+    entered g.T.PartialOrder.times g.T.Ord.cmp c.self.inside.pass _ c.args.self.now _ _ _ c.self.invariant c.self.view_is c.enter-tenure.result c.enter-tenure.ensures.found c.deref_mut.result.now c.enter-tenure.result.state.value (g.met.P.BoardProtocol.stands_for c.enter-tenure.result.state c.enter-tenure.result.found c.enter-tenure.ensures.stands) (search rules)
 
 pub leave-requires : goal.leave-requires
 leave-requires g c =
-    let k = c.args.self.now in
-    let held = c.enter-tenure.result in
-    let m = c.deref_mut.result.now in
-    let same : m ≡ held.state.value = search rules in
-    let e = entered g.T.PartialOrder.times g.T.Ord.cmp c.self.inside.pass _ k _ _ _ c.self.invariant c.self.view_is held c.enter-tenure.ensures.found held.state.value (g.met.P.BoardProtocol.stands_for held.state held.found c.enter-tenure.ensures.stands) in
-    g.met.P.BoardProtocol.may_stand _ _ (subst (λ (d : BoardEvent _). StandsFor g.T.PartialOrder.times g.T.Ord.cmp c.look.new.self (entry held.number d ∷ held.found)) (sym (g.met.P.BoardProtocol.last_is _))
-    (leaves g.T.PartialOrder.times g.T.Ord.cmp k held.state.value held.hub held.number held.found e.within m c.look.new.self c.self.inside.number same e.own_number c.look.ensures.terms c.look.ensures.stands))
+    g.met.P.BoardProtocol.may_stand _ _ (one_leaves (tenure g (goal.at.leave-requires g c).After-deref_mut) c.look.ensures.event _ (g.met.P.BoardProtocol.last_is _))
 
 pub invariant_of-self : goal.invariant_of-self
 invariant_of-self g c =
-    let k = c.args.self.now in
-    let held = c.enter-tenure.result in
-    let m = c.deref_mut.result.now in
-    let same : m ≡ held.state.value = search rules in
-    let e = entered g.T.PartialOrder.times g.T.Ord.cmp c.self.inside.pass _ k _ _ _ c.self.invariant c.self.view_is held c.enter-tenure.ensures.found held.state.value (g.met.P.BoardProtocol.stands_for held.state held.found c.enter-tenure.ensures.stands) in
-    let after = after_tenure g.T.PartialOrder.times g.T.Ord.cmp k held.state.value held.hub held.number held.found e.within m c.look.new.self c.self.inside.number same e.own_number c.look.ensures.terms c.look.ensures.stands c.leave.result (c.leave.ensures ∙ ap (λ (d : BoardEvent _). record { hub = held.hub; number = held.number; seen = entry held.number d ∷ held.found }) (g.met.P.BoardProtocol.last_is _)) in
-    (after.same_hub ∙ e.same_hub, after.same_number ∙ e.own_number, after.actor, λ n x. after.counted n (sym (c.accepted-self-inside.ensures ∙ search rules) ∙ x))
+    let a = after_one (tenure g (goal.at.invariant_of-self g c).After-deref_mut) c.look.ensures.event _ (g.met.P.BoardProtocol.last_is _) c.leave.result c.leave.ensures in
+    kept a _ (c.accepted-self-inside.ensures ∙ search rules)
 
 pub returns : goal.returns
 returns g c =
-    let k = c.args.self.now in
-    let held = c.enter-tenure.result in
-    let m = c.deref_mut.result.now in
-    let same : m ≡ held.state.value = search rules in
-    let e = entered g.T.PartialOrder.times g.T.Ord.cmp c.self.inside.pass _ k _ _ _ c.self.invariant c.self.view_is held c.enter-tenure.ensures.found held.state.value (g.met.P.BoardProtocol.stands_for held.state held.found c.enter-tenure.ensures.stands) in
-    let after = after_tenure g.T.PartialOrder.times g.T.Ord.cmp k held.state.value held.hub held.number held.found e.within m c.look.new.self c.self.inside.number same e.own_number c.look.ensures.terms c.look.ensures.stands c.leave.result (c.leave.ensures ∙ ap (λ (d : BoardEvent _). record { hub = held.hub; number = held.number; seen = entry held.number d ∷ held.found }) (g.met.P.BoardProtocol.last_is _)) in
-    (subst (λ (x : Event g.row.T.Denot). IsNextTenure k x c.leave.result) (c.look.ensures.looked ∙ ap (λ n. Look n) (sym e.own_number)) after.adds, of_found g.T.PartialOrder.times g.T.Ord.cmp k held.state.value held.hub held.number held.found e.within (λ (p : Dataflow) (w : State g.row.T.Denot). IsTrue c.is_too_large-large.result → HasNoSmallBound g.T.PartialOrder.times g.T.Ord.cmp p.nodes (changes_in w)) c.deref-2.result.now (search rules) c.is_too_large-large.ensures.cause c.leave.result after)
+    let t = tenure g (goal.at.returns g c).After-deref_mut in
+    let a = after_one t c.look.ensures.event _ (g.met.P.BoardProtocol.last_is _) c.leave.result c.leave.ensures in
+    (looked a c.look.ensures.looked, found_at t a (λ p w. IsTrue c.is_too_large-large.result → HasNoSmallBound g.T.PartialOrder.times g.T.Ord.cmp p.nodes (changes_in w)) c.deref-2.result.now (search rules) c.is_too_large-large.ensures.cause)

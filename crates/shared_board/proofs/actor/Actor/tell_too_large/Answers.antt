@@ -1,62 +1,33 @@
-use Rattle.std.proofs.Common.{◌∷◌, rules, ◌≡◌, sym, subst, ap, ◌∙◌, length}
-use Rattle.hub.specs.Histories.{entry}
-use Rattle.hub.specs.Known.{Known}
-use Rattle.histories.specs.declared.event.Event.{Event}
-use Rattle.histories.specs.declared.event.Event.TheVariants.{Look}
-use Rattle.histories.specs.Histories.Promises.{changes_in}
-use Rattle.shared_board.specs.declared.event.BoardEvent.{BoardEvent}
-use Rattle.shared_board.specs.Large.{HasNoSmallBound}
-use Rattle.shared_board.specs.Tenures.{IsNextTenure, Opening, left_by, state_left, opening_in, opening_of_board, StandsFor}
-use Rattle.shared_board.proofs.ActorLemmas.{IsIn, after_with, leaves_with, stood_at, is_some_at, opening_found}
+use Rattle.std.proofs.Common.{rules, ◌∙◌}
+use Rattle.std.specs.Arc.{arc_value}
+use Rattle.hub.specs.Passes.{hub_id}
+use Rattle.shared_board.proofs.ActorLemmas.{IsIn, after, kept, leaves, looked}
+use Rattle.shared_board.proofs.CallLemmas.{entered, remembered, told}
+use Rattle.shared_board.proofs.actor.Actor.tell_too_large.Given.{Over}
+use Rattle.shared_board.proofs.actor.Actor.tell_too_large.Goals.{After-deref_mut}
 use Rattle.shared_board.proofs.actor.Actor.tell_too_large.Goals as goal
+
+-- the call is made in a tenure
+tenure : (g : Over) (c : After-deref_mut g) → IsIn g.T.PartialOrder.times g.T.Ord.cmp (hub_id (arc_value c.self.inside.hub)) c.self.inside.number c.args.self.now c.enter-tenure.result c.deref_mut.result.now
+tenure g c =
+    entered g.T.PartialOrder.times g.T.Ord.cmp c.self.inside.pass _ c.args.self.now _ _ _ c.self.invariant c.self.view_is c.enter-tenure.result c.enter-tenure.ensures.found c.deref_mut.result.now c.enter-tenure.result.state.value (g.met.P.BoardProtocol.stands_for c.enter-tenure.result.state c.enter-tenure.result.found c.enter-tenure.ensures.stands) (search rules)
 
 pub leave-requires : goal.leave-requires
 leave-requires g c =
-    let pass = c.in-Some.pass in
-    let there = is_some_at c.self.inside.pass _ c.self.invariant pass (search rules) in
-    let t = c.enter-tenure.ensures.found in
-    let held = c.enter-tenure.result in
-    let here : IsIn g.T.PartialOrder.times g.T.Ord.cmp pass held.state.value held.hub held.number held.found = record { actor = there.2; its_hub = t.0.0; its_number = t.0.1; agrees = t.0.2; stands = g.met.P.BoardProtocol.stands_for held.state held.found t.1 } in
-    let same : c.deref_mut.result.now ≡ held.state.value = search rules in
-    let self_is : pass ≡ c.args.self.now = search rules in
-    let terms : opening_of_board c.deref_mut.result.now ≡ opening_in pass.seen = ap opening_of_board same ∙ opening_found g.T.PartialOrder.times g.T.Ord.cmp pass held.state.value held.hub held.number held.found here in
-    let next = c.tell_too_large.ensures.stands held.found (stood_at g.T.PartialOrder.times g.T.Ord.cmp pass held.state.value held.hub held.number held.found here c.deref_mut.result.now same) t.0.2.0 pass.seen t.0.2.1
-    (λ n e. ap (λ (x : Opening). length (left_by g.T.PartialOrder.times x.dataflow pass.seen).fed) terms ∙ there.3 n e)
-    (subst (λ (x : Opening). HasNoSmallBound g.T.PartialOrder.times g.T.Ord.cmp x.dataflow.nodes (changes_in (left_by g.T.PartialOrder.times x.dataflow pass.seen))) (sym terms)
-    (subst (λ (k : Known (BoardEvent g.row.T.Denot)). HasNoSmallBound g.T.PartialOrder.times g.T.Ord.cmp (opening_in k.seen).dataflow.nodes (changes_in (state_left g.T.PartialOrder.times k))) (sym self_is) c.requires.cause)) in
-    g.met.P.BoardProtocol.may_stand _ _ (subst (λ (d : BoardEvent _). StandsFor g.T.PartialOrder.times g.T.Ord.cmp c.tell_too_large.new.self (entry held.number d ∷ held.found)) (sym (g.met.P.BoardProtocol.last_is _))
-    (leaves_with g.T.PartialOrder.times g.T.Ord.cmp pass held.state.value held.hub held.number held.found here c.deref_mut.result.now c.tell_too_large.new.self c.self.inside.number there.1 c.tell_too_large.ensures.terms next))
+    let t = tenure g (goal.at.leave-requires g c).After-deref_mut in
+    let next = told t c.tell_too_large.new.self c.self.inside.accepted (remembered g.T.PartialOrder.times c.self.inside.pass _ c.args.self.now _ _ _ c.self.invariant c.self.view_is) c.requires.cause c.tell_too_large.ensures.stands in
+    g.met.P.BoardProtocol.may_stand _ _ (leaves t c.tell_too_large.new.self c.tell_too_large.ensures.terms next _ (g.met.P.BoardProtocol.last_is _))
 
 pub invariant_of-self : goal.invariant_of-self
 invariant_of-self g c =
-    let pass = c.in-Some.pass in
-    let there = is_some_at c.self.inside.pass _ c.self.invariant pass (search rules) in
-    let t = c.enter-tenure.ensures.found in
-    let held = c.enter-tenure.result in
-    let here : IsIn g.T.PartialOrder.times g.T.Ord.cmp pass held.state.value held.hub held.number held.found = record { actor = there.2; its_hub = t.0.0; its_number = t.0.1; agrees = t.0.2; stands = g.met.P.BoardProtocol.stands_for held.state held.found t.1 } in
-    let same : c.deref_mut.result.now ≡ held.state.value = search rules in
-    let self_is : pass ≡ c.args.self.now = search rules in
-    let terms : opening_of_board c.deref_mut.result.now ≡ opening_in pass.seen = ap opening_of_board same ∙ opening_found g.T.PartialOrder.times g.T.Ord.cmp pass held.state.value held.hub held.number held.found here in
-    let next = c.tell_too_large.ensures.stands held.found (stood_at g.T.PartialOrder.times g.T.Ord.cmp pass held.state.value held.hub held.number held.found here c.deref_mut.result.now same) t.0.2.0 pass.seen t.0.2.1
-    (λ n e. ap (λ (x : Opening). length (left_by g.T.PartialOrder.times x.dataflow pass.seen).fed) terms ∙ there.3 n e)
-    (subst (λ (x : Opening). HasNoSmallBound g.T.PartialOrder.times g.T.Ord.cmp x.dataflow.nodes (changes_in (left_by g.T.PartialOrder.times x.dataflow pass.seen))) (sym terms)
-    (subst (λ (k : Known (BoardEvent g.row.T.Denot)). HasNoSmallBound g.T.PartialOrder.times g.T.Ord.cmp (opening_in k.seen).dataflow.nodes (changes_in (state_left g.T.PartialOrder.times k))) (sym self_is) c.requires.cause)) in
-    let after = after_with g.T.PartialOrder.times g.T.Ord.cmp pass held.state.value held.hub held.number held.found here c.deref_mut.result.now c.tell_too_large.new.self c.self.inside.number same there.1 c.tell_too_large.ensures.terms next c.leave.result (c.leave.ensures ∙ ap (λ (d : BoardEvent _). record { hub = held.hub; number = held.number; seen = entry held.number d ∷ held.found }) (g.met.P.BoardProtocol.last_is _)) in
-    (after.same_hub ∙ there.0, after.same_number ∙ there.1, after.actor, λ n e. after.counted n (sym (c.accepted-self-inside.ensures ∙ search rules) ∙ e))
+    let t = tenure g (goal.at.invariant_of-self g c).After-deref_mut in
+    let next = told t c.tell_too_large.new.self c.self.inside.accepted (remembered g.T.PartialOrder.times c.self.inside.pass _ c.args.self.now _ _ _ c.self.invariant c.self.view_is) c.requires.cause c.tell_too_large.ensures.stands in
+    let a = after t c.tell_too_large.new.self c.tell_too_large.ensures.terms next _ (g.met.P.BoardProtocol.last_is _) c.leave.result c.leave.ensures in
+    kept a _ (c.accepted-self-inside.ensures ∙ search rules)
 
 pub returns : goal.returns
 returns g c =
-    let pass = c.in-Some.pass in
-    let there = is_some_at c.self.inside.pass _ c.self.invariant pass (search rules) in
-    let t = c.enter-tenure.ensures.found in
-    let held = c.enter-tenure.result in
-    let here : IsIn g.T.PartialOrder.times g.T.Ord.cmp pass held.state.value held.hub held.number held.found = record { actor = there.2; its_hub = t.0.0; its_number = t.0.1; agrees = t.0.2; stands = g.met.P.BoardProtocol.stands_for held.state held.found t.1 } in
-    let same : c.deref_mut.result.now ≡ held.state.value = search rules in
-    let self_is : pass ≡ c.args.self.now = search rules in
-    let terms : opening_of_board c.deref_mut.result.now ≡ opening_in pass.seen = ap opening_of_board same ∙ opening_found g.T.PartialOrder.times g.T.Ord.cmp pass held.state.value held.hub held.number held.found here in
-    let next = c.tell_too_large.ensures.stands held.found (stood_at g.T.PartialOrder.times g.T.Ord.cmp pass held.state.value held.hub held.number held.found here c.deref_mut.result.now same) t.0.2.0 pass.seen t.0.2.1
-    (λ n e. ap (λ (x : Opening). length (left_by g.T.PartialOrder.times x.dataflow pass.seen).fed) terms ∙ there.3 n e)
-    (subst (λ (x : Opening). HasNoSmallBound g.T.PartialOrder.times g.T.Ord.cmp x.dataflow.nodes (changes_in (left_by g.T.PartialOrder.times x.dataflow pass.seen))) (sym terms)
-    (subst (λ (k : Known (BoardEvent g.row.T.Denot)). HasNoSmallBound g.T.PartialOrder.times g.T.Ord.cmp (opening_in k.seen).dataflow.nodes (changes_in (state_left g.T.PartialOrder.times k))) (sym self_is) c.requires.cause)) in
-    let after = after_with g.T.PartialOrder.times g.T.Ord.cmp pass held.state.value held.hub held.number held.found here c.deref_mut.result.now c.tell_too_large.new.self c.self.inside.number same there.1 c.tell_too_large.ensures.terms next c.leave.result (c.leave.ensures ∙ ap (λ (d : BoardEvent _). record { hub = held.hub; number = held.number; seen = entry held.number d ∷ held.found }) (g.met.P.BoardProtocol.last_is _)) in
-    record { looked = subst (λ (k : Known (BoardEvent g.row.T.Denot)). IsNextTenure k (Look k.number) c.leave.result) self_is (subst (λ (e : Event g.row.T.Denot). IsNextTenure pass e c.leave.result) (c.tell_too_large.ensures.looked ∙ ap (λ n. Look n) (sym there.1)) after.adds) }
+    let t = tenure g (goal.at.returns g c).After-deref_mut in
+    let next = told t c.tell_too_large.new.self c.self.inside.accepted (remembered g.T.PartialOrder.times c.self.inside.pass _ c.args.self.now _ _ _ c.self.invariant c.self.view_is) c.requires.cause c.tell_too_large.ensures.stands in
+    let a = after t c.tell_too_large.new.self c.tell_too_large.ensures.terms next _ (g.met.P.BoardProtocol.last_is _) c.leave.result c.leave.ensures in
+    record { looked = looked a c.tell_too_large.ensures.looked }

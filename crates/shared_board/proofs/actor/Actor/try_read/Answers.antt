@@ -1,69 +1,39 @@
-use Rattle.std.proofs.Common.{◌∷◌, rules, ◌≡◌, ◌<◌, sym, subst, ap, ◌∙◌, length, None, IsTrue}
-use Rattle.std.specs.Prelude.{IfOk, IfErr, OnOk}
-use Rattle.hub.specs.Histories.{entry}
-use Rattle.update.specs.Bags.{Alike}
-use Rattle.plan.specs.Changes.{query_at}
+use Rattle.std.proofs.Common.{rules, ◌<◌, ◌∙◌, length, IsTrue}
+use Rattle.std.specs.Arc.{arc_value}
+use Rattle.hub.specs.Passes.{hub_id}
 use Rattle.plan.specs.Nodes.{is_output}
-use Rattle.histories.specs.declared.event.Event.{Event}
-use Rattle.histories.specs.declared.event.Event.TheVariants.{Look}
-use Rattle.histories.specs.Histories.Dataflows.{Dataflow, node_of}
-use Rattle.histories.specs.Histories.Promises.{changes_in}
-use Rattle.histories.specs.Histories.States.{State}
-use Rattle.shared_board.specs.declared.event.BoardEvent.{BoardEvent}
-use Rattle.shared_board.specs.Tenures.{IsNextTenure, Opening, StandsFor, read_refusal_in, IsReadRefusalIn}
-use Rattle.shared_board.proofs.ActorLemmas.{after_tenure, at_board, leaves, of_found}
-use Rattle.shared_board.proofs.CallLemmas.{entered, answered, read_of}
+use Rattle.histories.specs.Histories.Dataflows.{node_of}
+use Rattle.shared_board.proofs.ActorLemmas.{IsIn, after_one, kept, on_board, one_leaves}
+use Rattle.shared_board.proofs.CallLemmas.{answered, entered, read_in_turn}
+use Rattle.shared_board.proofs.actor.Actor.try_read.Given.{Over}
+use Rattle.shared_board.proofs.actor.Actor.try_read.Goals.{After-deref_mut}
 use Rattle.shared_board.proofs.actor.Actor.try_read.Goals as goal
+
+-- the call is made in a tenure
+tenure : (g : Over) (c : After-deref_mut g) → IsIn g.T.PartialOrder.times g.T.Ord.cmp (hub_id (arc_value c.self.inside.hub)) c.self.inside.number c.args.self.now c.in_ok-tenure.tenure c.deref_mut.result.now
+tenure g c =
+    entered g.T.PartialOrder.times g.T.Ord.cmp c.self.inside.pass _ c.args.self.now _ _ _ c.self.invariant c.self.view_is c.in_ok-tenure.tenure c.in_ok-tenure.ensures.found c.deref_mut.result.now c.in_ok-tenure.tenure.state.value (g.met.P.BoardProtocol.stands_for c.in_ok-tenure.tenure.state c.in_ok-tenure.tenure.found c.in_ok-tenure.ensures.stands) (search rules)
 
 pub read-rows-requires-clause-within : goal.read-rows-requires-clause-within
 read-rows-requires-clause-within g c =
-    let k = c.args.self.now in
-    let held = c.in_ok-tenure.tenure in
-    let m = c.deref_mut.result.now in
-    let same : m ≡ held.state.value = search rules in
-    let e = entered g.T.PartialOrder.times g.T.Ord.cmp c.self.inside.pass _ k _ _ _ c.self.invariant c.self.view_is held c.in_ok-tenure.ensures.found held.state.value (g.met.P.BoardProtocol.stands_for held.state held.found c.in_ok-tenure.ensures.stands) in
-    at_board g.T.PartialOrder.times g.T.Ord.cmp k held.state.value held.hub held.number held.found e.within (λ (x : Opening). c.args.view < length x.dataflow.nodes) c.requires.within m same
+    on_board (tenure g (goal.at.read-rows-requires-clause-within g c).After-deref_mut) (λ x n. c.args.view < length x.dataflow.nodes) c.requires.within
 
 pub read-rows-requires-clause-view : goal.read-rows-requires-clause-view
 read-rows-requires-clause-view g c =
-    let k = c.args.self.now in
-    let held = c.in_ok-tenure.tenure in
-    let m = c.deref_mut.result.now in
-    let same : m ≡ held.state.value = search rules in
-    let e = entered g.T.PartialOrder.times g.T.Ord.cmp c.self.inside.pass _ k _ _ _ c.self.invariant c.self.view_is held c.in_ok-tenure.ensures.found held.state.value (g.met.P.BoardProtocol.stands_for held.state held.found c.in_ok-tenure.ensures.stands) in
-    at_board g.T.PartialOrder.times g.T.Ord.cmp k held.state.value held.hub held.number held.found e.within (λ (x : Opening). IsTrue (is_output (node_of x.dataflow c.args.view))) c.requires.view m same
+    on_board (tenure g (goal.at.read-rows-requires-clause-view g c).After-deref_mut) (λ x n. IsTrue (is_output (node_of x.dataflow c.args.view))) c.requires.view
 
 pub leave-requires : goal.leave-requires
 leave-requires g c =
-    let k = c.args.self.now in
-    let held = c.in_ok-tenure.tenure in
-    let m = c.deref_mut.result.now in
-    let same : m ≡ held.state.value = search rules in
-    let e = entered g.T.PartialOrder.times g.T.Ord.cmp c.self.inside.pass _ k _ _ _ c.self.invariant c.self.view_is held c.in_ok-tenure.ensures.found held.state.value (g.met.P.BoardProtocol.stands_for held.state held.found c.in_ok-tenure.ensures.stands) in
-    g.met.P.BoardProtocol.may_stand _ _ (subst (λ (d : BoardEvent _). StandsFor g.T.PartialOrder.times g.T.Ord.cmp c.read-rows.new.self (entry held.number d ∷ held.found)) (sym (g.met.P.BoardProtocol.last_is _))
-    (leaves g.T.PartialOrder.times g.T.Ord.cmp k held.state.value held.hub held.number held.found e.within m c.read-rows.new.self c.self.inside.number same e.own_number c.read-rows.ensures.terms c.read-rows.ensures.stands))
+    g.met.P.BoardProtocol.may_stand _ _ (one_leaves (tenure g (goal.at.leave-requires g c).After-deref_mut) c.read-rows.ensures.event _ (g.met.P.BoardProtocol.last_is _))
 
 pub invariant_of-self-2 : goal.invariant_of-self-2
 invariant_of-self-2 g c =
-    let k = c.args.self.now in
-    let held = c.in_ok-tenure.tenure in
-    let m = c.deref_mut.result.now in
-    let same : m ≡ held.state.value = search rules in
-    let e = entered g.T.PartialOrder.times g.T.Ord.cmp c.self.inside.pass _ k _ _ _ c.self.invariant c.self.view_is held c.in_ok-tenure.ensures.found held.state.value (g.met.P.BoardProtocol.stands_for held.state held.found c.in_ok-tenure.ensures.stands) in
-    let after = after_tenure g.T.PartialOrder.times g.T.Ord.cmp k held.state.value held.hub held.number held.found e.within m c.read-rows.new.self c.self.inside.number same e.own_number c.read-rows.ensures.terms c.read-rows.ensures.stands c.leave.result (c.leave.ensures ∙ ap (λ (d : BoardEvent _). record { hub = held.hub; number = held.number; seen = entry held.number d ∷ held.found }) (g.met.P.BoardProtocol.last_is _)) in
-    (after.same_hub ∙ e.same_hub, after.same_number ∙ e.own_number, after.actor, λ n x. after.counted n (sym (c.accepted-self-inside.ensures ∙ search rules) ∙ x))
+    let a = after_one (tenure g (goal.at.invariant_of-self-2 g c).After-deref_mut) c.read-rows.ensures.event _ (g.met.P.BoardProtocol.last_is _) c.leave.result c.leave.ensures in
+    kept a _ (c.accepted-self-inside.ensures ∙ search rules)
 
 pub returns : goal.returns
 returns g c =
-    let k = c.args.self.now in
-    let held = c.in_ok-tenure.tenure in
-    let m = c.deref_mut.result.now in
-    let same : m ≡ held.state.value = search rules in
-    let e = entered g.T.PartialOrder.times g.T.Ord.cmp c.self.inside.pass _ k _ _ _ c.self.invariant c.self.view_is held c.in_ok-tenure.ensures.found held.state.value (g.met.P.BoardProtocol.stands_for held.state held.found c.in_ok-tenure.ensures.stands) in
-    let after = after_tenure g.T.PartialOrder.times g.T.Ord.cmp k held.state.value held.hub held.number held.found e.within m c.read-rows.new.self c.self.inside.number same e.own_number c.read-rows.ensures.terms c.read-rows.ensures.stands c.leave.result (c.leave.ensures ∙ ap (λ (d : BoardEvent _). record { hub = held.hub; number = held.number; seen = entry held.number d ∷ held.found }) (g.met.P.BoardProtocol.last_is _)) in
-    answered k c.leave.result _ _ c.read-rows.result (subst (λ (x : Event g.row.T.Denot). IsNextTenure k x c.leave.result) (c.read-rows.ensures.looked ∙ ap (λ n. Look n) (sym e.own_number)) after.adds)
-    (read_of g.T.PartialOrder.times k c.leave.result c.args.view c.args.t c.read-rows.result
-    (of_found g.T.PartialOrder.times g.T.Ord.cmp k held.state.value held.hub held.number held.found e.within (λ (p : Dataflow) (w : State g.row.T.Denot). OnOk c.read-rows.result (read_refusal_in g.T.PartialOrder.times p w c.args.view c.args.t ≡ None)) m same c.read-rows.ensures.accepted c.leave.result after)
-    c.read-rows.ensures.bag
-    (of_found g.T.PartialOrder.times g.T.Ord.cmp k held.state.value held.hub held.number held.found e.within (λ (p : Dataflow) (w : State g.row.T.Denot). IfOk c.read-rows.result (λ bag. Alike bag (query_at g.T.PartialOrder.times p.nodes (changes_in w) c.args.view c.args.t))) m same c.read-rows.ensures.query c.leave.result after))
-    (of_found g.T.PartialOrder.times g.T.Ord.cmp k held.state.value held.hub held.number held.found e.within (λ (p : Dataflow) (w : State g.row.T.Denot). IfErr c.read-rows.result (IsReadRefusalIn g.T.PartialOrder.times p w c.args.view c.args.t)) m same c.read-rows.ensures.refused c.leave.result after)
+    let t = tenure g (goal.at.returns g c).After-deref_mut in
+    let a = after_one t c.read-rows.ensures.event _ (g.met.P.BoardProtocol.last_is _) c.leave.result c.leave.ensures in
+    answered _ _ _ _ c.read-rows.result
+    (read_in_turn t a c.args.view c.args.t c.read-rows.result c.read-rows.ensures.looked c.read-rows.ensures.accepted c.read-rows.ensures.bag c.read-rows.ensures.query c.read-rows.ensures.refused)
