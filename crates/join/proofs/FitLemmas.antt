@@ -6,8 +6,8 @@ use Rattle.lattice.proofs.FrontierLemmas.{all_more}
 use Rattle.antichain.proofs.Lists.{all_at, all_from, filter_has, filter_takes}
 use Rattle.update.specs.Bags.{same_row}
 use Rattle.update.specs.declared.change.Update.{Update}
-use Rattle.join.specs.declared.formed.Side.{Side}
-use Rattle.join.specs.declared.formed.Side.TheVariants.{Left, Right}
+use Rattle.join.specs.declared.side.Side.{Side}
+use Rattle.join.specs.declared.side.Side.TheVariants.{Left, Right}
 use Rattle.join.specs.Pairs.{is_keyed, fits, pairs_fit}
 use Rattle.join.specs.FormedPairs.{formed_fits, formed_fit}
 use Rattle.join.proofs.StandLemmas.{piece_passes}
@@ -40,20 +40,17 @@ module _ {T : Type 0} (k : ℕ) where
   -- does
   pub stored_fit : (side : Side) (content vs : List (Update T)) → ((p : List ℤ → T → Bool) → IsTrue (list_all (λ u. p u.row u.time) content) → IsTrue (list_all (λ u. p u.row u.time) vs))
       → (us : List (Update T)) → IsTrue (formed_fit side k us content) → IsTrue (formed_fit side k us vs)
-  stored_fit Left content vs stored us a =
-      all_more (λ u. list_all (formed_fits Left k u) (filter (is_keyed k (take k u.row)) content)) (λ u. list_all (formed_fits Left k u) (filter (is_keyed k (take k u.row)) vs))
+  stored_fit side content vs stored us a =
+      all_more (λ u. list_all (formed_fits side k u) (filter (is_keyed k (take k u.row)) content)) (λ u. list_all (formed_fits side k u) (filter (is_keyed k (take k u.row)) vs))
       (λ u h.
-      all_from_if (is_keyed k (take k u.row)) (formed_fits Left k u) vs
-      (stored (λ row _. cond (same_row (take k row) (take k u.row)) (nat_le (length u.row + length (drop k row)) 8) true)
-      (all_if (is_keyed k (take k u.row)) (formed_fits Left k u) content h)))
+      all_from_if (is_keyed k (take k u.row)) (formed_fits side k u) vs
+      (by_row side u (all_if (is_keyed k (take k u.row)) (formed_fits side k u) content h)))
       us a
-  stored_fit Right content vs stored us a =
-      all_more (λ u. list_all (formed_fits Right k u) (filter (is_keyed k (take k u.row)) content)) (λ u. list_all (formed_fits Right k u) (filter (is_keyed k (take k u.row)) vs))
-      (λ u h.
-      all_from_if (is_keyed k (take k u.row)) (formed_fits Right k u) vs
-      (stored (λ row _. cond (same_row (take k row) (take k u.row)) (nat_le (length row + length (drop k u.row)) 8) true)
-      (all_if (is_keyed k (take k u.row)) (formed_fits Right k u) content h)))
-      us a
+    where
+      -- whether a pair fits is a test of the other row
+      by_row : (side : Side) (u : Update T) → IsTrue (list_all (if_passed (is_keyed k (take k u.row)) (formed_fits side k u) content) content) → IsTrue (list_all (if_passed (is_keyed k (take k u.row)) (formed_fits side k u) vs) vs)
+      by_row Left u = stored (λ row _. cond (same_row (take k row) (take k u.row)) (nat_le (length u.row + length (drop k row)) 8) true)
+      by_row Right u = stored (λ row _. cond (same_row (take k row) (take k u.row)) (nat_le (length row + length (drop k u.row)) 8) true)
 
   -- what fits with all pieces fits with each of them
   pub piece_fit : {B : Type 0} (content : B → List (Update T)) (side : Side) (cs : List B) (i : ℕ) (c : B) (us : List (Update T)) → IsSomeAnd (slice_get cs i) (λ d. c ≡ d)

@@ -1,8 +1,6 @@
 -- A total that is no 64-bit number asks for many updates or large ones.
 use Rattle.std.proofs.Common.{◌≡◌, ℕ, ◌+◌, ◌≤◌, ◌^◌, true, false, cond, ◌&&◌, List, [], ◌∷◌, inl, inr, ⊎_elim, arith, w64, FitsSigned, Bool, sym, ap, refl, ◌∙◌}
-use Rattle.std.specs.Prelude.{ℤ, pos, ◌+ℤ◌, unsigned_abs, IfErr}
-use Rattle.std.specs.declared.result.Result.{Result}
-use Rattle.std.specs.declared.result.Result.TheVariants.{Ok, Err}
+use Rattle.std.specs.Prelude.{ℤ, pos, ◌+ℤ◌, unsigned_abs}
 use Rattle.std.proofs.lemmas.Bool.{cases_lt}
 use Rattle.std.proofs.lemmas.Int.{ints, fits_signed_from_abs}
 use Rattle.update.specs.Bags.{same_row}
@@ -43,14 +41,13 @@ pub refused_more : (cause more : Type 0) (e : Refusal) → (cause → more) → 
 refused_more cause more e f (inl memory) = inl memory
 refused_more cause more e f (inr large) = inr (large.0, f large.1)
 
--- what brings about an overflow is a cause of what is refused
-pub refused_by : {A : Type 0} (cause more : Type 0) (r : Result A Refusal) → IfErr r (IsMemoryOrOverflow cause) → IfErr r (λ e. e ≡ Overflow → more) → IfErr r (IsMemoryOrOverflow more)
-refused_by cause more (Ok x) h g = tt
-refused_by cause more (Err e) (inl memory) g = inl memory
-refused_by cause more (Err e) (inr large) g = inr (large.0, g large.0)
+-- what an overflow brings about is a cause of what is refused
+pub refused_by : (cause more : Type 0) (e : Refusal) → IsMemoryOrOverflow cause e → (e ≡ Overflow → more) → IsMemoryOrOverflow more e
+refused_by cause more e (inl memory) g = inl memory
+refused_by cause more e (inr large) g = inr (large.0, g large.0)
 
 -- a refusal for want of memory is no overflow
-memory_no_overflow : (e : Refusal) → e ≡ OutOfMemory → e ≡ Overflow → ⊥
+pub memory_no_overflow : (e : Refusal) → e ≡ OutOfMemory → e ≡ Overflow → ⊥
 memory_no_overflow e m o = apart (code_of OutOfMemory) (code_of Overflow) refl refl (ap code_of (sym m ∙ o))
   where
     apart : (n k : ℕ) → n ≡ 1 → k ≡ 10 → n ≡ k → ⊥

@@ -9,6 +9,7 @@ pub mod StandLemmas
 pub mod PartLemmas
 pub mod TurnedLemmas
 pub mod FitLemmas
+pub mod SideLemmas
 pub mod LastLemmas
 pub mod RunLemmas
 pub mod DeterminedLemmas

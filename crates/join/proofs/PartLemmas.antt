@@ -17,7 +17,7 @@ use Rattle.update.proofs.ConsolidatedLemmas.{moved_size}
 use Rattle.plan.proofs.CountLemmas.{row_itself}
 use Rattle.trace.specs.Readings.{all_content}
 use Rattle.trace.proofs.ReadLemmas.{size-append}
-use Rattle.join.specs.declared.formed.Side.{Side}
+use Rattle.join.specs.declared.side.Side.{Side}
 use Rattle.join.specs.Parts.{ArePartOf, HasLargePart}
 use Rattle.join.specs.FormedPairs.{formed_all, StandsIn, HasLargeDiff, HasLargePartWith}
 use Rattle.join.proofs.LargeLemmas.{large_size}

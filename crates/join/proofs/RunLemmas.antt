@@ -25,11 +25,12 @@ use Rattle.columns.specs.Runs.{row_starts, run_place}
 use Rattle.columns.proofs.PlaceLemmas.{run_place_end, run_place_within, run_place_onward, run_place_up, parts_joined}
 use Rattle.batch.specs.Batches.{by_row_then_time, at_key, AllBefore, NoneBefore, NoneAfter, AllAfter}
 use Rattle.batch.proofs.SeekLemmas.{range_long}
-use Rattle.join.specs.declared.formed.Side.{Side}
-use Rattle.join.specs.declared.formed.Side.TheVariants.{Left, Right}
+use Rattle.join.specs.declared.side.Side.{Side}
+use Rattle.join.specs.declared.side.Side.TheVariants.{Left, Right}
 use Rattle.join.specs.Pairs.{is_keyed, is_wide}
 use Rattle.join.specs.Parts.{ArePartOf}
-use Rattle.join.specs.FormedPairs.{turned, formed_pair, formed_fits, formed_fit, formed_with, formed_each, formed_all, updates_in, StandsIn, HasLargeDiff, HasLargePartWith}
+use Rattle.join.specs.Sides.{turned}
+use Rattle.join.specs.FormedPairs.{formed_pair, formed_fits, formed_fit, formed_with, formed_each, formed_all, updates_in, StandsIn, HasLargeDiff, HasLargePartWith}
 use Rattle.join.proofs.FormedLemmas.{passes_at, some_at, at_some, some_is, some_element, range_more, image_at}
 use Rattle.join.proofs.OrderLemmas.{rows_total, keys_rise, front_grows, front_stays, found_is}
 use Rattle.join.proofs.PartLemmas.{part_moved, part_front, part_back, part_of_part, pieces_part, large_so_far, large_with_more}

@@ -14,7 +14,7 @@ use Rattle.update.proofs.SumLemmas.{total_by-append}
 use Rattle.update.proofs.ConsolidatedLemmas.{moved_total, moved_size, moved_among}
 use Rattle.trace.specs.Readings.{all_content}
 use Rattle.trace.proofs.ReadLemmas.{size-append}
-use Rattle.join.specs.declared.formed.Side.{Side}
+use Rattle.join.specs.declared.side.Side.{Side}
 use Rattle.join.specs.Pairs.{is_keyed}
 use Rattle.join.specs.FormedPairs.{formed_pair, formed_with, formed_all, StandsIn}
 use Rattle.lattice.specs.Times.{Times}

@@ -1,21 +1,17 @@
--- A batch on the right forms the pairs of the definition in another order, so what it forms stands
--- in for them.
+-- A batch on the right forms the pairs of the definition in another order.
 use Rattle.std.proofs.Common.{◌≡◌, ℕ, ℤ, Bool, true, false, cond, List, [], ◌∷◌, ◌++◌, map, take, refl, sym, ap, ◌∙◌, subst}
 use Rattle.std.specs.List.{filter, flat_map}
 use Rattle.std.specs.List.Sorted.{IsPermutation}
 use Rattle.std.proofs.lemmas.Bool.{true≢false}
 use Rattle.std.proofs.lemmas.List.{append_assoc}
-use Rattle.std.proofs.lemmas.List.Sorted.{IsPermutation-refl, IsPermutation-sym, IsPermutation-trans, IsPermutation-cons, IsPermutation-append_left, IsPermutation-append_right, IsPermutation-append_comm}
+use Rattle.std.proofs.lemmas.List.Sorted.{IsPermutation-refl, IsPermutation-trans, IsPermutation-cons, IsPermutation-append_left, IsPermutation-append_right, IsPermutation-append_comm}
 use Rattle.update.specs.Bags.{same_row}
 use Rattle.update.specs.declared.change.Update.{Update}
 use Rattle.plan.proofs.CountLemmas.{row_same, row_itself}
 use Rattle.plan.proofs.ReductionLemmas.{row_differs}
-use Rattle.join.specs.declared.formed.Side.TheVariants.{Right}
+use Rattle.join.specs.declared.side.Side.TheVariants.{Right}
 use Rattle.join.specs.Pairs.{is_keyed, pair_of, pairs}
-use Rattle.join.specs.Parts.{ArePartOf}
-use Rattle.join.specs.FormedPairs.{StandsIn, formed_all}
-use Rattle.join.proofs.PartLemmas.{part_moved}
-use Rattle.join.proofs.StandLemmas.{moved_stands}
+use Rattle.join.specs.FormedPairs.{formed_all}
 use Rattle.lattice.specs.Times.{Times}
 
 -- ---- a table, row by row and column by column
@@ -84,13 +80,3 @@ module _ {T : Type 0} (times : Times T) (k : ℕ) (us vs : List (Update T)) wher
       (λ v u. row_turned (take k v.row) (take k u.row))
       (λ v u. pair_of times k v u)
       vs us
-
-  -- what a batch on the right forms stands in for the pairs of the definition
-  pub turned : StandsIn (formed_all Right times k us vs) (pairs times k vs us)
-  turned = moved_stands (pairs times k vs us) (formed_all Right times k us vs) turned_moves
-
-  -- and it is a part of them
-  pub turned_part : ArePartOf (formed_all Right times k us vs) (pairs times k vs us)
-  turned_part =
-      part_moved (formed_all Right times k us vs) (pairs times k vs us)
-      (IsPermutation-sym (pairs times k vs us) (formed_all Right times k us vs) turned_moves)

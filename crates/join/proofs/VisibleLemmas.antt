@@ -9,7 +9,7 @@ use Rattle.lattice.specs.Order.{PartialOrderLaws}
 use Rattle.lattice.specs.Frontiers.{is_beyond}
 use Rattle.lattice.proofs.FrontierLemmas.{beyond_up}
 use Rattle.update.specs.Bags.{Entry, Alike, count_of, same_row}
-use Rattle.update.specs.Updates.{as_of, entry}
+use Rattle.update.specs.Updates.{as_of, entry, total_where}
 use Rattle.update.specs.declared.change.Update.{Update}
 use Rattle.update.proofs.UniqueLemmas.{count_as_of}
 use Rattle.plan.specs.Operators.{join_output}
@@ -18,7 +18,9 @@ use Rattle.plan.proofs.CountLemmas.{count_of-append}
 use Rattle.plan.proofs.OperatorLemmas.{given_alike}
 use Rattle.trace.specs.Readings.{SameBeyond}
 use Rattle.batch.specs.Intervals.{all_times_beyond}
-use Rattle.join.specs.Pairs.{pairs}
+use Rattle.join.specs.declared.side.Side.{Side}
+use Rattle.join.specs.declared.side.Side.TheVariants.{Left, Right}
+use Rattle.join.specs.Takes.{side_pairs}
 use Rattle.join.proofs.PairLemmas.{as_of-append, pairs_at}
 use Rattle.join.proofs.TotalLemmas.{total_pairs-left, total_pairs-right}
 
@@ -42,13 +44,27 @@ join_nothing : (k : ℕ) (a : List Entry) → join_output k a [] ≡ []
 join_nothing k [] = refl
 join_nothing k (e ∷ a) = join_nothing k a
 
+-- the join of a side's bag with that of the other side
+abbrev side_join : Side → ℕ → List Entry → List Entry → List Entry
+side_join Left k a b = join_output k a b
+side_join Right k a b = join_output k b a
+
+side_alike : (side : Side) (k : ℕ) (a b c d : List Entry) → Alike a b → Alike c d → Alike (side_join side k a c) (side_join side k b d)
+side_alike Left k a b c d own other = join_alike k a b c d own other
+side_alike Right k a b c d own other = join_alike k c d a b other own
+
+side_nothing : (side : Side) (k : ℕ) (a : List Entry) → side_join side k [] a ≡ []
+side_nothing Left k a = refl
+side_nothing Right k a = join_nothing k a
+
 module _ {T : Type 0} (times : Times T) (join_below : (a b s : T) → times.below (times.joined a b) s ≡ (times.below a s && times.below b s)) where
   abbrev at : T → List (Update T) → List Entry
   at t us = as_of times t us
 
   -- the pairs of two lists sum to the join of both sums
-  pairs_sum : (k : ℕ) (t : T) (us vs : List (Update T)) → at t (pairs times k us vs) ≡ join_output k (at t us) (at t vs)
-  pairs_sum k t us vs = pairs_at times join_below k t us vs
+  side_sum : (side : Side) (k : ℕ) (t : T) (us vs : List (Update T)) → at t (side_pairs side times k us vs) ≡ side_join side k (at t us) (at t vs)
+  side_sum Left k t us vs = pairs_at times join_below k t us vs
+  side_sum Right k t us vs = pairs_at times join_below k t vs us
 
   -- ---- compacted sides
 
@@ -64,32 +80,20 @@ module _ {T : Type 0} (times : Times T) (join_below : (a b s : T) → times.belo
         step true f h rest = absurd (true≢false (sym (beyond_up order F u.time t h f) ∙ e))
         step false f h rest = rest
 
-    -- if the left updates are beyond the frontier, then the right side may be compacted as of it
-    pub right_compacted : (k : ℕ) (F : List T) (us vs ws : List (Update T)) → IsTrue (all_times_beyond times F us) → SameBeyond times F vs ws → (t : T) → Alike (at t (pairs times k us vs)) (at t (pairs times k us ws))
-    right_compacted k F us vs ws a same t row =
-        ap (λ es. count_of es row) (pairs_sum k t us vs)
-        ∙ (step (is_beyond times F t) refl ∙ sym (ap (λ es. count_of es row) (pairs_sum k t us ws)))
+    -- if the updates of a side are beyond the frontier, then the other side may be compacted as of
+    -- it
+    pub side_compacted : (side : Side) (k : ℕ) (F : List T) (us vs ws : List (Update T)) → IsTrue (all_times_beyond times F us) → SameBeyond times F vs ws → (t : T) → Alike (at t (side_pairs side times k us vs)) (at t (side_pairs side times k us ws))
+    side_compacted side k F us vs ws a same t row =
+        ap (λ es. count_of es row) (side_sum side k t us vs)
+        ∙ (step (is_beyond times F t) refl ∙ sym (ap (λ es. count_of es row) (side_sum side k t us ws)))
       where
-        step : (b : Bool) → is_beyond times F t ≡ b → count_of (join_output k (at t us) (at t vs)) row ≡ count_of (join_output k (at t us) (at t ws)) row
-        step true e = join_alike k (at t us) (at t us) (at t vs) (at t ws) (λ r. refl) (same t e) row
+        step : (b : Bool) → is_beyond times F t ≡ b → count_of (side_join side k (at t us) (at t vs)) row ≡ count_of (side_join side k (at t us) (at t ws)) row
+        step true e = side_alike side k (at t us) (at t us) (at t vs) (at t ws) (λ r. refl) (same t e) row
         step false e =
             let none = hidden F t e us a in
-            ap (λ es. count_of (join_output k es (at t vs)) row) none
-            ∙ sym (ap (λ es. count_of (join_output k es (at t ws)) row) none)
-
-    -- if the right updates are beyond the frontier, then the left side may be compacted as of it
-    pub left_compacted : (k : ℕ) (F : List T) (us ws vs : List (Update T)) → IsTrue (all_times_beyond times F vs) → SameBeyond times F us ws → (t : T) → Alike (at t (pairs times k us vs)) (at t (pairs times k ws vs))
-    left_compacted k F us ws vs a same t row =
-        ap (λ es. count_of es row) (pairs_sum k t us vs)
-        ∙ (step (is_beyond times F t) refl ∙ sym (ap (λ es. count_of es row) (pairs_sum k t ws vs)))
-      where
-        step : (b : Bool) → is_beyond times F t ≡ b → count_of (join_output k (at t us) (at t vs)) row ≡ count_of (join_output k (at t ws) (at t vs)) row
-        step true e = join_alike k (at t us) (at t ws) (at t vs) (at t vs) (same t e) (λ r. refl) row
-        step false e =
-            let none = hidden F t e vs a in
-            ap (λ es. count_of (join_output k (at t us) es) row) none
-            ∙ (ap (λ es. count_of es row) (join_nothing k (at t us) ∙ sym (join_nothing k (at t ws)))
-            ∙ sym (ap (λ es. count_of (join_output k (at t ws) es) row) none))
+            ap (λ es. count_of (side_join side k es (at t vs)) row) none
+            ∙ (ap (λ es. count_of es row) (side_nothing side k (at t vs) ∙ sym (side_nothing side k (at t ws)))
+            ∙ sym (ap (λ es. count_of (side_join side k es (at t ws)) row) none))
 
   -- ---- one more piece
 
@@ -97,25 +101,20 @@ module _ {T : Type 0} (times : Times T) (join_below : (a b s : T) → times.belo
   abbrev counted : T → List ℤ → List ℤ → T → Bool
   counted t row r s = same_row r row && times.below s t
 
-  -- if the emitted updates sum to the join of what was received, then the pairs of one more left
-  -- piece keep it so
-  pub left_goes_on : (k : ℕ) (us old vs emitted : List (Update T)) (t : T) → Alike (at t emitted) (join_output k (at t old) (at t vs)) → Alike (at t (pairs times k us vs ++ emitted)) (join_output k (at t (us ++ old)) (at t vs))
-  left_goes_on k us old vs emitted t before row =
-      ap (λ es. count_of es row) (as_of-append times t (pairs times k us vs) emitted)
-      ∙ (count_of-append (at t (pairs times k us vs)) (at t emitted) row
-      ∙ ((λ i. count_of (at t (pairs times k us vs)) row +ℤ (before row ∙ ap (λ es. count_of es row) (sym (pairs_sum k t old vs))) i)
-      ∙ ((λ i. count_as_of times row t (pairs times k us vs) i +ℤ count_as_of times row t (pairs times k old vs) i)
-      ∙ (sym (total_pairs-left times k (counted t row) us old vs)
-      ∙ (sym (count_as_of times row t (pairs times k (us ++ old) vs))
-      ∙ ap (λ es. count_of es row) (pairs_sum k t (us ++ old) vs))))))
+  -- a side may be cut into two pieces
+  side_total : (side : Side) (k : ℕ) (p : List ℤ → T → Bool) (us ws vs : List (Update T)) → total_where p (side_pairs side times k (us ++ ws) vs) ≡ total_where p (side_pairs side times k us vs) +ℤ total_where p (side_pairs side times k ws vs)
+  side_total Left k p us ws vs = total_pairs-left times k p us ws vs
+  side_total Right k p us ws vs = total_pairs-right times k p vs us ws
 
-  -- and so do the pairs of one more right piece
-  pub right_goes_on : (k : ℕ) (us vs old emitted : List (Update T)) (t : T) → Alike (at t emitted) (join_output k (at t us) (at t old)) → Alike (at t (pairs times k us vs ++ emitted)) (join_output k (at t us) (at t (vs ++ old)))
-  right_goes_on k us vs old emitted t before row =
-      ap (λ es. count_of es row) (as_of-append times t (pairs times k us vs) emitted)
-      ∙ (count_of-append (at t (pairs times k us vs)) (at t emitted) row
-      ∙ ((λ i. count_of (at t (pairs times k us vs)) row +ℤ (before row ∙ ap (λ es. count_of es row) (sym (pairs_sum k t us old))) i)
-      ∙ ((λ i. count_as_of times row t (pairs times k us vs) i +ℤ count_as_of times row t (pairs times k us old) i)
-      ∙ (sym (total_pairs-right times k (counted t row) us vs old)
-      ∙ (sym (count_as_of times row t (pairs times k us (vs ++ old)))
-      ∙ ap (λ es. count_of es row) (pairs_sum k t us (vs ++ old)))))))
+  -- if the emitted updates sum to the join of what was received, then the pairs of one more piece
+  -- of a side keep it so
+  pub side_goes_on : (side : Side) (k : ℕ) (us old vs emitted : List (Update T)) (t : T) → Alike (at t emitted) (side_join side k (at t old) (at t vs)) → Alike (at t (side_pairs side times k us vs ++ emitted)) (side_join side k (at t (us ++ old)) (at t vs))
+  side_goes_on side k us old vs emitted t before row =
+      let new = side_pairs side times k us vs in
+      ap (λ es. count_of es row) (as_of-append times t new emitted)
+      ∙ (count_of-append (at t new) (at t emitted) row
+      ∙ ((λ i. count_of (at t new) row +ℤ (before row ∙ ap (λ es. count_of es row) (sym (side_sum side k t old vs))) i)
+      ∙ ((λ i. count_as_of times row t new i +ℤ count_as_of times row t (side_pairs side times k old vs) i)
+      ∙ (sym (side_total side k (counted t row) us old vs)
+      ∙ (sym (count_as_of times row t (side_pairs side times k (us ++ old) vs))
+      ∙ ap (λ es. count_of es row) (side_sum side k t (us ++ old) vs))))))

@@ -6,16 +6,11 @@ use Rattle.std.specs.List.{Contains, filter, flat_map, list_all}
 use Rattle.columns.specs.Runs.{run_place}
 use Rattle.update.specs.Updates.{total_where, size}
 use Rattle.update.specs.declared.change.Update.{Update}
-use Rattle.join.specs.declared.formed.Side.{Side}
-use Rattle.join.specs.declared.formed.Side.TheVariants.{Left, Right}
+use Rattle.join.specs.declared.side.Side.{Side}
+use Rattle.join.specs.declared.side.Side.TheVariants.{Left, Right}
 use Rattle.join.specs.Pairs.{is_keyed, pair_of, fits}
 use Rattle.join.specs.Parts.{HasLargePart}
 use Rattle.lattice.specs.Times.{Times}
-
--- the other side
-abbrev pub turned : Side → Side
-turned Left = Right
-turned Right = Left
 
 module _ {T : Type 0} where
   -- the updates of the runs from one on and before another one

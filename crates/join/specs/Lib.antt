@@ -5,3 +5,4 @@ pub mod Pairs
 pub mod Parts
 pub mod FormedPairs
 pub mod Sides
+pub mod Takes

@@ -4,7 +4,14 @@ use Rattle.std.specs.Prelude.{◌≡◌, ℕ, Bool, List, take, length, eqb}
 use Rattle.std.specs.List.{list_all, list_any}
 use Rattle.update.specs.declared.change.Update.{Update}
 use Rattle.trace.specs.Readings.{Insertion, AreUpTo, all_updates}
+use Rattle.join.specs.declared.side.Side.{Side}
+use Rattle.join.specs.declared.side.Side.TheVariants.{Left, Right}
 use Rattle.join.specs.Pairs.{is_keyed}
+
+-- the other side
+abbrev pub turned : Side → Side
+turned Left = Right
+turned Right = Left
 
 -- the number of columns of the key, the boundary up to which each side was acknowledged, and how
 -- many updates of the other side were read
@@ -15,6 +22,16 @@ pub record Acknowledged (T : Type 0) : Type 0 where
   pub looked : ℕ
 
 module _ {T : Type 0} where
+  -- the boundary up to which a side was acknowledged
+  abbrev pub boundary_of : Side → Acknowledged T → List T
+  boundary_of Left s = s.left
+  boundary_of Right s = s.right
+
+  -- what a contract sees once a side is acknowledged up to a frontier and so much was read
+  abbrev pub acknowledged_to : Side → List T → ℕ → Acknowledged T → Acknowledged T
+  acknowledged_to Left upper looked s = record s { left = upper; looked = looked }
+  acknowledged_to Right upper looked s = record s { right = upper; looked = looked }
+
   -- these updates were inserted into a trace up to a boundary, if the trace begins at `start`;
   -- `stands` tells for which insertions it stands
   abbrev pub WereInserted : (List (Insertion T) → Type 0) → List T → List T → List (Update T) → Type 0

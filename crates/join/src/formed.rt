@@ -34,8 +34,9 @@ ghost use Rattle.batch.specs.Batches.{IsSealed, AllBefore};
 ghost use Rattle.trace.specs.Readings.{all_content};
 ghost use Rattle.join.specs.Pairs.{is_wide, pair_of, fits};
 ghost use Rattle.join.specs.Parts.{HasLargePart};
-ghost use Rattle.join.specs.FormedPairs.{turned, formed_pair, formed_fits, formed_fit, formed_each, formed_all, updates_in, StandsIn, HasLargeDiff, HasLargePartWith};
+ghost use Rattle.join.specs.FormedPairs.{formed_pair, formed_fits, formed_fit, formed_each, formed_all, updates_in, StandsIn, HasLargeDiff, HasLargePartWith};
 
+use crate::side::Side;
 use batch::{BatchReader, copy_runs};
 use lattice::Lattice;
 use row::Row;
@@ -51,27 +52,6 @@ const FOR_EACH: usize = 4;
 
 // (so many pairs stay in the cache nearest to a core, where one sort at the end costs little)
 const AT_LEAST: usize = 256;
-
-/// The side of a join on which a new batch is.
-#[derive(Clone, Copy, Drop)]
-pub(crate) enum Side {
-    Left,
-    Right,
-}
-
-impl Side {
-    ghost use Rattle.join.specs.FormedPairs.{turned};
-
-    // The other side.
-    fn turned(self) -> Side
-        ensures { result ≡ turned self }
-    {
-        match self {
-            Side::Left => Side::Right,
-            Side::Right => Side::Left,
-        }
-    }
-}
 
 /// The pairs formed so far.
 #[derive(Drop)]

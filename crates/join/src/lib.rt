@@ -9,6 +9,7 @@
 //! - [`JoinState`] keeps how far each side was acknowledged, and gives exactly the new pairs. It
 //!   reads the other side through [`Trace`](trace::Trace), so many joins share one arrangement, and
 //!   merging and compaction go on behind them.
+//! - [`Side`] is the left or the right side, for callers who know it only when they run.
 //! - [`pairs_are_the_join`], [`pieces_pair_up`], [`both_sides_once`],
 //!   [`compacted_sides_do_not_matter`] and [`goes_on`] are laws of pairs in every lattice. At each
 //!   time the pairs of two lists sum to the join of what the lists sum to. Pairs may be formed
@@ -21,9 +22,11 @@
 
 mod formed;
 mod laws;
+mod side;
 mod state;
 
 pub use laws::{
     both_sides_once, compacted_sides_do_not_matter, goes_on, pairs_are_the_join, pieces_pair_up,
 };
+pub use side::Side;
 pub use state::JoinState;

@@ -6,19 +6,16 @@
 //!
 //! The sides have a boundary each also where both read one trace, as in the join of a table with
 //! itself. With one boundary for both, a batch would be paired with itself twice, or not at all.
-ghost use Rattle.std.specs.Prelude.{◌≡◌, ◌≤◌, ◌*◌, ◌+◌, ◌-◌, ◌^◌, ℕ, ℤ, Bool, List, length, min, IfOk, IfErr, OnOk, OnErr, IsTrue};
-ghost use Rattle.std.specs.List.{Contains, list_all};
+ghost use Rattle.std.specs.Prelude.{◌≡◌, ◌≤◌, ◌+◌, ◌-◌, ◌^◌, length, min, IfOk, IfErr, OnOk, OnErr};
+ghost use Rattle.std.specs.List.{Contains};
 ghost use Rattle.antichain.specs.Antichains.{IsFrontier};
-ghost use Rattle.update.specs.Bags.{Alike};
-ghost use Rattle.update.specs.Updates.{as_of, size, total_where, HasLargeTotal, IsConsolidated};
-ghost use Rattle.update.specs.Refusals.{IsMemoryOrOverflow};
 ghost use Rattle.update.specs.declared.change.Update.{Update};
-ghost use Rattle.batch.specs.Intervals.{all_times_beyond};
-ghost use Rattle.join.specs.Pairs.{pairs, pairs_fit, is_wide};
-ghost use Rattle.join.specs.Parts.{HasLargePart};
-ghost use Rattle.join.specs.Sides.{Acknowledged, WereInserted, all_rows_have, keys_among};
+ghost use Rattle.join.specs.Sides.{Acknowledged, WereInserted, acknowledged_to};
+ghost use Rattle.join.specs.Takes.{side_pairs, CanTake, IsTakeAnswer, IsTakeRefusal};
+ghost use Rattle.join.specs.declared.side.Side.TheVariants.{Left, Right};
 
-use crate::formed::{Side, form_pairs};
+use crate::formed::form_pairs;
+use crate::side::Side;
 use batch::BatchReader;
 use lattice::Lattice;
 use std::alloc::Global;
@@ -55,6 +52,51 @@ impl<T: Lattice, L, R> Model for JoinState<T, L, R> {
     ghost invariant = { λ s. (1 ≤ s.key) × (s.key ≤ 8)
         × IsFrontier T.times T.cmp s.left.items
         × IsFrontier T.times T.cmp s.right.items };
+}
+
+// What a side has taken: its pairs, the boundary to which it has come, and how many updates of the
+// other side were read.
+#[derive(Drop)]
+struct Taken<T> {
+    updates: Vec<Update<T>>,
+    upper: Vec<T>,
+    looked: u64,
+}
+
+// Pairs a new batch of a side with what the other trace has up to a boundary. `looked` is how many
+// updates had been read before.
+fn take<T: Lattice, B: BatchReader<Time = T>, O: Trace<Time = T>>(
+    alloc: Global,
+    side: Side,
+    key: usize,
+    batch: &B,
+    other: &O,
+    upto: &[T],
+    looked: u64,
+) -> Result<Taken<T>, Refusal>
+    requires readable { Contains (O.ends other.now) upto.now }
+    requires takeable { CanTake side T.times key (B.content batch.now)
+        (O.held other.now) (O.content other.now) }
+    ensures answer { IfOk result (λ taken. IsTakeAnswer side T.times T.cmp key
+        (B.content batch.now) (O.content other.now)
+        (WereInserted (O.stands other.now) (O.start other.now) upto.now) taken.updates.items) }
+    ensures upper { IfOk result (λ taken. taken.upper.items ≡ (B.described batch.now).upper) }
+    ensures frontier { IfOk result (λ taken. IsFrontier T.times T.cmp taken.upper.items) }
+    ensures looked { IfOk result (λ taken. taken.looked ≡ min (looked
+        + length (side_pairs side T.times key (B.content batch.now)
+        (O.stored_to other.now upto.now))) (2 ^ 64 - 1)) }
+    ensures refused { IfErr result (IsTakeRefusal side T.times key
+        (B.content batch.now) (O.stored_to other.now upto.now)
+        (WereInserted (O.stands other.now) (O.start other.now) upto.now)) }
+{
+    let upper = Vec::from_slice(alloc, batch.description().upper())?;
+    let others = other.through(upto).unwrap();
+    let formed = form_pairs(alloc, side, key, batch, others, looked)?;
+    Ok(Taken {
+        updates: formed.updates,
+        upper,
+        looked: formed.looked,
+    })
 }
 
 impl<T: Lattice, L: Trace<Time = T>, R: Trace<Time = T>> JoinState<T, L, R> {
@@ -155,63 +197,26 @@ impl<T: Lattice, L: Trace<Time = T>, R: Trace<Time = T>> JoinState<T, L, R> {
     ) -> Result<Vec<Update<T>>, Refusal>
         requires own { (L.Batch.described batch.now).lower ≡ self.old.left }
         requires readable { Contains (R.ends right.now) self.old.right }
-        requires later { IsTrue (all_times_beyond T.times (R.held right.now)
-            (L.Batch.content batch.now)) }
-        requires wide { IsTrue (list_all (λ u. is_wide self.old.key u.row)
-            (L.Batch.content batch.now)) }
-        requires narrow { IsTrue (pairs_fit self.old.key
-            (L.Batch.content batch.now) (R.content right.now)) }
-        ensures consolidated { IfOk result (λ out. IsConsolidated T.cmp out.items) }
-        ensures sums { (got : List (Update T))
-            → WereInserted (R.stands right.now) (R.start right.now) self.old.right got
-            → IfOk result (λ out. (t : T)
-            → Alike (as_of T.times t out.items)
-            (as_of T.times t
-            (pairs T.times self.old.key (L.Batch.content batch.now) got))) }
-        ensures totals { (got : List (Update T))
-            → WereInserted (R.stands right.now) (R.start right.now) self.old.right got
-            → IfOk result (λ out. (p : List ℤ → T → Bool)
-            → total_where p out.items
-            ≡ total_where p (pairs T.times self.old.key (L.Batch.content batch.now) got)) }
-        ensures load { (got : List (Update T))
-            → WereInserted (R.stands right.now) (R.start right.now) self.old.right got
-            → IfOk result (λ out. size out.items
-            ≤ size (L.Batch.content batch.now) * size got) }
-        ensures exact { (got : List (Update T))
-            → WereInserted (R.stands right.now) (R.start right.now) self.old.right got
-            → OnOk result (HasLargeTotal T.times
-            (pairs T.times self.old.key (L.Batch.content batch.now) got) → ⊥) }
-        ensures beyond { IfOk result (λ out. (G : List T)
-            → IsTrue (all_times_beyond T.times G (L.Batch.content batch.now))
-            → IsTrue (all_times_beyond T.times G out.items)) }
-        ensures width { IfOk result (λ out. (w v : ℕ)
-            → IsTrue (all_rows_have w (L.Batch.content batch.now))
-            → IsTrue (all_rows_have v (R.content right.now))
-            → IsTrue (all_rows_have (w + (v - self.old.key)) out.items)) }
-        ensures rows { IfOk result (λ out. IsTrue
-            (keys_among self.old.key (L.Batch.content batch.now) out.items)) }
-        ensures boundary { OnOk result (self.new ≡ record self.old {
-          left = (L.Batch.described batch.now).upper;
-          looked = self.new.looked;
-        }) }
+        requires takeable { CanTake Left T.times self.old.key (L.Batch.content batch.now)
+            (R.held right.now) (R.content right.now) }
+        ensures answer { IfOk result (λ out. IsTakeAnswer Left T.times T.cmp self.old.key
+            (L.Batch.content batch.now) (R.content right.now)
+            (WereInserted (R.stands right.now) (R.start right.now) self.old.right) out.items) }
+        ensures boundary { OnOk result (self.new ≡ acknowledged_to Left
+            (L.Batch.described batch.now).upper self.new.looked self.old) }
         ensures looked { OnOk result (self.new.looked ≡ min (self.old.looked
-            + length (pairs T.times self.old.key (L.Batch.content batch.now)
+            + length (side_pairs Left T.times self.old.key (L.Batch.content batch.now)
             (R.stored_to right.now self.old.right))) (2 ^ 64 - 1)) }
         ensures same { OnErr result (self.new ≡ self.old) }
-        ensures refused { IfErr result (IsMemoryOrOverflow (HasLargePart T.times
-            (pairs T.times self.old.key (L.Batch.content batch.now)
-            (R.stored_to right.now self.old.right)))) }
-        ensures large { IfErr result (λ refused. refused ≡ Refusal.Overflow
-            → (got : List (Update T))
-            → WereInserted (R.stands right.now) (R.start right.now) self.old.right got
-            → 2 ^ 63 ≤ size (L.Batch.content batch.now) * size got) }
+        ensures refused { IfErr result (IsTakeRefusal Left T.times self.old.key
+            (L.Batch.content batch.now) (R.stored_to right.now self.old.right)
+            (WereInserted (R.stands right.now) (R.start right.now) self.old.right)) }
     {
-        let boundary = Vec::from_slice(alloc, batch.description().upper())?;
-        let others = right.through(self.right.as_slice()).unwrap();
-        let formed = form_pairs(alloc, Side::Left, self.key, batch, others, self.looked)?;
-        self.left = boundary;
-        self.looked = formed.looked;
-        Ok(formed.updates)
+        let upto = self.right.as_slice();
+        let taken = take(alloc, Side::Left, self.key, batch, right, upto, self.looked)?;
+        self.left = taken.upper;
+        self.looked = taken.looked;
+        Ok(taken.updates)
     }
 
     /// Acknowledges a new batch of the right side, and returns its pairs with all updates that the
@@ -226,62 +231,25 @@ impl<T: Lattice, L: Trace<Time = T>, R: Trace<Time = T>> JoinState<T, L, R> {
     ) -> Result<Vec<Update<T>>, Refusal>
         requires own { (R.Batch.described batch.now).lower ≡ self.old.right }
         requires readable { Contains (L.ends left.now) self.old.left }
-        requires later { IsTrue (all_times_beyond T.times (L.held left.now)
-            (R.Batch.content batch.now)) }
-        requires wide { IsTrue (list_all (λ u. is_wide self.old.key u.row)
-            (R.Batch.content batch.now)) }
-        requires narrow { IsTrue (pairs_fit self.old.key
-            (L.content left.now) (R.Batch.content batch.now)) }
-        ensures consolidated { IfOk result (λ out. IsConsolidated T.cmp out.items) }
-        ensures sums { (got : List (Update T))
-            → WereInserted (L.stands left.now) (L.start left.now) self.old.left got
-            → IfOk result (λ out. (t : T)
-            → Alike (as_of T.times t out.items)
-            (as_of T.times t
-            (pairs T.times self.old.key got (R.Batch.content batch.now)))) }
-        ensures totals { (got : List (Update T))
-            → WereInserted (L.stands left.now) (L.start left.now) self.old.left got
-            → IfOk result (λ out. (p : List ℤ → T → Bool)
-            → total_where p out.items
-            ≡ total_where p (pairs T.times self.old.key got (R.Batch.content batch.now))) }
-        ensures load { (got : List (Update T))
-            → WereInserted (L.stands left.now) (L.start left.now) self.old.left got
-            → IfOk result (λ out. size out.items
-            ≤ size got * size (R.Batch.content batch.now)) }
-        ensures exact { (got : List (Update T))
-            → WereInserted (L.stands left.now) (L.start left.now) self.old.left got
-            → OnOk result (HasLargeTotal T.times
-            (pairs T.times self.old.key got (R.Batch.content batch.now)) → ⊥) }
-        ensures beyond { IfOk result (λ out. (G : List T)
-            → IsTrue (all_times_beyond T.times G (R.Batch.content batch.now))
-            → IsTrue (all_times_beyond T.times G out.items)) }
-        ensures width { IfOk result (λ out. (w v : ℕ)
-            → IsTrue (all_rows_have w (L.content left.now))
-            → IsTrue (all_rows_have v (R.Batch.content batch.now))
-            → IsTrue (all_rows_have (w + (v - self.old.key)) out.items)) }
-        ensures rows { IfOk result (λ out. IsTrue
-            (keys_among self.old.key (R.Batch.content batch.now) out.items)) }
-        ensures boundary { OnOk result (self.new ≡ record self.old {
-          right = (R.Batch.described batch.now).upper;
-          looked = self.new.looked;
-        }) }
+        requires takeable { CanTake Right T.times self.old.key (R.Batch.content batch.now)
+            (L.held left.now) (L.content left.now) }
+        ensures answer { IfOk result (λ out. IsTakeAnswer Right T.times T.cmp self.old.key
+            (R.Batch.content batch.now) (L.content left.now)
+            (WereInserted (L.stands left.now) (L.start left.now) self.old.left) out.items) }
+        ensures boundary { OnOk result (self.new ≡ acknowledged_to Right
+            (R.Batch.described batch.now).upper self.new.looked self.old) }
         ensures looked { OnOk result (self.new.looked ≡ min (self.old.looked
-            + length (pairs T.times self.old.key (L.stored_to left.now self.old.left)
-            (R.Batch.content batch.now))) (2 ^ 64 - 1)) }
+            + length (side_pairs Right T.times self.old.key (R.Batch.content batch.now)
+            (L.stored_to left.now self.old.left))) (2 ^ 64 - 1)) }
         ensures same { OnErr result (self.new ≡ self.old) }
-        ensures refused { IfErr result (IsMemoryOrOverflow (HasLargePart T.times
-            (pairs T.times self.old.key (L.stored_to left.now self.old.left)
-            (R.Batch.content batch.now)))) }
-        ensures large { IfErr result (λ refused. refused ≡ Refusal.Overflow
-            → (got : List (Update T))
-            → WereInserted (L.stands left.now) (L.start left.now) self.old.left got
-            → 2 ^ 63 ≤ size got * size (R.Batch.content batch.now)) }
+        ensures refused { IfErr result (IsTakeRefusal Right T.times self.old.key
+            (R.Batch.content batch.now) (L.stored_to left.now self.old.left)
+            (WereInserted (L.stands left.now) (L.start left.now) self.old.left)) }
     {
-        let boundary = Vec::from_slice(alloc, batch.description().upper())?;
-        let others = left.through(self.left.as_slice()).unwrap();
-        let formed = form_pairs(alloc, Side::Right, self.key, batch, others, self.looked)?;
-        self.right = boundary;
-        self.looked = formed.looked;
-        Ok(formed.updates)
+        let upto = self.left.as_slice();
+        let taken = take(alloc, Side::Right, self.key, batch, left, upto, self.looked)?;
+        self.right = taken.upper;
+        self.looked = taken.looked;
+        Ok(taken.updates)
     }
 }

@@ -10,8 +10,10 @@ use Rattle.lattice.specs.Frontiers.{is_beyond}
 use Rattle.lattice.proofs.FrontierLemmas.{all_more}
 use Rattle.antichain.proofs.Lists.{all_filter}
 use Rattle.update.specs.declared.change.Update.{Update}
-use Rattle.batch.specs.Intervals.{all_times_beyond}
 use Rattle.trace.specs.Readings.{all_content}
+use Rattle.join.specs.declared.side.Side.{Side}
+use Rattle.join.specs.declared.side.Side.TheVariants.{Left, Right}
+use Rattle.join.specs.Takes.{side_pairs_fit, CanTake}
 use Rattle.join.specs.Pairs.{is_keyed, is_wide, fits, pairs_fit}
 
 module _ {B T : Type 0} (content : B → List (Update T)) (p : Update T → Bool) where
@@ -33,12 +35,6 @@ module _ {T : Type 0} (times : Times T) (since : List T) (k : ℕ) where
   abbrev short : Update T → Bool
   short u = nat_le (length u.row) 4
 
-  pub ready_later : (us : List (Update T)) → IsTrue (list_all ready us) → IsTrue (all_times_beyond times since us)
-  ready_later us a = all_more ready (λ u. is_beyond times since u.time) (λ u h. (and_parts _ _ h).0) us a
-
-  pub ready_wide : (us : List (Update T)) → IsTrue (list_all ready us) → IsTrue (list_all (λ u. is_wide k u.row) us)
-  ready_wide us a = all_more ready (λ u. is_wide k u.row) (λ u h. (and_parts _ _ (and_parts _ _ h).1).0) us a
-
   -- rows of at most 4 columns have pairs of at most 8
   rows_fit : (row other : List ℤ) → nat_le (length row) 4 ≡ true → nat_le (length other) 4 ≡ true → nat_le (length row + length (drop k other)) 8 ≡ true
   rows_fit row other a b =
@@ -47,13 +43,22 @@ module _ {T : Type 0} (times : Times T) (since : List T) (k : ℕ) where
       let rest = length-drop k other in
       le-leb (length row + length (drop k other)) 8 (omega (arith, first, next, rest))
 
-  pub ready_short : (us : List (Update T)) → IsTrue (list_all ready us) → IsTrue (list_all short us)
-  ready_short us a = all_more ready short (λ u h. (and_parts _ _ (and_parts _ _ h).1).1) us a
-
-  pub short_fit : (us vs : List (Update T)) → IsTrue (list_all short us) → IsTrue (list_all short vs) → IsTrue (pairs_fit k us vs)
+  short_fit : (us vs : List (Update T)) → IsTrue (list_all short us) → IsTrue (list_all short vs) → IsTrue (pairs_fit k us vs)
   short_fit us vs a b =
       all_more short (λ u. list_all (fits k u) (filter (is_keyed k (take k u.row)) vs))
       (λ u h.
       all_filter (fits k u) (is_keyed k (take k u.row)) vs
       (all_more short (fits k u) (λ v g. rows_fit u.row v.row h g) vs b))
       us a
+
+  side_fit : (side : Side) (us vs : List (Update T)) → IsTrue (list_all short us) → IsTrue (list_all short vs) → IsTrue (side_pairs_fit side k us vs)
+  side_fit Left us vs a b = short_fit us vs a b
+  side_fit Right us vs a b = short_fit vs us b a
+
+  -- a batch that is ready may be taken if all rows of the other side are short
+  pub ready_taken : (side : Side) (us vs : List (Update T)) → IsTrue (list_all ready us) → IsTrue (list_all short vs) → CanTake side times k us since vs
+  ready_taken side us vs a b = record {
+    later = all_more ready (λ u. is_beyond times since u.time) (λ u h. (and_parts _ _ h).0) us a;
+    wide = all_more ready (λ u. is_wide k u.row) (λ u h. (and_parts _ _ (and_parts _ _ h).1).0) us a;
+    narrow = side_fit side us vs (all_more ready short (λ u h. (and_parts _ _ (and_parts _ _ h).1).1) us a) b;
+  }

@@ -14,7 +14,8 @@ use Rattle.plan.specs.declared.node.Node.{Node}
 use Rattle.plan.specs.declared.node.Node.TheVariants.{Join}
 use Rattle.trace.specs.Readings.{Insertion, all_updates}
 use Rattle.join.specs.Pairs.{pairs}
-use Rattle.join.proofs.VisibleLemmas.{left_goes_on, right_goes_on}
+use Rattle.join.specs.declared.side.Side.TheVariants.{Left, Right}
+use Rattle.join.proofs.VisibleLemmas.{side_goes_on}
 use Rattle.histories.specs.declared.event.Site.{Site}
 use Rattle.histories.specs.declared.event.Bundle.{Bundle}
 use Rattle.histories.specs.declared.event.Emission.{Emission}
@@ -44,7 +45,7 @@ module _ {T : Type 0} (times : Times T) (join_below : (a b s : T) → times.belo
   more_left l r received us out is = record {
     sums = λ made t before row.
         answered t out (pairs times k us (received 1)) made row (is.sums t)
-        ∙ left_goes_on times join_below k us (received 0) (received 1) made t before row;
+        ∙ side_goes_on times join_below Left k us (received 0) (received 1) made t before row;
     load =
         let a = size_both us (received 0) in
         let b = add-mul (size us) (size (received 0)) (size (received 1)) in
@@ -59,7 +60,7 @@ module _ {T : Type 0} (times : Times T) (join_below : (a b s : T) → times.belo
   more_right l r received us out is = record {
     sums = λ made t before row.
         answered t out (pairs times k (received 0) us) made row (is.sums t)
-        ∙ right_goes_on times join_below k (received 0) us (received 1) made t before row;
+        ∙ side_goes_on times join_below Right k us (received 1) (received 0) made t before row;
     load =
         let a = size_both us (received 1) in
         let b = mul-add (size (received 0)) (size us) (size (received 1)) in

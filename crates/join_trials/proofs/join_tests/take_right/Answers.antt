@@ -1,26 +1,13 @@
 use Rattle.std.proofs.Common.{rules, ◌≡◌, true}
-use Rattle.join_trials.proofs.ReadyLemmas.{ready_later, ready_wide, ready_short, short_fit}
+use Rattle.join.specs.declared.side.Side.TheVariants.{Right}
+use Rattle.join_trials.proofs.ReadyLemmas.{ready_taken}
 use Rattle.join_trials.proofs.join_tests.take_right.Goals as goal
 
-pub take_right-requires-clause-later : goal.take_right-requires-clause-later
-take_right-requires-clause-later g c =
-    let ok : c.are_ready.result ≡ true = search rules in
-    ready_later g.T.PartialOrder.times (g.L.Trace.held c.args.left.now) c.args.state.now.key (g.R.Batch.BatchReader.content c.args.batch.now)
-    (rw (c.since.ensures.value, c.key.ensures.value) at (rw ok at c.are_ready.ensures))
-
-pub take_right-requires-clause-wide : goal.take_right-requires-clause-wide
-take_right-requires-clause-wide g c =
-    let ok : c.are_ready.result ≡ true = search rules in
-    ready_wide g.T.PartialOrder.times (g.L.Trace.held c.args.left.now) c.args.state.now.key (g.R.Batch.BatchReader.content c.args.batch.now)
-    (rw (c.since.ensures.value, c.key.ensures.value) at (rw ok at c.are_ready.ensures))
-
-pub take_right-requires-clause-narrow : goal.take_right-requires-clause-narrow
-take_right-requires-clause-narrow g c =
+pub take_right-requires-clause-takeable : goal.take_right-requires-clause-takeable
+take_right-requires-clause-takeable g c =
     let ok : c.are_ready.result ≡ true = search rules in
     let short : c.all_short.result ≡ true = search rules in
-    let times = g.T.PartialOrder.times in
-    let since = g.L.Trace.held c.args.left.now in
-    let us = g.R.Batch.BatchReader.content c.args.batch.now in
-    short_fit times since c.args.state.now.key (g.L.Trace.content c.args.left.now) us
+    ready_taken g.T.PartialOrder.times (g.L.Trace.held c.args.left.now) c.args.state.now.key Right
+    (g.R.Batch.BatchReader.content c.args.batch.now) (g.L.Trace.content c.args.left.now)
+    (rw (c.since.ensures.value, c.key.ensures.value) at (rw ok at c.are_ready.ensures))
     (rw c.all_batches.ensures.content at (rw short at c.all_short.ensures))
-    (ready_short times since c.args.state.now.key us (rw (c.since.ensures.value, c.key.ensures.value) at (rw ok at c.are_ready.ensures)))

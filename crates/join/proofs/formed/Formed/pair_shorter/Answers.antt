@@ -2,7 +2,8 @@ use Rattle.std.proofs.Common.{sym, subst, ap, ◌∙◌, IsTrue, IfErr, ◌++◌
 use Rattle.std.specs.List.{list_all}
 use Rattle.std.proofs.lemmas.Result.{on_ok_weaker, IfErr-weaker}
 use Rattle.update.specs.Refusals.{IsMemoryOrOverflow}
-use Rattle.join.specs.FormedPairs.{turned, formed_fits, formed_each, updates_in, StandsIn, HasLargePartWith}
+use Rattle.join.specs.Sides.{turned}
+use Rattle.join.specs.FormedPairs.{formed_fits, formed_each, updates_in, StandsIn, HasLargePartWith}
 use Rattle.join.proofs.RunLemmas.{fits_turned, turned_stands, turned_part}
 use Rattle.join.proofs.LargeLemmas.{refused_more}
 use Rattle.join.proofs.PartLemmas.{large_with_more}
