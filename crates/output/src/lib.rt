@@ -6,8 +6,7 @@
 //! collected in an [`OutputBuffer`] and goes to the output in large pieces (`specs/Outs`). The
 //! lines that a run of a command file prints are defined in `specs/Lines`.
 //!
-//! This crate knows rows, times and updates, and no engine, so that whoever prints needs nothing
-//! else.
+//! This crate knows rows, times and updates, and no engine, so a crate that prints needs no other.
 #![tactic(auto)]
 
 mod fault;
