@@ -1,5 +1,5 @@
 -- What the take of a bundle makes of a worker's own, before anything is computed.
-use Rattle.std.proofs.Common.{◌≡◌, ◌≢◌, ℕ, zero, suc, ◌<◌, ◌*◌, Bool, true, false, cond, ◌&&◌, eqb, List, [], ◌∷◌, ◌++◌, length, Some, None, IsTrue, arith, sym, refl, ap, ◌∙◌, subst, ⊎_elim}
+use Rattle.std.proofs.Common.{◌≡◌, ◌≢◌, ℕ, zero, suc, ◌<◌, Bool, true, false, cond, ◌&&◌, eqb, List, [], ◌∷◌, ◌++◌, length, Some, None, IsTrue, arith, sym, refl, ap, ◌∙◌, subst, ⊎_elim}
 use Rattle.std.specs.Prelude.{nat_lt}
 use Rattle.std.proofs.lemmas.Bool.Decides.{nat_tests}
 use Rattle.std.proofs.lemmas.Bool.{eqb-true, eqb-false, eq-eqb, ne_eqb, false≢true, true≢false, or_left, or_right, or_cases}
@@ -10,7 +10,6 @@ use Rattle.lattice.specs.Times.{Times}
 use Rattle.lattice.specs.Order.{PartialOrderLaws}
 use Rattle.lattice.specs.Frontiers.{is_beyond, all_beyond}
 use Rattle.lattice.proofs.FrontierLemmas.{all_beyond_from}
-use Rattle.update.specs.Updates.{size}
 use Rattle.update.specs.declared.change.Update.{Update}
 use Rattle.plan.specs.Nodes.{key_width, is_linear, is_reduction, arranged_by, sources}
 use Rattle.plan.specs.declared.node.Kind.{Kind}
@@ -21,8 +20,10 @@ use Rattle.linear.specs.Ports.{is_port}
 use Rattle.batch.specs.Intervals.{all_times_beyond}
 use Rattle.trace.specs.Readings.{all_updates}
 use Rattle.join.specs.Pairs.{pairs}
-use Rattle.join.proofs.PairLemmas.{size_pairs}
-use Rattle.join.proofs.AnswerLemmas.{left_beyond, right_beyond}
+use Rattle.join.specs.declared.side.Side.{Side}
+use Rattle.join.specs.declared.side.Side.TheVariants.{Left, Right}
+use Rattle.join.specs.Takes.{side_pairs}
+use Rattle.join.proofs.SideLemmas.{side_beyond, side_size}
 use Rattle.histories.specs.declared.event.Bundle.{Bundle}
 use Rattle.histories.specs.declared.event.Event.TheVariants.{Take}
 use Rattle.histories.specs.Histories.Dataflows.{Dataflow, IsDataflow, node_of}
@@ -111,22 +112,12 @@ module _ {T : Type 0} (times : Times T) (o : PartialOrderLaws times) (join_left 
   times_beyond : (G : List T) (xs : List (Update T)) → all_beyond times G (update_times xs) ≡ all_times_beyond times G xs
   times_beyond G xs = list_all-map (is_beyond times G) (λ (u : Update T). u.time) xs
 
-  pub left_pairs : IsAnswer times (pairs times key us vs) us vs (pairs times key us vs)
-  left_pairs = record {
+  pub own_pairs : (side : Side) → IsAnswer times (side_pairs side times key us vs) us vs (side_pairs side times key us vs)
+  own_pairs side = record {
     sums = λ t row. refl;
-    smaller = size_pairs times key us vs;
-    beyond = λ G h. times_beyond G (pairs times key us vs) ∙ left_beyond o join_left join_right key G us vs (sym (times_beyond G us) ∙ h);
+    smaller = side_size times key side us vs;
+    beyond = λ G h. times_beyond G (side_pairs side times key us vs) ∙ side_beyond o join_left join_right key side G us vs (sym (times_beyond G us) ∙ h);
   }
-
-  pub right_pairs : IsAnswer times (pairs times key vs us) us vs (pairs times key vs us)
-  right_pairs = record {
-    sums = λ t row. refl;
-    smaller = let s = size_pairs times key vs us in let c : size vs * size us ≡ size us * size vs = turn (size vs) (size us) in omega (arith, s, c);
-    beyond = λ G h. times_beyond G (pairs times key vs us) ∙ right_beyond o join_left join_right key G vs us (sym (times_beyond G us) ∙ h);
-  }
-    where
-      turn : (a b : ℕ) → a * b ≡ b * a
-      turn a b = omega arith
 
 -- the times of a bundle are pending behind those that were
 pub pending_with : {T : Type 0} (times : Times T) (o : PartialOrderLaws times) (pending : List T) (us : List (Update T)) → IsPendingWith times pending us (pending ++ update_times us)
@@ -299,7 +290,7 @@ module _ {T : Type 0} (times : Times T) (o : PartialOrderLaws times) (join_below
       by : (i : ℕ) → bundle.place.port ≡ i → IsTrue (is_port (Join l r) bundle.place.port) → IsOwn times p (next_state times p w (Take 0 bundle)) bundle.place.worker d hand
       by zero f _ =
           let out = pairs times width bundle.updates (all_updates (own_works.right at_node)) in
-          let t = left_taken times o join_below p q w bundle take stamped within l r e own_works x.keeping.working out f (left_pairs times o join_left join_right width bundle.updates (all_updates (own_works.right at_node))) in
+          let t = left_taken times o join_below p q w bundle take stamped within l r e own_works x.keeping.working out f (own_pairs times o join_left join_right width bundle.updates (all_updates (own_works.right at_node)) Left) in
           let next_works = with_left times o join_below p q w bundle take stamped within l r e own_works x.keeping.working out t.0 in
           own_with times o p q w 0 bundle take stamped within d more x (record x.keeps { works = next_works }) refl
           (λ m ne. record {
@@ -350,7 +341,7 @@ module _ {T : Type 0} (times : Times T) (o : PartialOrderLaws times) (join_below
           (λ source kind g. no_reduction source kind g)
       by (suc zero) f _ =
           let out = pairs times width (all_updates (own_works.left at_node)) bundle.updates in
-          let t = right_taken times o join_below p q w bundle take stamped within l r e own_works x.keeping.working out f (right_pairs times o join_left join_right width bundle.updates (all_updates (own_works.left at_node))) in
+          let t = right_taken times o join_below p q w bundle take stamped within l r e own_works x.keeping.working out f (own_pairs times o join_left join_right width bundle.updates (all_updates (own_works.left at_node)) Right) in
           let next_works = with_right times o join_below p q w bundle take stamped within l r e own_works x.keeping.working out t.0 in
           own_with times o p q w 0 bundle take stamped within d more x (record x.keeps { works = next_works }) refl
           (λ m ne. record {

@@ -1,14 +1,19 @@
 -- What one worker keeps at a join, and what a side of it has taken of the spine that it reads.
-use Rattle.std.specs.Prelude.{◌≡◌, ℕ, ◌+◌, ◌≤◌, Bool, List, [], ◌∷◌, ℤ, IsTrue}
+use Rattle.std.specs.Prelude.{◌≡◌, ℕ, ◌+◌, ◌-◌, ◌*◌, ◌^◌, ◌≤◌, ◌⊎◌, Bool, List, [], ◌∷◌, ℤ, IsTrue}
 use Rattle.std.specs.List.{list_all, Contains}
+use Rattle.std.specs.declared.cmp.Ordering.{Ordering}
 use Rattle.update.specs.Bags.{Alike}
-use Rattle.update.specs.Updates.{as_of, size}
+use Rattle.update.specs.Updates.{as_of, size, IsConsolidated}
 use Rattle.update.specs.declared.change.Update.{Update}
-use Rattle.trace.specs.Readings.{Insertion, reached}
-use Rattle.spine.specs.Spines.{SpineState, Stands, boundaries}
-use Rattle.join.specs.Sides.{Acknowledged}
-use Rattle.operator.specs.Arrangements.{AreInTurn}
-use Rattle.operator_laws.specs.JoinNodes.{on_top}
+use Rattle.batch.specs.Intervals.{all_times_beyond, is_interval_of}
+use Rattle.trace.specs.Readings.{Insertion, all_updates, reached}
+use Rattle.spine.specs.Spines.{SpineState, Stands, boundaries, stored}
+use Rattle.join.specs.declared.side.Side.{Side}
+use Rattle.join.specs.declared.side.Side.TheVariants.{Left, Right}
+use Rattle.join.specs.Sides.{Acknowledged, all_rows_have, boundary_of, turned}
+use Rattle.join.specs.Takes.{side_pairs}
+use Rattle.operator.specs.Arrangements.{AreInTurn, times_from}
+use Rattle.operator_laws.specs.JoinNodes.{IsAnswer, on_top}
 use Rattle.lattice.specs.Times.{Times}
 
 -- how far each side was acknowledged, the number of the hold at each side's arrangement, and the
@@ -19,6 +24,11 @@ pub record JoiningView (T : Type 0) : Type 0 where
   pub right_hold : ℕ
   pub left_width : ℕ
   pub right_width : ℕ
+
+-- the columns of a side's rows
+abbrev pub columns_of : {T : Type 0} → Side → JoiningView T → ℕ
+columns_of Left j = j.left_width
+columns_of Right j = j.right_width
 
 -- rows of these widths can be joined by a key of k columns: both sides have the key, and a pair has
 -- at most 8 columns
@@ -48,3 +58,29 @@ module _ {T : Type 0} (times : Times T) where
     pub all : inserted ≡ on_top later taken
     pub ends : boundary ≡ reached (times.least ∷ []) taken
     pub readable : Contains (boundaries s) boundary
+
+  -- a side may take the updates us up to a frontier: they lie between its boundary and the frontier,
+  -- and the other side's spine can be read at their times up to the other boundary
+  pub record CanTakeTo (side : Side) (j : JoiningView T) (us : List (Update T)) (upper : List T) (other : SpineState T) : Type 0 where
+    pub rows : IsTrue (all_rows_have (columns_of side j) us)
+    pub begun : IsTrue (times_from times us)
+    pub interval : IsTrue (is_interval_of times (boundary_of side j.state) upper us)
+    pub readable : Contains (boundaries other) (boundary_of (turned side) j.state)
+    pub other_rows : IsTrue (all_rows_have (columns_of (turned side) j) (stored other))
+    pub later : IsTrue (all_times_beyond times other.since us)
+
+  -- out answers a side's take of us: it is consolidated, has the width of pairs, and is an answer
+  -- of the pairs with all that the other side has taken
+  pub record IsSideAnswer (side : Side) (cmp : T → T → Ordering) (j : JoiningView T) (us : List (Update T)) (other : SpineState T) (out : List (Update T)) : Type 0 where
+    pub answer : (inserted taken : List (Insertion T))
+        → IsSide other inserted taken (boundary_of (turned side) j.state)
+        → IsAnswer times (side_pairs side times j.state.key us (all_updates taken)) us (all_updates taken) out
+    pub consolidated : IsConsolidated cmp out
+    pub width : IsTrue (all_rows_have (j.left_width + j.right_width - j.state.key) out)
+
+  -- us, or the product of its size with that of all that the other side has taken, is too large
+  abbrev pub IsTakeLarge : Side → JoiningView T → List (Update T) → SpineState T → Type 0
+  IsTakeLarge side j us other =
+      (inserted taken : List (Insertion T))
+      → IsSide other inserted taken (boundary_of (turned side) j.state)
+      → (2 ^ 63 ≤ size us) ⊎ (2 ^ 63 ≤ size us * size (all_updates taken))

@@ -7,30 +7,27 @@
 //! that waits is paired with what the other side has acknowledged, and the side is then
 //! acknowledged up to its spine's upper frontier. So each pair is formed once, whichever side is
 //! taken first.
-ghost use Rattle.std.specs.Prelude.{◌≡◌, ◌≤◌, ◌+◌, ◌-◌, ◌*◌, ◌^◌, ◌⊎◌, ◌∷◌, [], List, IfOk, IfErr, OnOk, OnErr, IsTrue};
+ghost use Rattle.std.specs.Prelude.{◌≡◌, ◌≤◌, ◌^◌, ◌∷◌, [], IfOk, IfErr, OnOk, OnErr, IsTrue};
 ghost use Rattle.std.specs.List.{Contains};
 ghost use Rattle.antichain.specs.Antichains.{IsFrontier};
-ghost use Rattle.update.specs.Updates.{size, IsConsolidated};
+ghost use Rattle.update.specs.Updates.{size};
 ghost use Rattle.update.specs.Refusals.{OnlyMemory, IsMemoryOrOverflow};
-ghost use Rattle.update.specs.declared.refusal.Refusal.{Refusal};
-ghost use Rattle.batch.specs.Intervals.{all_times_beyond, is_interval_of};
-ghost use Rattle.trace.specs.Readings.{Insertion, all_updates};
-ghost use Rattle.spine.specs.Spines.{boundaries, stored};
-ghost use Rattle.join.specs.Pairs.{pairs};
-ghost use Rattle.join.specs.Sides.{all_rows_have};
-ghost use Rattle.operator.specs.Arrangements.{times_from};
-ghost use Rattle.operator_laws.specs.JoinNodes.{IsAnswer};
-ghost use Rattle.operator.specs.Joins.{IsSide, IsBatchOf, IsFitting};
+ghost use Rattle.batch.specs.Intervals.{is_interval_of};
+ghost use Rattle.join.specs.declared.side.Side.TheVariants.{Left, Right};
+ghost use Rattle.join.specs.Sides.{WereInserted, acknowledged_to, boundary_of, turned};
+ghost use Rattle.join.specs.Takes.{CanTake, IsTakeAnswer, IsTakeRefusal};
+ghost use Rattle.operator.specs.Joins.{CanTakeTo, IsBatchOf, IsFitting, IsSideAnswer, IsTakeLarge};
 
 use crate::frontier::antichain_of;
 use antichain::Antichain;
 use batch::{Batch, seal_list};
 use columns::UpdateList;
-use join::JoinState;
+use join::{JoinState, Side};
 use lattice::{Lattice, Minimum};
 use spine::Spine;
 use std::alloc::Global;
 use std::marker::Model;
+use trace::Trace;
 use update::{Refusal, Update};
 
 /// A join of two spines by the first columns of their rows. A contract sees the boundary up to
@@ -89,6 +86,37 @@ fn sealed_between<T: Minimum>(
 {
     let from = antichain_of(alloc, lower)?;
     seal_list(alloc, 0, 0, updates, &from, upper)
+}
+
+// Takes a batch on one side of a join of two traces of one type.
+fn take_batch<T: Lattice, S: Trace<Time = T>>(
+    state: &mut JoinState<T, S, S>,
+    side: Side,
+    alloc: Global,
+    batch: &S::Batch,
+    other: &S,
+) -> Result<Vec<Update<T>>, Refusal>
+    requires own { (S.Batch.described batch.now).lower ≡ boundary_of side state.old }
+    requires readable { Contains (S.ends other.now) (boundary_of (turned side) state.old) }
+    requires takeable { CanTake side T.times state.old.key (S.Batch.content batch.now)
+        (S.held other.now) (S.content other.now) }
+    ensures answer { IfOk result (λ out. IsTakeAnswer side T.times T.cmp state.old.key
+        (S.Batch.content batch.now) (S.content other.now)
+        (WereInserted (S.stands other.now) (S.start other.now)
+        (boundary_of (turned side) state.old)) out.items) }
+    ensures boundary { OnOk result (state.new ≡ acknowledged_to side
+        (S.Batch.described batch.now).upper state.new.looked state.old) }
+    ensures same { OnErr result (state.new ≡ state.old) }
+    ensures refused { IfErr result (IsTakeRefusal side T.times state.old.key
+        (S.Batch.content batch.now)
+        (S.stored_to other.now (boundary_of (turned side) state.old))
+        (WereInserted (S.stands other.now) (S.start other.now)
+        (boundary_of (turned side) state.old))) }
+{
+    match side {
+        Side::Left => state.take_left(alloc, batch, other),
+        Side::Right => state.take_right(alloc, batch, other),
+    }
 }
 
 impl<T: Minimum> Joining<T> {
@@ -160,6 +188,17 @@ impl<T: Minimum> Joining<T> {
         self.state.right()
     }
 
+    /// The boundary up to which a side was taken, a frontier. Takes no memory.
+    pub fn boundary(&self, side: Side) -> &[T]
+        ensures value { result.now ≡ boundary_of side self.now.state }
+        ensures frontier { IsFrontier T.times T.cmp result.now }
+    {
+        match side {
+            Side::Left => self.state.left(),
+            Side::Right => self.state.right(),
+        }
+    }
+
     /// Tells the prover that the widths fit the key, and that both boundaries are frontiers. Costs
     /// nothing.
     pub fn known(&self)
@@ -200,35 +239,17 @@ impl<T: Minimum> Joining<T> {
         upper: &Antichain<T>,
         right: &Spine<T>,
     ) -> Result<Vec<Update<T>>, Refusal>
-        requires rows { IsTrue (all_rows_have self.old.left_width updates.now) }
-        requires times { IsTrue (times_from T.times updates.now) }
-        requires interval { IsTrue (is_interval_of T.times self.old.state.left
-            upper.now updates.now) }
-        requires readable { Contains (boundaries right.now) self.old.state.right }
-        requires right_rows { IsTrue (all_rows_have self.old.right_width (stored right.now)) }
-        requires later { IsTrue (all_times_beyond T.times right.now.since updates.now) }
-        ensures answer { (inserted taken : List (Insertion T))
-            → IsSide T.times right.now inserted taken self.old.state.right
-            → IfOk result (λ out. IsAnswer T.times
-            (pairs T.times self.old.state.key updates.now (all_updates taken))
-            updates.now (all_updates taken) out.items) }
-        ensures consolidated { IfOk result (λ out. IsConsolidated T.cmp out.items) }
-        ensures width { IfOk result (λ out. IsTrue (all_rows_have
-            (self.old.left_width + self.old.right_width - self.old.state.key) out.items)) }
+        requires takeable { CanTakeTo T.times Left self.old updates.now upper.now right.now }
+        ensures answer { IfOk result (λ out. IsSideAnswer T.times Left T.cmp
+            self.old updates.now right.now out.items) }
         ensures acknowledged { OnOk result (self.new ≡ record self.old {
-          state = record self.old.state {
-            left = upper.now;
-            looked = self.new.state.looked;
-          };
+          state = acknowledged_to Left upper.now self.new.state.looked self.old.state;
         }) }
         ensures same { OnErr result (self.new ≡ self.old) }
-        ensures refused { IfErr result (IsMemoryOrOverflow ((inserted taken : List (Insertion T))
-            → IsSide T.times right.now inserted taken self.old.state.right
-            → (2 ^ 63 ≤ size updates.now)
-            ⊎ (2 ^ 63 ≤ size updates.now * size (all_updates taken)))) }
+        ensures refused { IfErr result (IsMemoryOrOverflow
+            (IsTakeLarge T.times Left self.old updates.now right.now)) }
     {
-        let batch = sealed_between(alloc, updates, self.state.left(), upper)?;
-        self.state.take_left(alloc, &batch, right)
+        self.take(Side::Left, alloc, updates, upper, right)
     }
 
     /// Takes all updates that wait at the right port, and returns their pairs with all that the
@@ -241,34 +262,41 @@ impl<T: Minimum> Joining<T> {
         upper: &Antichain<T>,
         left: &Spine<T>,
     ) -> Result<Vec<Update<T>>, Refusal>
-        requires rows { IsTrue (all_rows_have self.old.right_width updates.now) }
-        requires times { IsTrue (times_from T.times updates.now) }
-        requires interval { IsTrue (is_interval_of T.times self.old.state.right
-            upper.now updates.now) }
-        requires readable { Contains (boundaries left.now) self.old.state.left }
-        requires left_rows { IsTrue (all_rows_have self.old.left_width (stored left.now)) }
-        requires later { IsTrue (all_times_beyond T.times left.now.since updates.now) }
-        ensures answer { (inserted taken : List (Insertion T))
-            → IsSide T.times left.now inserted taken self.old.state.left
-            → IfOk result (λ out. IsAnswer T.times
-            (pairs T.times self.old.state.key (all_updates taken) updates.now)
-            updates.now (all_updates taken) out.items) }
-        ensures consolidated { IfOk result (λ out. IsConsolidated T.cmp out.items) }
-        ensures width { IfOk result (λ out. IsTrue (all_rows_have
-            (self.old.left_width + self.old.right_width - self.old.state.key) out.items)) }
+        requires takeable { CanTakeTo T.times Right self.old updates.now upper.now left.now }
+        ensures answer { IfOk result (λ out. IsSideAnswer T.times Right T.cmp
+            self.old updates.now left.now out.items) }
         ensures acknowledged { OnOk result (self.new ≡ record self.old {
-          state = record self.old.state {
-            right = upper.now;
-            looked = self.new.state.looked;
-          };
+          state = acknowledged_to Right upper.now self.new.state.looked self.old.state;
         }) }
         ensures same { OnErr result (self.new ≡ self.old) }
-        ensures refused { IfErr result (IsMemoryOrOverflow ((inserted taken : List (Insertion T))
-            → IsSide T.times left.now inserted taken self.old.state.left
-            → (2 ^ 63 ≤ size updates.now)
-            ⊎ (2 ^ 63 ≤ size updates.now * size (all_updates taken)))) }
+        ensures refused { IfErr result (IsMemoryOrOverflow
+            (IsTakeLarge T.times Right self.old updates.now left.now)) }
     {
-        let batch = sealed_between(alloc, updates, self.state.right(), upper)?;
-        self.state.take_right(alloc, &batch, left)
+        self.take(Side::Right, alloc, updates, upper, left)
+    }
+
+    /// Takes the updates of a list that comes to a side, and returns their pairs with all that the
+    /// other side has acknowledged. It is [`take_left`](Joining::take_left) or
+    /// [`take_right`](Joining::take_right), and `other` the spine of the other side.
+    pub fn take(
+        &mut self,
+        side: Side,
+        alloc: Global,
+        updates: &UpdateList<T>,
+        upper: &Antichain<T>,
+        other: &Spine<T>,
+    ) -> Result<Vec<Update<T>>, Refusal>
+        requires takeable { CanTakeTo T.times side self.old updates.now upper.now other.now }
+        ensures answer { IfOk result (λ out. IsSideAnswer T.times side T.cmp
+            self.old updates.now other.now out.items) }
+        ensures acknowledged { OnOk result (self.new ≡ record self.old {
+          state = acknowledged_to side upper.now self.new.state.looked self.old.state;
+        }) }
+        ensures same { OnErr result (self.new ≡ self.old) }
+        ensures refused { IfErr result (IsMemoryOrOverflow
+            (IsTakeLarge T.times side self.old updates.now other.now)) }
+    {
+        let batch = sealed_between(alloc, updates, self.boundary(side), upper)?;
+        take_batch(&mut self.state, side, alloc, &batch, other)
     }
 }
