@@ -11,6 +11,7 @@ use Rattle.plan.specs.Bounds.{output_bound}
 use Rattle.plan.specs.Nodes.{is_reduction}
 use Rattle.plan.specs.declared.node.Node.TheVariants.{Join}
 use Rattle.trace.specs.Readings.{Insertion, all_updates}
+use Rattle.join.specs.declared.side.Side.TheVariants.{Left, Right}
 use Rattle.histories.specs.declared.event.Bundle.{Bundle}
 use Rattle.histories.specs.declared.event.Event.{Event}
 use Rattle.histories.specs.Histories.Dataflows.{Dataflow, IsDataflow, node_of}
@@ -62,7 +63,7 @@ module _ {T : Type 0} (times : Times T) (o : PartialOrderLaws times) (cmp : T �
       large_load times o cmp p q es legal n k (within times p q w k d bundle more l r e x) x.own.worker (ap is_reduction e)
       (subst (λ node. 2 ^ 63 ≤ output_bound node 0 (λ port. size (received_at w n k port))) (sym e) large)
 
-  pub left_large : bundle.place.port ≡ 0 → ArePairsLarge times 0 d.arrangements r j bundle.updates → HasNoSmallBound times cmp p.nodes (changes_in w)
+  pub left_large : bundle.place.port ≡ 0 → ArePairsLarge times Left d.arrangements r j bundle.updates → HasNoSmallBound times cmp p.nodes (changes_in w)
   left_large port large = by (left_cause times p q w k d bundle more l r e x j there port large)
     where
       old : List (Insertion T)
@@ -85,7 +86,7 @@ module _ {T : Type 0} (times : Times T) (o : PartialOrderLaws times) (cmp : T �
       by (inl many) = large_received times o cmp p q es legal n 0 l k x.own.worker (reads_left times p q w k d bundle more l r e x) (let s = own_size in omega (arith, s, many))
       by (inr many) = large_product (product_left (size bundle.updates) (size (all_updates old)) (size (all_updates others)) (size (received_at w n k 0)) (size (received_at w n k 1)) own_size other_size many)
 
-  pub right_large : bundle.place.port ≡ 1 → ArePairsLarge times 1 d.arrangements l j bundle.updates → HasNoSmallBound times cmp p.nodes (changes_in w)
+  pub right_large : bundle.place.port ≡ 1 → ArePairsLarge times Right d.arrangements l j bundle.updates → HasNoSmallBound times cmp p.nodes (changes_in w)
   right_large port large = by (right_cause times p q w k d bundle more l r e x j there port large)
     where
       old : List (Insertion T)

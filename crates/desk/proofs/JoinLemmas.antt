@@ -29,7 +29,9 @@ use Rattle.linear.specs.Ports.{is_port}
 use Rattle.linear.specs.Widths.{are_wide}
 use Rattle.trace.specs.Readings.{Insertion, all_updates, reached}
 use Rattle.join.specs.Pairs.{pairs}
-use Rattle.join.specs.Sides.{all_rows_have}
+use Rattle.join.specs.declared.side.Side.{Side}
+use Rattle.join.specs.declared.side.Side.TheVariants.{Left, Right}
+use Rattle.join.specs.Sides.{all_rows_have, boundary_of}
 use Rattle.histories.specs.declared.event.Bundle.{Bundle}
 use Rattle.histories.specs.Histories.Dataflows.{Dataflow, IsDataflow, node_of, source_of}
 use Rattle.histories.specs.Histories.States.{State, update_times}
@@ -135,17 +137,15 @@ module _ {T : Type 0} (times : Times T) (o : PartialOrderLaws times) (p : Datafl
       serves source ts h = record { arrangement = h.arrangement; there = h.there; hold = h.hold; held = h.held; apart = h.apart }
 
 module _ {T : Type 0} (times : Times T) (o : PartialOrderLaws times) (upper : List T) (looked : ℕ) (j : JoiningView T) where
-  pub holds_still : (at port : ℕ) → hold_at port (taken_up_to at upper looked j) ≡ hold_at port j
-  holds_still zero zero = refl
-  holds_still zero (suc port) = refl
-  holds_still (suc at) zero = refl
-  holds_still (suc at) (suc port) = refl
+  pub holds_still : (side : Side) (port : ℕ) → hold_at port (taken_up_to side upper looked j) ≡ hold_at port j
+  holds_still side zero = refl
+  holds_still side (suc port) = refl
 
-  pub further_on : (at port : ℕ) → IsTrue (all_beyond times (boundary_at at j) upper) → IsTrue (all_beyond times (boundary_at port j) (boundary_at port (taken_up_to at upper looked j)))
-  further_on zero zero forward = forward
-  further_on zero (suc port) forward = beyond_itself o j.state.right
-  further_on (suc at) zero forward = beyond_itself o j.state.left
-  further_on (suc at) (suc port) forward = forward
+  pub further_on : (side : Side) (port : ℕ) → IsTrue (all_beyond times (boundary_of side j.state) upper) → IsTrue (all_beyond times (boundary_at port j) (boundary_at port (taken_up_to side upper looked j)))
+  further_on Left zero forward = forward
+  further_on Left (suc port) forward = beyond_itself o j.state.right
+  further_on Right zero forward = beyond_itself o j.state.left
+  further_on Right (suc port) forward = forward
 
 -- ---- a worker that has a bundle of a join in hand
 
@@ -262,7 +262,7 @@ module _ {T : Type 0} (times : Times T) (p : Dataflow) (q : IsDataflow p) (w : S
         let still = before.at_left.same (not_in_hand 1 0 port refl) in
         reading_there 0 l reads_left (works.start l) (works.inserted l) here.1.later before.left (arranged 0 l reads_left) (here.1.all ∙ ap (on_top here.1.later) still) left_before
 
-    pub next_left : PartialOrderLaws times → bundle.place.port ≡ 0 → IsNextAt times 0 d.arrangements l r j bundle.updates
+    pub next_left : PartialOrderLaws times → bundle.place.port ≡ 0 → IsNextAt times Left d.arrangements l r j bundle.updates
     unfolding opposite_right the_hold reading_there
     next_left o port =
         let newest = before.at_left.newest bundle more refl (in_hand 0 port) in
@@ -291,7 +291,7 @@ module _ {T : Type 0} (times : Times T) (p : Dataflow) (q : IsDataflow p) (w : S
           apart = kept_apart o 1 r reads_right port;
         }
 
-    pub next_right : PartialOrderLaws times → bundle.place.port ≡ 1 → IsNextAt times 1 d.arrangements r l j bundle.updates
+    pub next_right : PartialOrderLaws times → bundle.place.port ≡ 1 → IsNextAt times Right d.arrangements r l j bundle.updates
     unfolding opposite_left the_hold reading_there
     next_right o port =
         let newest = before.at_right.newest bundle more refl (in_hand 1 port) in
@@ -322,10 +322,10 @@ module _ {T : Type 0} (times : Times T) (p : Dataflow) (q : IsDataflow p) (w : S
 
     -- ---- what is too large
 
-    pub left_cause : bundle.place.port ≡ 0 → ArePairsLarge times 0 d.arrangements r j bundle.updates → (2 ^ 63 ≤ size bundle.updates) ⊎ (2 ^ 63 ≤ size bundle.updates * size (all_updates before.right))
+    pub left_cause : bundle.place.port ≡ 0 → ArePairsLarge times Left d.arrangements r j bundle.updates → (2 ^ 63 ≤ size bundle.updates) ⊎ (2 ^ 63 ≤ size bundle.updates * size (all_updates before.right))
     left_cause port large = large (arranged 1 r reads_right).arrangement (arranged 1 r reads_right).there (works.inserted r) here.2.later before.right (opposite_right port)
 
-    pub right_cause : bundle.place.port ≡ 1 → ArePairsLarge times 1 d.arrangements l j bundle.updates → (2 ^ 63 ≤ size bundle.updates) ⊎ (2 ^ 63 ≤ size bundle.updates * size (all_updates before.left))
+    pub right_cause : bundle.place.port ≡ 1 → ArePairsLarge times Right d.arrangements l j bundle.updates → (2 ^ 63 ≤ size bundle.updates) ⊎ (2 ^ 63 ≤ size bundle.updates * size (all_updates before.left))
     right_cause port large = large (arranged 0 l reads_left).arrangement (arranged 0 l reads_left).there (works.inserted l) here.1.later before.left (opposite_left port)
 
     -- ---- the pairs are ready
@@ -385,12 +385,12 @@ module _ {T : Type 0} (times : Times T) (p : Dataflow) (q : IsDataflow p) (w : S
       on_plan_now : IsTrue (are_wide (width_of p.nodes n) out) → IsOnPlan times p desk_now (Ready n out)
       on_plan_now wide = record { places = x.on_plan.places; wide = x.on_plan.wide; joins = x.on_plan.joins; hand = (within, ap arranged_by e, wide) }
 
-      module _ (at source other : ℕ) (paired : IsPaired times cmp at d.arrangements source other j bundle.updates out i) where
+      module _ (side : Side) (source other : ℕ) (paired : IsPaired times cmp side d.arrangements source other j bundle.updates out i) where
         holds : (port : ℕ) → hold_at port i ≡ hold_at port j
-        holds port = ap (hold_at port) paired.moved ∙ holds_still times o paired.upper paired.looked j at port
+        holds port = ap (hold_at port) paired.moved ∙ holds_still times o paired.upper paired.looked j side port
 
         further : (port : ℕ) → IsTrue (all_beyond times (boundary_at port j) (boundary_at port i))
-        further port = subst (λ z. IsTrue (all_beyond times (boundary_at port j) (boundary_at port z))) (sym paired.moved) (further_on times o paired.upper paired.looked j at port paired.forward)
+        further port = subst (λ z. IsTrue (all_beyond times (boundary_at port j) (boundary_at port z))) (sym paired.moved) (further_on times o paired.upper paired.looked j side port paired.forward)
 
         ready_now : IsOwn times p w k mid (Kept n more) → IsRight times p w k desk_now (Ready n out)
         ready_now own = record {
@@ -401,27 +401,27 @@ module _ {T : Type 0} (times : Times T) (p : Dataflow) (q : IsDataflow p) (w : S
         holding_mid : StayHolding times p d mid
         holding_mid = holding_on times o p d n j i there holds further (set d.gathered n out)
 
-      pub right_after_left : bundle.place.port ≡ 0 → IsPaired times cmp 0 d.arrangements l r j bundle.updates out i → IsRight times p w k desk_now (Ready n out)
+      pub right_after_left : bundle.place.port ≡ 0 → IsPaired times cmp Left d.arrangements l r j bundle.updates out i → IsRight times p w k desk_now (Ready n out)
       right_after_left port paired =
-          ready_now 0 l r paired
-          (kept_left times o p q w k d mid (holding_mid 0 l r paired) bundle more within l r e to_mid j i there (get_own d.joins n (Some i) (Some j) there) x.own port paired.upper paired.looked paired.moved
+          ready_now Left l r paired
+          (kept_left times o p q w k d mid (holding_mid Left l r paired) bundle more within l r e to_mid j i there (get_own d.joins n (Some i) (Some j) there) x.own port paired.upper paired.looked paired.moved
           (next_boundary 0 l reads_left paired.upper paired.ends)
           (λ start inserted later taken y all ends.
           lies_mid (pairs times j.state.key bundle.updates (all_updates taken)) bundle.updates (all_updates taken)
           (paired.answers y.arrangement y.there inserted later taken (reading_there 1 r reads_right start inserted later taken y all ends)) paired.consolidated))
 
-      pub right_after_right : bundle.place.port ≡ 1 → IsPaired times cmp 1 d.arrangements r l j bundle.updates out i → IsRight times p w k desk_now (Ready n out)
+      pub right_after_right : bundle.place.port ≡ 1 → IsPaired times cmp Right d.arrangements r l j bundle.updates out i → IsRight times p w k desk_now (Ready n out)
       right_after_right port paired =
-          ready_now 1 r l paired
-          (kept_right times o p q w k d mid (holding_mid 1 r l paired) bundle more within l r e to_mid j i there (get_own d.joins n (Some i) (Some j) there) x.own port paired.upper paired.looked paired.moved
+          ready_now Right r l paired
+          (kept_right times o p q w k d mid (holding_mid Right r l paired) bundle more within l r e to_mid j i there (get_own d.joins n (Some i) (Some j) there) x.own port paired.upper paired.looked paired.moved
           (next_boundary 1 r reads_right paired.upper paired.ends)
           (λ start inserted later taken y all ends.
           lies_mid (pairs times j.state.key (all_updates taken) bundle.updates) bundle.updates (all_updates taken)
           (paired.answers y.arrangement y.there inserted later taken (reading_there 0 l reads_left start inserted later taken y all ends)) paired.consolidated))
 
   -- so the desk and the hand are right after the call
-  pub joined_left : {cmp : T → T → Ordering} → PartialOrderLaws times → IsTotalOrder cmp → bundle.place.port ≡ 0 → (c : DeskView T) (out : List (Update T)) → IsJoinedWith times cmp 0 n l r bundle.updates out d c → IsRight times p w k c (Ready n out)
+  pub joined_left : {cmp : T → T → Ordering} → PartialOrderLaws times → IsTotalOrder cmp → bundle.place.port ≡ 0 → (c : DeskView T) (out : List (Update T)) → IsJoinedWith times cmp Left n l r bundle.updates out d c → IsRight times p w k c (Ready n out)
   joined_left o total port c out y = subst (λ z. IsRight times p w k z (Ready n out)) (sym y.desk) (right_after_left y.before y.was o total y.after out port y.paired)
 
-  pub joined_right : {cmp : T → T → Ordering} → PartialOrderLaws times → IsTotalOrder cmp → bundle.place.port ≡ 1 → (c : DeskView T) (out : List (Update T)) → IsJoinedWith times cmp 1 n r l bundle.updates out d c → IsRight times p w k c (Ready n out)
+  pub joined_right : {cmp : T → T → Ordering} → PartialOrderLaws times → IsTotalOrder cmp → bundle.place.port ≡ 1 → (c : DeskView T) (out : List (Update T)) → IsJoinedWith times cmp Right n r l bundle.updates out d c → IsRight times p w k c (Ready n out)
   joined_right o total port c out y = subst (λ z. IsRight times p w k z (Ready n out)) (sym y.desk) (right_after_right y.before y.was o total y.after out port y.paired)

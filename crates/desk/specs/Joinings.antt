@@ -1,5 +1,5 @@
--- What a join has taken at its ports, what it takes next, and what it makes of a bundle.
-use Rattle.std.specs.Prelude.{◌≡◌, ℕ, zero, suc, ◌+◌, ◌-◌, ◌*◌, ◌^◌, ◌≤◌, ◌⊎◌, List, [], ◌∷◌, Option, Some, set, slice_get, IsTrue}
+-- What a join has taken on its sides, what it takes next, and what it makes of a bundle.
+use Rattle.std.specs.Prelude.{◌≡◌, ℕ, ◌+◌, ◌-◌, ◌*◌, ◌^◌, ◌≤◌, ◌⊎◌, List, [], ◌∷◌, Option, Some, set, slice_get, IsTrue}
 use Rattle.std.specs.declared.cmp.Ordering.{Ordering}
 use Rattle.lattice.specs.Times.{Times}
 use Rattle.lattice.specs.Frontiers.{all_beyond}
@@ -9,30 +9,17 @@ use Rattle.batch.specs.Intervals.{all_times_beyond}
 use Rattle.trace.specs.Holds.{HoldState}
 use Rattle.trace.specs.Readings.{Insertion, all_updates, reached}
 use Rattle.spine.specs.Spines.{Stands}
-use Rattle.join.specs.Pairs.{pairs}
-use Rattle.join.specs.Sides.{all_rows_have}
+use Rattle.join.specs.declared.side.Side.{Side}
+use Rattle.join.specs.Sides.{acknowledged_to, all_rows_have, boundary_of, turned}
+use Rattle.join.specs.Takes.{side_pairs}
 use Rattle.operator.specs.Arrangements.{ArrangementState, AreInTurn, IsOpen, times_from}
-use Rattle.operator.specs.Joins.{JoiningView, IsFitting}
+use Rattle.operator.specs.Joins.{JoiningView, IsFitting, columns_of}
 use Rattle.operator_laws.specs.JoinNodes.{IsAnswer, on_top}
-use Rattle.desk_laws.specs.Own.{DeskView, boundary_at, other_port}
+use Rattle.desk_laws.specs.Own.{DeskView}
 
--- ---- by port
-
-module _ {T : Type 0} where
-  -- how many columns the rows have that come at a port
-  abbrev pub width_on : ℕ → JoiningView T → ℕ
-  width_on zero j = j.left_width
-  width_on (suc port) j = j.right_width
-
-  -- the join after it has taken up to a frontier at a port, and has looked at so many updates
-  abbrev pub taken_up_to : ℕ → List T → ℕ → JoiningView T → JoiningView T
-  taken_up_to zero upper looked j = record j { state = record j.state { left = upper; looked = looked } }
-  taken_up_to (suc port) upper looked j = record j { state = record j.state { right = upper; looked = looked } }
-
-  -- the pairs of what comes at a port with what was taken at the other one
-  abbrev pub pairs_at : Times T → ℕ → ℕ → List (Update T) → List (Update T) → List (Update T)
-  pairs_at times zero key us others = pairs times key us others
-  pairs_at times (suc port) key us others = pairs times key others us
+-- the join after a side of it has taken up to a frontier, and so much was read
+abbrev pub taken_up_to : {T : Type 0} → Side → List T → ℕ → JoiningView T → JoiningView T
+taken_up_to side upper looked j = record j { state = acknowledged_to side upper looked j.state }
 
 module _ {T : Type 0} (times : Times T) where
   -- ---- readers of an arrangement
@@ -66,54 +53,54 @@ module _ {T : Type 0} (times : Times T) where
       (inserted later taken : List (Insertion T)) (next : Insertion T)
       → IsReading a inserted (next ∷ later) taken boundary → upper ≡ next.upper
 
-  -- ---- a bundle at a port of a join
+  -- ---- a bundle on a side of a join
 
-  -- a bundle that came at a port is the next that the join takes there, and the join may read what
-  -- it took at the other port. Its hold there keeps the bundle's times apart from later ones
-  pub record IsNextAt (port : ℕ) (arrangements : List (Option (ArrangementState T))) (source other : ℕ) (j : JoiningView T) (us : List (Update T)) : Type 0 where
+  -- a bundle that came on a side is the next that the join takes there, and the join may read what
+  -- it took on the other side. Its hold there keeps the bundle's times apart from later ones
+  pub record IsNextAt (side : Side) (arrangements : List (Option (ArrangementState T))) (source other : ℕ) (j : JoiningView T) (us : List (Update T)) : Type 0 where
     pub arrangement : ArrangementState T
     pub there : slice_get arrangements source ≡ Some (Some arrangement)
-    pub next : IsNextOf arrangement (boundary_at port j) us
-    pub rows : IsTrue (all_rows_have (width_on port j) us)
+    pub next : IsNextOf arrangement (boundary_of side j.state) us
+    pub rows : IsTrue (all_rows_have (columns_of side j) us)
     pub begun : IsTrue (times_from times us)
     pub opposite : ArrangementState T
     pub opposite_there : slice_get arrangements other ≡ Some (Some opposite)
-    pub opposite_width : opposite.width ≡ width_on (other_port port) j
+    pub opposite_width : opposite.width ≡ columns_of (turned side) j
     pub inserted : List (Insertion T)
     pub later : List (Insertion T)
     pub taken : List (Insertion T)
-    pub reading : IsReading opposite inserted later taken (boundary_at (other_port port) j)
+    pub reading : IsReading opposite inserted later taken (boundary_of (turned side) j.state)
     pub apart : IsTrue (all_times_beyond times reading.hold.logical us)
 
-  -- a bundle that came at a port, or its pairs with all that the join took at the other port, are
+  -- a bundle that came on a side, or its pairs with all that the join took on the other side, are
   -- too large for 64-bit numbers
-  abbrev pub ArePairsLarge : ℕ → List (Option (ArrangementState T)) → ℕ → JoiningView T → List (Update T) → Type 0
-  ArePairsLarge port arrangements other j us =
+  abbrev pub ArePairsLarge : Side → List (Option (ArrangementState T)) → ℕ → JoiningView T → List (Update T) → Type 0
+  ArePairsLarge side arrangements other j us =
       (a : ArrangementState T) → slice_get arrangements other ≡ Some (Some a)
-      → (inserted later taken : List (Insertion T)) → IsReading a inserted later taken (boundary_at (other_port port) j)
+      → (inserted later taken : List (Insertion T)) → IsReading a inserted later taken (boundary_of (turned side) j.state)
       → (2 ^ 63 ≤ size us) ⊎ (2 ^ 63 ≤ size us * size (all_updates taken))
 
   module _ (cmp : T → T → Ordering) where
-    -- a join took a bundle at a port, up to where its batch ends, and these are its pairs
-    pub record IsPaired (port : ℕ) (arrangements : List (Option (ArrangementState T))) (source other : ℕ) (j : JoiningView T) (us out : List (Update T)) (i : JoiningView T) : Type 0 where
+    -- a side of a join took a bundle, up to where its batch ends, and these are its pairs
+    pub record IsPaired (side : Side) (arrangements : List (Option (ArrangementState T))) (source other : ℕ) (j : JoiningView T) (us out : List (Update T)) (i : JoiningView T) : Type 0 where
       pub fitting : IsFitting j.state.key j.left_width j.right_width
       pub upper : List T
       pub looked : ℕ
-      pub moved : i ≡ taken_up_to port upper looked j
-      pub forward : IsTrue (all_beyond times (boundary_at port j) upper)
+      pub moved : i ≡ taken_up_to side upper looked j
+      pub forward : IsTrue (all_beyond times (boundary_of side j.state) upper)
       pub ends : (a : ArrangementState T) → slice_get arrangements source ≡ Some (Some a)
-          → IsEndAfter a (boundary_at port j) upper
+          → IsEndAfter a (boundary_of side j.state) upper
       pub answers : (a : ArrangementState T) → slice_get arrangements other ≡ Some (Some a)
           → (inserted later taken : List (Insertion T))
-          → IsReading a inserted later taken (boundary_at (other_port port) j)
-          → IsAnswer times (pairs_at times port j.state.key us (all_updates taken)) us (all_updates taken) out
+          → IsReading a inserted later taken (boundary_of (turned side) j.state)
+          → IsAnswer times (side_pairs side times j.state.key us (all_updates taken)) us (all_updates taken) out
       pub consolidated : IsConsolidated cmp out
       pub wide : IsTrue (all_rows_have (j.left_width + j.right_width - j.state.key) out)
 
-    -- the join of a node took a bundle at a port, and nothing else on the desk has changed
-    pub record IsJoinedWith (port n source other : ℕ) (us out : List (Update T)) (d c : DeskView T) : Type 0 where
+    -- a side of a node's join took a bundle, and nothing else on the desk has changed
+    pub record IsJoinedWith (side : Side) (n source other : ℕ) (us out : List (Update T)) (d c : DeskView T) : Type 0 where
       pub before : JoiningView T
       pub after : JoiningView T
       pub was : slice_get d.joins n ≡ Some (Some before)
       pub desk : c ≡ record d { joins = set d.joins n (Some after) }
-      pub paired : IsPaired port d.arrangements source other before us out after
+      pub paired : IsPaired side d.arrangements source other before us out after

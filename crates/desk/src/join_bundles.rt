@@ -24,6 +24,7 @@ use crate::answers::arrangement_at;
 use crate::desk::Desk;
 use antichain::Antichain;
 use columns::UpdateList;
+use join::Side;
 use lattice::Minimum;
 use machine::Bundle;
 use operator::{Arrangement, Joining, antichain_of};
@@ -49,111 +50,65 @@ fn next_end<T: Minimum>(
     antichain_of(alloc, end)
 }
 
-// Pairs a bundle that came at the left port with all that was taken at the right one. Its list is
-// lent. `_start` is not used: generic code with a local antichain needs the type in
-// its signature.
-fn pair_left<T: Minimum>(
+// Pairs a bundle that came on a side with all that was taken on the other one. Its list is lent.
+// `_start` is not used: generic code with a local antichain needs the type in its signature.
+fn pair<T: Minimum>(
     alloc: Global,
     _start: &Antichain<T>,
     arrangements: &Vec<Option<Arrangement<T>>>,
     joining: &mut Joining<T>,
+    side: Side,
     list: &UpdateList<T>,
-    left: NodeId,
-    right: NodeId,
+    own: NodeId,
+    other: NodeId,
 ) -> Result<Vec<Update<T>>, Refusal>
-    requires next { IsNextAt T.times 0 arrangements.now.items left right joining.old
-        list.now }
-    ensures paired { IfOk result (λ out. IsPaired T.times T.cmp 0
-        arrangements.now.items left right joining.old list.now out.items joining.new) }
+    requires next { IsNextAt T.times side arrangements.now.items own other joining.old list.now }
+    ensures paired { IfOk result (λ out. IsPaired T.times T.cmp side
+        arrangements.now.items own other joining.old list.now out.items joining.new) }
     ensures same { OnErr result (joining.new ≡ joining.old) }
-    ensures refused { IfErr result (IsMemoryOrOverflow (ArePairsLarge T.times 0
-        arrangements.now.items right joining.old list.now)) }
+    ensures refused { IfErr result (IsMemoryOrOverflow (ArePairsLarge T.times side
+        arrangements.now.items other joining.old list.now)) }
 {
     joining.known();
-    let source = arrangement_at(arrangements, left);
-    let end = next_end(alloc, source, joining.left())?;
-    let other = arrangement_at(arrangements, right);
-    joining.take_left(alloc, list, &end, other.trace())
-}
-
-// Pairs a bundle that came at the right port with all that was taken at the left one. `_start` is
-// not used, as in `pair_left`.
-fn pair_right<T: Minimum>(
-    alloc: Global,
-    _start: &Antichain<T>,
-    arrangements: &Vec<Option<Arrangement<T>>>,
-    joining: &mut Joining<T>,
-    list: &UpdateList<T>,
-    left: NodeId,
-    right: NodeId,
-) -> Result<Vec<Update<T>>, Refusal>
-    requires next { IsNextAt T.times 1 arrangements.now.items right left joining.old
-        list.now }
-    ensures paired { IfOk result (λ out. IsPaired T.times T.cmp 1
-        arrangements.now.items right left joining.old list.now out.items joining.new) }
-    ensures same { OnErr result (joining.new ≡ joining.old) }
-    ensures refused { IfErr result (IsMemoryOrOverflow (ArePairsLarge T.times 1
-        arrangements.now.items left joining.old list.now)) }
-{
-    joining.known();
-    let source = arrangement_at(arrangements, right);
-    let end = next_end(alloc, source, joining.right())?;
-    let other = arrangement_at(arrangements, left);
-    joining.take_right(alloc, list, &end, other.trace())
+    let source = arrangement_at(arrangements, own);
+    let end = next_end(alloc, source, joining.boundary(side))?;
+    let opposite = arrangement_at(arrangements, other);
+    joining.take(side, alloc, list, &end, opposite.trace())
 }
 
 impl<T: Minimum> Desk<T> {
-    // Pairs a bundle that came at the left port of a join. If it is refused, then nothing has
-    // changed.
-    fn join_left(
+    // Pairs a bundle that came on a side of a join. If it is refused, then nothing has changed.
+    fn join_side(
         &mut self,
         alloc: Global,
         node: NodeId,
+        side: Side,
         list: &UpdateList<T>,
-        left: NodeId,
-        right: NodeId,
+        own: NodeId,
+        other: NodeId,
     ) -> Result<Vec<Update<T>>, Refusal>
         requires next { (j : JoiningView T) × (slice_get self.old.joins node ≡ Some (Some j))
-            × IsNextAt T.times 0 self.old.arrangements left right j list.now }
-        ensures joined { IfOk result (λ out. IsJoinedWith T.times T.cmp 0
-            node left right list.now out.items self.old self.new) }
+            × IsNextAt T.times side self.old.arrangements own other j list.now }
+        ensures joined { IfOk result (λ out. IsJoinedWith T.times T.cmp side
+            node own other list.now out.items self.old self.new) }
         ensures same { OnErr result (self.new ≡ self.old) }
         ensures refused { IfErr result (IsMemoryOrOverflow ((j : JoiningView T)
             → slice_get self.old.joins node ≡ Some (Some j)
-            → ArePairsLarge T.times 0 self.old.arrangements right j list.now)) }
+            → ArePairsLarge T.times side self.old.arrangements other j list.now)) }
     {
         match &mut self.joins[node.number()] {
             Some(joining) => {
                 let start = &self.start;
-                pair_left(alloc, start, &self.arrangements, joining, list, left, right)
-            }
-            None => unreachable!(),
-        }
-    }
-
-    // Pairs a bundle that came at the right port of a join. If it is refused, then nothing has
-    // changed.
-    fn join_right(
-        &mut self,
-        alloc: Global,
-        node: NodeId,
-        list: &UpdateList<T>,
-        left: NodeId,
-        right: NodeId,
-    ) -> Result<Vec<Update<T>>, Refusal>
-        requires next { (j : JoiningView T) × (slice_get self.old.joins node ≡ Some (Some j))
-            × IsNextAt T.times 1 self.old.arrangements right left j list.now }
-        ensures joined { IfOk result (λ out. IsJoinedWith T.times T.cmp 1
-            node right left list.now out.items self.old self.new) }
-        ensures same { OnErr result (self.new ≡ self.old) }
-        ensures refused { IfErr result (IsMemoryOrOverflow ((j : JoiningView T)
-            → slice_get self.old.joins node ≡ Some (Some j)
-            → ArePairsLarge T.times 1 self.old.arrangements left j list.now)) }
-    {
-        match &mut self.joins[node.number()] {
-            Some(joining) => {
-                let start = &self.start;
-                pair_right(alloc, start, &self.arrangements, joining, list, left, right)
+                pair(
+                    alloc,
+                    start,
+                    &self.arrangements,
+                    joining,
+                    side,
+                    list,
+                    own,
+                    other,
+                )
             }
             None => unreachable!(),
         }
@@ -183,8 +138,8 @@ impl<T: Minimum> Desk<T> {
     {
         let node = bundle.place.node;
         if bundle.place.port == 0 {
-            return self.join_left(alloc, node, &bundle.updates, left, right);
+            return self.join_side(alloc, node, Side::Left, &bundle.updates, left, right);
         }
-        self.join_right(alloc, node, &bundle.updates, left, right)
+        self.join_side(alloc, node, Side::Right, &bundle.updates, right, left)
     }
 }
