@@ -24,9 +24,10 @@ mod reads;
 mod run;
 mod watch;
 
+pub use crews::a_crew_can_stand;
 pub use engines::{
-    bounds_exist, engines_can_stand, large_numbers_have_large_bounds, the_bag_of_entries,
-    the_changes_of_a_view, the_frontier_of_a_view,
+    bounds_exist, large_numbers_have_large_bounds, the_bag_of_entries, the_changes_of_a_view,
+    the_frontier_of_a_view, the_oracle_engine_can_stand,
 };
 pub use fault::RunFault;
 pub use output::{MemoryOut, Out, OutFault, put_all};
