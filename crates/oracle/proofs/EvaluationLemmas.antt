@@ -27,11 +27,9 @@ use Rattle.update.specs.declared.refusal.Refusal.{Refusal}
 use Rattle.oracle.specs.Entries.{all_wide}
 use Rattle.update.specs.Refusals.{IsMemoryOrOverflow}
 use Rattle.oracle.specs.Evaluation.{AreBags, AreWide, HasLargeAbove, HasLargeAt, HasLargeStep, nth_bag, output_at, inputs_before, list_of, passed_on, ports, sums_at}
-use Rattle.oracle.proofs.CountLemmas.{large_alike, refused_by}
 use Rattle.oracle.proofs.NodeLemmas.{given_wide}
-use Rattle.oracle.proofs.ResultLemmas.{ok_more, ok_both, err_more}
-use Rattle.oracle.proofs.RowLemmas.{rows_by_counts}
-use Rattle.oracle.proofs.DistinctLemmas.{zero_plus}
+use Rattle.oracle.proofs.ResultLemmas.{ok_more, ok_both, err_more, refused_by}
+use Rattle.oracle.proofs.RowLemmas.{rows_by_counts, large_alike, zero_plus}
 use Rattle.lattice.specs.Times.{Times}
 
 -- a linear node has no products and no totals, so only its output can be too large

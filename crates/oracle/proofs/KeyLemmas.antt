@@ -4,22 +4,21 @@ use Rattle.std.specs.Cmp.{IsTotalOrder}
 use Rattle.std.specs.Cmp.Lexicographic.{slice_cmp, lists_ties, lists_total}
 use Rattle.std.specs.List.{AllWithin}
 use Rattle.std.specs.List.Sorted.{IsStrictlySortedBy}
-use Rattle.std.specs.Ordering.{int_cmp, is_eq, is_lt, ordering_then, ordering_reverse}
+use Rattle.std.specs.Ordering.{int_cmp, is_eq, ordering_then, ordering_reverse}
 use Rattle.std.specs.declared.cmp.Ordering.{Ordering}
 use Rattle.std.specs.declared.cmp.Ordering.TheVariants.{Less, Equal, Greater}
 use Rattle.std.proofs.lemmas.Bool.{true≢false}
 use Rattle.std.proofs.lemmas.Cmp.{int_cmp_total}
 use Rattle.std.proofs.lemmas.List.Elements.{All-from_recursion}
-use Rattle.update.specs.Bags.{Entry, IsBag, same_row}
-use Rattle.update.proofs.BagLemmas.{equal_rows}
-use Rattle.plan.proofs.CountLemmas.{row_same, row_itself}
+use Rattle.update.specs.Bags.{Entry, IsBag}
+use Rattle.plan.proofs.CountLemmas.{row_itself}
 use Rattle.oracle.specs.Keys.{precedes, is_before_key}
 
 abbrev pub by_columns : List ℤ → List ℤ → Ordering
 by_columns r s = slice_cmp int_cmp r s
 
 -- the order of rows is total
-pub columns_total : IsTotalOrder by_columns
+columns_total : IsTotalOrder by_columns
 columns_total = lists_total int_cmp_total
 
 -- a row compares equal to itself
@@ -62,7 +61,7 @@ precedes_down equal a b key h p =
     step l Greater e p = absurd (true≢false (sym p))
 
 -- in a bag, an earlier index has a lesser row
-pub in_order : (es : List Entry) → IsStrictlySortedBy (λ a b. by_columns a.row b.row) es → (i j : ℕ) (d : Entry) → i < j → j < length es → by_columns (get_or es i d).row (get_or es j d).row ≡ Less
+in_order : (es : List Entry) → IsStrictlySortedBy (λ a b. by_columns a.row b.row) es → (i j : ℕ) (d : Entry) → i < j → j < length es → by_columns (get_or es i d).row (get_or es j d).row ≡ Less
 unfolding IsStrictlySortedBy
 in_order [] s i j d l m = absurd (omega (arith, m))
 in_order (e ∷ es) s i zero d l m = absurd (omega (arith, l))
@@ -89,41 +88,3 @@ module _ (equal : Bool) (key : List ℤ) (es : List Entry) (bag : IsBag es) wher
       step : (b : Bool) → is_before_key equal key (get_or es i d) ≡ b → is_before_key equal key (get_or es i d) ≡ false
       step false e = e
       step true e = absurd (true≢false (sym (before_down middle i d l k e) ∙ h d))
-
--- in a bag, keys are in order too
-module _ (k : ℕ) (es : List Entry) (bag : IsBag es) where
-  keys_up : (i j : ℕ) (d : Entry) → i ≤ j → j < length es → (by_columns (take k (get_or es i d).row) (take k (get_or es j d).row) ≡ Less) ⊎ (by_columns (take k (get_or es i d).row) (take k (get_or es j d).row) ≡ Equal)
-  keys_up i j d l m =
-      ⊎_elim
-      (λ e. inr (ap (λ n. by_columns (take k (get_or es i d).row) (take k (get_or es n d).row)) (sym e) ∙ columns_refl (take k (get_or es i d).row)))
-      (λ h. key_order k (get_or es i d).row (get_or es j d).row (in_order es bag.ascending i j d h m))
-      (eq-or-lt_of_le l)
-
-  not_less : (r s : List ℤ) → by_columns r s ≡ Less → (by_columns s r ≡ Less) ⊎ (by_columns s r ≡ Equal) → ⊥
-  not_less r s l h =
-      let greater : by_columns s r ≡ ordering_reverse Less = columns_total.antisymm s r ∙ ap ordering_reverse l in
-      ⊎_elim
-      (λ m. true≢false (ap is_lt (sym m ∙ greater)))
-      (λ e. true≢false (ap is_eq (sym e ∙ greater)))
-      h
-
-  -- if entries m and i have the same key, so has every entry j with m ≤ j ≤ i
-  pub between_up : (m j i : ℕ) (d : Entry) → m ≤ j → j ≤ i → i < length es → same_row (take k (get_or es m d).row) (take k (get_or es i d).row) ≡ true → same_row (take k (get_or es j d).row) (take k (get_or es i d).row) ≡ true
-  between_up m j i d a b l t =
-      let one : take k (get_or es m d).row ≡ take k (get_or es i d).row = row_same (take k (get_or es m d).row) (take k (get_or es i d).row) t in
-      ⊎_elim
-      (λ less. absurd (not_less (take k (get_or es i d).row) (take k (get_or es j d).row) (ap (λ r. by_columns r (take k (get_or es j d).row)) (sym one) ∙ less) (keys_up j i d b l)))
-      (λ same. ap (λ r. same_row r (take k (get_or es i d).row)) (sym (equal_rows (take k (get_or es m d).row) (take k (get_or es j d).row) same)) ∙ t)
-      (keys_up m j d a (omega (arith, b, l)))
-
-  -- if entries i and m have the same key, so has every entry j with i ≤ j ≤ m
-  pub between_down : (i j m : ℕ) (d : Entry) → i ≤ j → j ≤ m → m < length es → same_row (take k (get_or es m d).row) (take k (get_or es i d).row) ≡ true → same_row (take k (get_or es j d).row) (take k (get_or es i d).row) ≡ true
-  between_down i j m d a b l t =
-      let one : take k (get_or es m d).row ≡ take k (get_or es i d).row = row_same (take k (get_or es m d).row) (take k (get_or es i d).row) t in
-      ⊎_elim
-      (λ less. absurd (not_less (take k (get_or es j d).row) (take k (get_or es m d).row) less (⊎_elim
-      (λ under. inl (ap (λ r. by_columns r (take k (get_or es j d).row)) one ∙ under))
-      (λ same. inr (ap (λ r. by_columns r (take k (get_or es j d).row)) one ∙ same))
-      (keys_up i j d a (omega (arith, b, l))))))
-      (λ same. ap (λ r. same_row r (take k (get_or es i d).row)) (equal_rows (take k (get_or es j d).row) (take k (get_or es m d).row) same) ∙ t)
-      (keys_up j m d b l)

@@ -1,10 +1,9 @@
 pub mod PutLemmas
 pub mod KeyLemmas
 pub mod PairLemmas
-pub mod DistinctLemmas
 pub mod RowLemmas
-pub mod EndLemmas
-pub mod CountLemmas
+pub mod RangeLemmas
+pub mod ReductionLemmas
 pub mod ResultLemmas
 pub mod ProductLemmas
 pub mod NodeLemmas

@@ -1,39 +1,35 @@
 -- What every plan promises its nodes: the rows at a node's ports have the columns that its operator
 -- names, and the rows of its output have its width.
-use Rattle.std.proofs.Common.{◌≡◌, ℕ, suc, ◌+◌, ◌-◌, ◌<◌, ◌≤◌, Bool, true, false, cond, List, [], ◌∷◌, ◌++◌, ℤ, map, take, drop, length, IsTrue, ◌⊎◌, ⊎_elim, refl, ap, sym, subst, ◌∙◌, length-append, length-drop, Some, None, arith}
-use Rattle.std.specs.Prelude.{pos, neg_ℤ, ◌&&◌, not, int_lt, nat_le, eqb, slice_get}
+use Rattle.std.proofs.Common.{◌≡◌, ℕ, suc, ◌+◌, ◌-◌, ◌<◌, ◌≤◌, Bool, true, false, cond, List, [], ◌∷◌, ◌++◌, ℤ, map, take, drop, length, IsTrue, ◌⊎◌, refl, ap, sym, subst, ◌∙◌, length-append, length-drop, Some, None, arith}
+use Rattle.std.specs.Prelude.{pos, neg_ℤ, not, nat_le, eqb, slice_get}
 use Rattle.std.specs.List.{filter, list_all}
-use Rattle.std.specs.Ordering.{int_eq}
-use Rattle.std.proofs.lemmas.Bool.{and_parts, and_from, true≢false, leb-true, le-leb, eqb-true, eq-eqb}
-use Rattle.std.proofs.lemmas.List.{length-take-le, length-map}
+use Rattle.std.proofs.lemmas.Bool.{and_parts, and_from, leb-true, le-leb, eqb-true, eq-eqb}
+use Rattle.std.proofs.lemmas.List.{length-map}
 use Rattle.row.specs.Projection.{projection, are_within}
 use Rattle.row.specs.Filters.{passes, is_test_within}
 use Rattle.row.specs.declared.projection.Item.{Item}
 use Rattle.row.specs.declared.test.Test.{Test}
-use Rattle.update.specs.Bags.{Entry, Alike, IsBag, HasLargeCount, count_of, same_row}
+use Rattle.update.specs.Bags.{Entry, Alike, IsBag, HasLargeCount, count_of}
 use Rattle.plan.specs.Nodes.{node_at, sources, key_width, is_linear, is_input}
 use Rattle.plan.specs.Operators.{operator_output, mapped_entry, joined_entry, join_output, reduction_output}
 use Rattle.plan.specs.Queries.{source_value}
-use Rattle.plan.specs.Reductions.{reduction_answer, has_key, is_present, sum_of_counts}
+use Rattle.plan.specs.Reductions.{reduction_answer, has_key}
 use Rattle.plan.specs.Rules.{IsPlan, node_faults, first_refusal, is_width}
 use Rattle.plan.specs.Widths.{width_of, width_from, reduced_width}
 use Rattle.plan.specs.declared.node.Kind.{Kind}
-use Rattle.plan.specs.declared.node.Kind.TheVariants.{Count, Distinct, Min, Max}
+use Rattle.plan.specs.declared.node.Kind.TheVariants.{Count}
 use Rattle.plan.specs.declared.node.Node.{Node}
 use Rattle.plan.specs.declared.node.Node.TheVariants.{Input, Map, Filter, Concat, Negate, Arrange, Join, Reduce, Output}
 use Rattle.update.specs.declared.refusal.Refusal.TheVariants.{BadWidth, BadColumn, WidthMismatch}
-use Rattle.plan.proofs.AnswerLemmas.{distinct_answered, least_answered, greatest_answered, answered_once}
 use Rattle.plan.proofs.KeyLemmas.{key_bounds, source_arranged}
 use Rattle.plan.proofs.PlanLemmas.{source_smaller, no_first, no_fault}
-use Rattle.plan.proofs.ReducerLemmas.{all_reduce}
-use Rattle.plan.proofs.ReductionLemmas.{by_key_at}
 use Rattle.plan.proofs.StepLemmas.{width_by_sources}
-use Rattle.plan.proofs.CountLemmas.{row_same, when_zero, count_of-negated_entry, count_of-filter}
+use Rattle.plan.proofs.CountLemmas.{count_of-negated_entry}
 use Rattle.plan.proofs.WidthLemmas.{faultless, width_bounds}
+use Rattle.reducer.proofs.KindLemmas.{output_wide}
 use Rattle.oracle.specs.Entries.{all_wide}
 use Rattle.oracle.specs.Keys.{have_keys}
 use Rattle.oracle.specs.Evaluation.{output_at, HasLargeAt, HasLargeStep, HasLargeProductOf}
-use Rattle.oracle.proofs.CountLemmas.{answer_multiplicity, count_answered}
 use Rattle.oracle.proofs.RowLemmas.{absent_row, rows_by_counts}
 
 -- if all rows have a width, a test of that width holds for all of them
@@ -42,9 +38,6 @@ all_by_width test w [] h t = refl
 all_by_width test w (e ∷ es) h t =
     let parts = and_parts (eqb (length e.row) w) (all_wide w es) h in
     and_from (test (length e.row)) (list_all (λ e. test (length e.row)) es) (ap test (eqb-true (length e.row) w parts.0) ∙ t) (all_by_width test w es parts.1 t)
-
-add_one : (k : ℕ) → k + 1 ≡ suc k
-add_one k = omega arith
 
 -- ---- widths of the operators' outputs
 
@@ -83,57 +76,6 @@ joined_wide k w v (x ∷ left) right h i =
 
 absent_wide : (w : ℕ) (es : List Entry) (row : List ℤ) → IsTrue (all_wide w es) → eqb (length row) w ≡ false → count_of es row ≡ pos 0
 absent_wide w es row h n = absent_row (λ r. eqb (length r) w) es row h n
-
--- ---- reductions
-
-module _ (k : ℕ) (es : List Entry) (row : List ℤ) where
-  abbrev of_key : List Entry
-  of_key = filter (has_key k (take k row)) es
-
-  not_present : count_of es row ≡ pos 0 → is_present of_key row ≡ false
-  not_present z = ap (int_lt (pos 0)) (count_of-filter (λ r. same_row (take k r) (take k row)) es row ∙ (ap (λ n. cond (same_row (take k row) (take k row)) n (pos 0)) z ∙ when_zero (same_row (take k row) (take k row))))
-
-  unanswered : (kind : Kind) → (count_of (reduction_answer kind (take k row) of_key) row ≡ pos 1 → is_present of_key row ≡ true) → count_of es row ≡ pos 0 → count_of (reduction_answer kind (take k row) of_key) row ≡ pos 0
-  unanswered kind needs z =
-      ⊎_elim
-      (λ none. none)
-      (λ one. absurd (true≢false (sym (needs one) ∙ not_present z)))
-      (answered_once kind (take k row) of_key row)
-
-  of_source : (kind : Kind) → (count_of (reduction_answer kind (take k row) of_key) row ≡ pos 1 → is_present of_key row ≡ true) → count_of es row ≡ pos 0 → count_of (reduction_output k (reduction_answer kind) es) row ≡ pos 0
-  of_source kind needs z =
-      by_key_at k (reduction_answer kind) (all_reduce kind k) es row
-      ∙ (ap (λ n. cond (nat_le k (length row)) n (pos 0)) (unanswered kind needs z) ∙ when_zero (nat_le k (length row)))
-
-  distinct_absent : count_of es row ≡ pos 0 → count_of (reduction_output k (reduction_answer Distinct) es) row ≡ pos 0
-  distinct_absent z =
-      by_key_at k (reduction_answer Distinct) (all_reduce Distinct k) es row
-      ∙ (ap (λ n. cond (nat_le k (length row)) n (pos 0)) (distinct_answered (take k row) of_key row ∙ ap (λ b. cond b (pos 1) (pos 0)) (not_present z)) ∙ when_zero (nat_le k (length row)))
-
-  count_absent_row : eqb (length row) (suc k) ≡ false → count_of (reduction_output k (reduction_answer Count) es) row ≡ pos 0
-  count_absent_row h =
-      by_key_at k (reduction_answer Count) (all_reduce Count k) es row
-      ∙ step (nat_le k (length row)) refl
-    where
-      number : (n : ℤ) (b : Bool) → nat_le k (length row) ≡ true → same_row (take k row ++ n ∷ []) row ≡ b → answer_multiplicity (take k row) n row ≡ pos 0
-      number n true wide t =
-          let long : length row ≡ suc k = sym (ap length (row_same (take k row ++ n ∷ []) row t)) ∙ length-append (take k row) (n ∷ []) ∙ ap (λ m. m + 1) (length-take-le k row (leb-true k (length row) wide)) ∙ add_one k in
-          absurd (true≢false (sym (eq-eqb (length row) (suc k) long) ∙ h))
-      number n false wide t = ap (λ b. cond (not (int_eq n (pos 0)) && b) (pos 1) (pos 0)) t ∙ none (int_eq n (pos 0))
-        where
-          none : (b : Bool) → cond (not b && false) (pos 1) (pos 0) ≡ pos 0
-          none true = refl
-          none false = refl
-
-      step : (b : Bool) → nat_le k (length row) ≡ b → cond b (count_of (reduction_answer Count (take k row) of_key) row) (pos 0) ≡ pos 0
-      step true wide = sym (count_answered (take k row) (sum_of_counts of_key) row) ∙ number (sum_of_counts of_key) (same_row (take k row ++ sum_of_counts of_key ∷ []) row) wide refl
-      step false wide = refl
-
-  reduced_absent : (kind : Kind) (w : ℕ) → IsTrue (all_wide w es) → eqb (length row) (reduced_width kind k w) ≡ false → count_of (reduction_output k (reduction_answer kind) es) row ≡ pos 0
-  reduced_absent Count w h n = count_absent_row n
-  reduced_absent Distinct w h n = distinct_absent (absent_wide w es row h n)
-  reduced_absent Min w h n = of_source Min (λ one. ((least_answered (take k row) of_key row).0 one).0) (absent_wide w es row h n)
-  reduced_absent Max w h n = of_source Max (λ one. ((greatest_answered (take k row) of_key row).0 one).0) (absent_wide w es row h n)
 
 -- ---- nodes
 
@@ -233,7 +175,9 @@ module _ (p : List Node) (plan : IsPlan p) (n : ℕ) (l : n < length p) (bags : 
       (joined_wide (key_width p (node_at p n)) (width_of p left) (width_of p right) (bags left) (bags right) (at_port (Join left right) e 0 left refl) (at_port (Join left right) e 1 right refl))
       (ap (eqb (length row)) (sym (join_width left right e)) ∙ h)
   absent_at outside own row h (Reduce kind source) e =
-      reduced_absent (key_width p (Reduce kind source)) (bags source) row kind (width_of p source) (at_port (Reduce kind source) e 0 source refl) (ap (eqb (length row)) (sym (width_is (Reduce kind source) e)) ∙ h)
+      let k = key_width p (Reduce kind source) in
+      absent_wide (reduced_width kind k (width_of p source)) (reduction_output k (reduction_answer kind) (bags source)) row
+      (output_wide kind k (width_of p source) (bags source) (at_port (Reduce kind source) e 0 source refl)) (ap (eqb (length row)) (sym (width_is (Reduce kind source) e)) ∙ h)
   absent_at outside own row h (Output source) e =
       absent_wide (width_of p source) (bags source) row (at_port (Output source) e 0 source refl) (ap (eqb (length row)) (sym (width_is (Output source) e)) ∙ h)
 

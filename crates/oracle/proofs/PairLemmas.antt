@@ -6,13 +6,16 @@ use Rattle.std.specs.Ordering.{int_cmp, is_eq}
 use Rattle.std.specs.declared.cmp.Ordering.{Ordering}
 use Rattle.std.specs.declared.cmp.Ordering.TheVariants.{Less, Equal, Greater}
 use Rattle.std.proofs.lemmas.Bool.{cases_lt, true≢false}
-use Rattle.std.proofs.lemmas.List.{append-nil, map-append, get_or_default}
+use Rattle.std.proofs.lemmas.List.{map-append, get_or_default}
 use Rattle.std.proofs.lemmas.List.Elements.{filter_more}
-use Rattle.update.specs.Bags.{Entry, same_row}
+use Rattle.update.specs.Bags.{Entry, IsBag, same_row}
 use Rattle.update.specs.declared.refusal.Refusal.{Refusal}
+use Rattle.plan.specs.Reductions.{has_key}
+use Rattle.plan.proofs.CountLemmas.{row_same}
 use Rattle.update.specs.Refusals.{IsMemoryOrOverflow}
 use Rattle.oracle.specs.Products.{HasLargeProduct, HasLargePair}
-use Rattle.oracle.specs.Keys.{precedes, is_before_key, IsKeyRange}
+use Rattle.oracle.specs.Keys.{precedes, is_before_key, IsKeyRange, IsKeyStart}
+use Rattle.oracle.proofs.KeyLemmas.{columns_refl, behind_from}
 use Rattle.oracle.proofs.PutLemmas.{no_entry}
 
 same_row_is : (r s : List ℤ) → same_row r s ≡ is_eq (slice_cmp int_cmp r s)
@@ -67,12 +70,6 @@ module _ {X : Type 0} (p : X → Bool) where
       ∙ (append_assoc old (map f (filter p (take i xs))) (f (get_or xs i d) ∷ [])
       ∙ ap (λ ys. old ++ ys) (sym (ap (map f) more ∙ map-append f (filter p (take i xs)) (get_or xs i d ∷ [])))))
 
-  -- the step over an element that does not pass: nothing is appended
-  pub put_left_as : {Y : Type 0} (f : X → Y) (old mid : List Y) (xs : List X) (i : ℕ) (d : X) → i < length xs → p (get_or xs i d) ≡ false → mid ≡ old ++ map f (filter p (take i xs)) → mid ≡ old ++ map f (filter p (take (i + 1) xs))
-  put_left_as f old mid xs i d l h m =
-      let same : filter p (take (i + 1) xs) ≡ filter p (take i xs) = filter_more p xs i d l ∙ (ap (λ b. filter p (take i xs) ++ cond b (get_or xs i d ∷ []) []) h ∙ append-nil (filter p (take i xs))) in
-      m ∙ ap (λ ys. old ++ map f ys) (sym same)
-
 -- the bounds of a key in a bag
 module _ (key : List ℤ) (es : List Entry) (from to : ℕ) where
   abbrev has : Entry → Bool
@@ -116,6 +113,44 @@ module _ (key : List ℤ) (es : List Entry) (from to : ℕ) where
     behind = none_after d;
   }
 
+  -- the bounds are the range of the key, if the entry at the lower one has it and no entry before
+  -- that one has
+  range_from : IsBag es → from < length es → to ≤ length es → ((d : Entry) → take (length key) (get_or es from d).row ≡ key) → filter has (take from es) ≡ []
+      → AllWithin (λ e. is_before_key true key e ≡ true) es 0 to → AllWithin (λ e. is_before_key true key e ≡ false) es to (length es)
+      → (from < to) × IsKeyRange (length key) key es from to
+  range_from bag l n own none before behind = (
+    more,
+    record {
+      order = omega (arith, more);
+      inside = n;
+      before = none;
+      within = λ i d m o. has_between i d m o n (behind_from false key es bag from l (λ d. ap (λ r. precedes false (slice_cmp int_cmp r key)) (own d) ∙ ap (precedes false) (columns_refl key))) before;
+      behind = none_after behind;
+    },
+  )
+    where
+      more : from < to
+      more =
+          ⊎_elim
+          (λ m. m)
+          (λ m.
+          let first : is_before_key true key (get_or es from no_entry) ≡ true = ap (λ r. precedes true (slice_cmp int_cmp r key)) (own no_entry) ∙ ap (precedes true) (columns_refl key) in
+          absurd (true≢false (sym first ∙ behind from no_entry m l)))
+          (cases_lt from to)
+
+  -- at the upper bound another key starts
+  start_at : AllWithin (λ e. is_before_key true key e ≡ true) es 0 to → AllWithin (λ e. is_before_key true key e ≡ false) es to (length es) → IsKeyStart (length key) es to
+  start_at before behind d l = none_front (has_key (length key) next) es to (omega (arith, l)) (λ j x a b. step j x b (has_key (length key) next (get_or es j x)) refl)
+    where
+      next : List ℤ
+      next = take (length key) (get_or es to d).row
+
+      step : (j : ℕ) (x : Entry) → j < to → (b : Bool) → has_key (length key) next (get_or es j x) ≡ b → has_key (length key) next (get_or es j x) ≡ false
+      step j x m true e =
+          let same = row_same (take (length key) (get_or es j x).row) next e in
+          absurd (true≢false (sym (before j x (omega arith) m) ∙ (ap (λ r. precedes true (slice_cmp int_cmp r key)) same ∙ behind to d (omega arith) l)))
+      step j x m false e = e
+
 -- the two bounds that the searches find are the range of the key
 pub key_range_is : (k : ℕ) (key own : List ℤ) (es : List Entry) (from to : ℕ) → key ≡ own → length own ≡ k → to ≤ length es → from ≤ length es
     → AllWithin (λ e. is_before_key false key e ≡ true) es 0 from → AllWithin (λ e. is_before_key false key e ≡ false) es from (length es)
@@ -124,6 +159,27 @@ pub key_range_is : (k : ℕ) (key own : List ℤ) (es : List Entry) (from to : �
 key_range_is k key own es from to e long n l a b c d =
     subst (λ (m : ℕ). IsKeyRange m own es from to) long
     (subst (λ (key : List ℤ). IsKeyRange (length key) key es from to) e (range_at key es from to n l a b c d))
+
+-- the end of the range of the key of an entry before which no entry has the key
+module _ (k : ℕ) (key : List ℤ) (es : List Entry) (bag : IsBag es) (from to : ℕ) (long : length key ≡ k) (own : (d : Entry) → key ≡ take k (get_or es from d).row)
+    (l : from < length es) (start : IsKeyStart k es from) (n : to ≤ length es)
+    (before : AllWithin (λ e. is_before_key true key e ≡ true) es 0 to) (behind : AllWithin (λ e. is_before_key true key e ≡ false) es to (length es)) where
+  found : (from < to) × IsKeyRange (length key) key es from to
+  found =
+      range_from key es from to bag l n (λ d. ap (λ m. take m (get_or es from d).row) long ∙ sym (own d))
+      ((λ i. filter (has_key (long i) (own no_entry i)) (take from es)) ∙ start no_entry l) before behind
+
+  -- up to it the entries are the range of the key
+  pub end_range : (d : Entry) → IsKeyRange k (take k (get_or es from d).row) es from to
+  end_range d = subst (λ (r : List ℤ). IsKeyRange k r es from to) (own d) (subst (λ (m : ℕ). IsKeyRange m key es from to) long found.1)
+
+  -- the range is not empty
+  pub end_more : from < to
+  end_more = found.0
+
+  -- and another key starts there
+  pub end_start : IsKeyStart k es to
+  end_start = subst (λ (m : ℕ). IsKeyStart m es to) long (start_at key es from to before behind)
 
 -- if an entry on the left has a product that is too large, the join has one
 pub large_pair : (k : ℕ) (left right : List Entry) (i : ℕ) (x : Entry) → i < length left → x ≡ get_or left i no_entry → (r : Refusal) → IsMemoryOrOverflow (HasLargeProduct k x right) r → IsMemoryOrOverflow (HasLargePair k left right) r

@@ -31,3 +31,8 @@ pub record IsKeyRange (k : ℕ) (key : List ℤ) (es : List Entry) (from to : �
   pub within : (i : ℕ) (d : Entry) → from ≤ i → i < to
       → has_key k key (slice_index_or es i d) ≡ true
   pub behind : filter (has_key k key) (take to es) ≡ filter (has_key k key) es
+
+-- no entry before the index has the key of the entry at the index
+abbrev pub IsKeyStart : ℕ → List Entry → ℕ → Type 0
+IsKeyStart k es at = (d : Entry) → at < length es
+    → filter (has_key k (take k (slice_index_or es at d).row)) (take at es) ≡ []

@@ -1,5 +1,5 @@
 //! The entries of a bag, addressed by index, as operators read and write them.
-ghost use Rattle.std.specs.Prelude.{◌≡◌, ◌<◌, ◌++◌, ◌∷◌, [], length, slice_index_or, pos, int_lt, OnOk};
+ghost use Rattle.std.specs.Prelude.{◌≡◌, ◌<◌, ◌++◌, ◌∷◌, [], length, slice_index_or, OnOk};
 ghost use Rattle.update.specs.Refusals.{OnlyMemory};
 ghost use Rattle.update.specs.Bags.{Entry};
 
@@ -30,12 +30,4 @@ pub(crate) fn count_at(bag: &Bag, i: usize) -> i64
     ensures { (d : Entry) → result ≡ (slice_index_or bag.now i d).count }
 {
     bag.count(i)
-}
-
-/// Whether entry `i` has a count above 0.
-pub(crate) fn is_positive(bag: &Bag, i: usize) -> bool
-    requires { i < length bag.now }
-    ensures { (d : Entry) → result ≡ int_lt (pos 0) (slice_index_or bag.now i d).count }
-{
-    count_at(bag, i) > 0
 }

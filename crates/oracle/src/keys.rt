@@ -5,7 +5,7 @@ ghost use Rattle.std.specs.Prelude.{◌≡◌, ◌≤◌, ◌<◌, true, false, 
 ghost use Rattle.std.specs.List.{AllWithin};
 ghost use Rattle.update.specs.Bags.{Entry};
 ghost use Rattle.plan.specs.Reductions.{has_key};
-ghost use Rattle.oracle.specs.Keys.{is_before_key, have_keys, IsKeyRange};
+ghost use Rattle.oracle.specs.Keys.{is_before_key, have_keys, IsKeyRange, IsKeyStart};
 
 use crate::entries::row_at;
 use row::Row;
@@ -85,4 +85,19 @@ pub(crate) fn key_range(bag: &Bag, row: &Row, k: usize) -> (usize, usize)
     let from = before_key(bag, key, false);
     let to = before_key(bag, key, true);
     (from, to)
+}
+
+/// The end of the range of the entries that have the key of entry `i`, if no entry before `i` has
+/// it.
+pub(crate) fn key_end(bag: &Bag, i: usize, k: usize) -> usize
+    requires inside { i < length bag.now }
+    requires keys { IsTrue (have_keys k bag.now) }
+    requires start { IsKeyStart k bag.now i }
+    ensures range { (d : Entry)
+        → IsKeyRange k (take k (slice_index_or bag.now i d).row) bag.now i result }
+    ensures more { i < result }
+    ensures start { IsKeyStart k bag.now result }
+{
+    bag.known();
+    before_key(bag, key_at(bag, i, k), true)
 }

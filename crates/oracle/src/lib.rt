@@ -4,8 +4,9 @@
 //!
 //! [`evaluate`] answers the query at one time. Each operator writes entries, and one function adds
 //! them up to a bag, in 128 bits. So whether a sum is refused never depends on the order of the
-//! entries. Crate `plan` defines what a node is; the definitions here say which numbers can be too
-//! large on the way. [`Refusal::Overflow`] comes for no other reason.
+//! entries. A reduction asks the reducer of its kind, key by key: crate `reducer` has one body for
+//! each kind, and it knows no times. Crate `plan` defines what a node is; the definitions here say
+//! which numbers can be too large on the way. [`Refusal::Overflow`] comes for no other reason.
 //!
 //! [`differences`] lists the changes of a view, so that the engine's lists of changes can be
 //! compared with it. At each passed time at which the view may change, it lists the query's answer
@@ -22,6 +23,7 @@ mod entries;
 mod evaluation;
 mod join;
 mod join_closure;
+mod key_rows;
 mod keys;
 mod laws;
 mod linear;

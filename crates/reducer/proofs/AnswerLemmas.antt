@@ -1,5 +1,5 @@
 -- What a reducer promises of the bag that it gives, from what is known of a call that made the bag.
-use Rattle.std.proofs.Common.{◌≡◌, ℕ, ◌<◌, Bool, true, false, cond, List, [], ◌∷◌, ℤ, take, length, get_or, Result, Ok, Err, IsTrue, ⊎_elim, inl, refl, ap, sym, ◌∙◌}
+use Rattle.std.proofs.Common.{◌≡◌, ℕ, ◌<◌, Bool, true, false, cond, List, [], ◌∷◌, ℤ, take, length, get_or, Result, Ok, Err, IsTrue, ⊎_elim, refl, ap, sym, ◌∙◌}
 use Rattle.std.specs.Prelude.{pos, IfOk, IfErr}
 use Rattle.std.specs.List.{filter, list_all}
 use Rattle.std.proofs.lemmas.Bool.{and_parts}
@@ -7,8 +7,9 @@ use Rattle.std.proofs.lemmas.List.Elements.{All-from_recursion}
 use Rattle.std.proofs.lemmas.List.Sums.{list_all-from_AllPass}
 use Rattle.std.proofs.lemmas.Result.{IfOk-weaker, IfErr-weaker}
 use Rattle.update.specs.Bags.{Entry, Alike, IsBag, HasLargeCount, count_of, same_row}
-use Rattle.update.specs.Refusals.{IsMemoryOrOverflow}
+use Rattle.update.specs.Refusals.{OnlyMemory, IsMemoryOrOverflow}
 use Rattle.update.specs.declared.refusal.Refusal.{Refusal}
+use Rattle.update.specs.declared.refusal.Refusal.TheVariants.{OutOfMemory}
 use Rattle.update.proofs.BagLemmas.{count_at}
 use Rattle.plan.specs.Reductions.{IsReducer, has_key}
 
@@ -50,7 +51,7 @@ module _ (reduce : List ℤ → List Entry → List Entry) (key : List ℤ) (row
       both (Err refused) alike bag = tt
 
 -- if no count is too large, only memory can be refused
-pub only_memory : (cause : Type 0) (listed : List Entry) (given : Result (List Entry) Refusal) → (HasLargeCount listed → ⊥)
-    → IfErr given (IsMemoryOrOverflow (HasLargeCount listed)) → IfErr given (IsMemoryOrOverflow cause)
-only_memory cause listed given fit refused =
-    IfErr-weaker given (IsMemoryOrOverflow (HasLargeCount listed)) (IsMemoryOrOverflow cause) (λ r either. ⊎_elim (λ m. inl m) (λ o. absurd (fit o.1)) either) refused
+pub only_memory : (listed : List Entry) (given : Result (List Entry) Refusal) → (HasLargeCount listed → ⊥)
+    → IfErr given (IsMemoryOrOverflow (HasLargeCount listed)) → OnlyMemory given
+only_memory listed given fit refused =
+    IfErr-weaker given (IsMemoryOrOverflow (HasLargeCount listed)) (λ r. r ≡ OutOfMemory) (λ r either. ⊎_elim (λ m. m) (λ o. absurd (fit o.1)) either) refused

@@ -3,4 +3,5 @@ pub mod AnswerLemmas
 pub mod CountLemmas
 pub mod DistinctLemmas
 pub mod ExtremeLemmas
+pub mod KindLemmas
 pub mod TallyLemmas

@@ -11,15 +11,13 @@ use crate::{Reducer, RowCounts};
 use std::alloc::Global;
 use update::{Bag, Refusal};
 
-/// Answers the least row whose count is above 0, once. Its refusals are those of
-/// [`Reducer::reduce`].
+/// Answers the least row whose count is above 0, once. Refused only if memory was refused.
 ///
 /// Cost: reads the counts from the first row up to the answer.
 #[derive(Clone, Copy)]
 pub struct Min;
 
-/// Answers the greatest row whose count is above 0, once. Its refusals are those of
-/// [`Reducer::reduce`].
+/// Answers the greatest row whose count is above 0, once. Refused only if memory was refused.
 ///
 /// Cost: reads the counts from the last row back to the answer.
 #[derive(Clone, Copy)]
@@ -64,14 +62,27 @@ fn last_positive<C: RowCounts>(rows: &C) -> Option<usize>
 }
 
 impl Reducer for Min {
-    ghost use Rattle.std.specs.Prelude.{true};
+    ghost use Rattle.std.specs.Prelude.{true, IfOk, IsTrue, length};
+    ghost use Rattle.std.specs.List.{list_all};
+    ghost use Rattle.update.specs.Bags.{Alike, IsBag};
+    ghost use Rattle.update.specs.Refusals.{OnlyMemory};
+    ghost use Rattle.plan.specs.Reductions.{has_key};
     ghost use Rattle.reducer.specs.Kinds.{min_answer, min_reduces, none_is_blind};
 
     ghost reduces = { λ _. min_answer };
 
     ghost sees_rows = { λ _. true };
 
-    fn reduce<C: RowCounts>(&self, alloc: Global, _key: &[i64], rows: &C) -> Result<Bag, Refusal> {
+    fn reduce<C: RowCounts>(&self, alloc: Global, key: &[i64], rows: &C) -> Result<Bag, Refusal>
+        requires keyed { IsTrue
+            (list_all (has_key (length key.now) key.now) (C.entries rows.now)) }
+        ensures value { IfOk result
+            (λ bag. Alike bag (min_answer key.now (C.entries rows.now))) }
+        ensures bag { IfOk result IsBag }
+        ensures keyed { IfOk result
+            (λ bag. IsTrue (list_all (has_key (length key.now) key.now) bag)) }
+        ensures refused { OnlyMemory result }
+    {
         rows.known();
         match first_positive(rows) {
             Some(i) => one_row(alloc, row_at(rows, i)),
@@ -89,14 +100,27 @@ impl Reducer for Min {
 }
 
 impl Reducer for Max {
-    ghost use Rattle.std.specs.Prelude.{true};
+    ghost use Rattle.std.specs.Prelude.{true, IfOk, IsTrue, length};
+    ghost use Rattle.std.specs.List.{list_all};
+    ghost use Rattle.update.specs.Bags.{Alike, IsBag};
+    ghost use Rattle.update.specs.Refusals.{OnlyMemory};
+    ghost use Rattle.plan.specs.Reductions.{has_key};
     ghost use Rattle.reducer.specs.Kinds.{max_answer, max_reduces, none_is_blind};
 
     ghost reduces = { λ _. max_answer };
 
     ghost sees_rows = { λ _. true };
 
-    fn reduce<C: RowCounts>(&self, alloc: Global, _key: &[i64], rows: &C) -> Result<Bag, Refusal> {
+    fn reduce<C: RowCounts>(&self, alloc: Global, key: &[i64], rows: &C) -> Result<Bag, Refusal>
+        requires keyed { IsTrue
+            (list_all (has_key (length key.now) key.now) (C.entries rows.now)) }
+        ensures value { IfOk result
+            (λ bag. Alike bag (max_answer key.now (C.entries rows.now))) }
+        ensures bag { IfOk result IsBag }
+        ensures keyed { IfOk result
+            (λ bag. IsTrue (list_all (has_key (length key.now) key.now) bag)) }
+        ensures refused { OnlyMemory result }
+    {
         rows.known();
         match last_positive(rows) {
             Some(i) => one_row(alloc, row_at(rows, i)),

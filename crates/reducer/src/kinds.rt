@@ -16,15 +16,33 @@ use std::alloc::Global;
 use update::{Bag, Refusal};
 
 /// The reduction of a plan's node, by its kind. It answers what the reducer of that kind answers,
-/// and refuses when that one does.
+/// and refuses when that one does. So only a count overflows.
 impl Reducer for Kind {
+    ghost use Rattle.std.specs.Prelude.{◌≡◌, ◌≤◌, IfOk, IfErr, IsTrue, length};
+    ghost use Rattle.std.specs.List.{list_all};
+    ghost use Rattle.update.specs.Bags.{Alike, IsBag};
+    ghost use Rattle.update.specs.Refusals.{IsMemoryOrOverflow};
+    ghost use Rattle.plan.specs.Reductions.{has_key};
     ghost use Rattle.reducer.specs.Kinds.{kind_answer, kind_sees_rows, kind_reduces, kind_is_blind};
+    ghost use Rattle.reducer.specs.Refusals.{HasLargeSum};
 
     ghost reduces = { kind_answer };
 
     ghost sees_rows = { kind_sees_rows };
 
-    fn reduce<C: RowCounts>(&self, alloc: Global, key: &[i64], rows: &C) -> Result<Bag, Refusal> {
+    fn reduce<C: RowCounts>(&self, alloc: Global, key: &[i64], rows: &C) -> Result<Bag, Refusal>
+        requires some { 1 ≤ length key.now }
+        requires few { length key.now ≤ 8 }
+        requires keyed { IsTrue
+            (list_all (has_key (length key.now) key.now) (C.entries rows.now)) }
+        ensures value { IfOk result
+            (λ bag. Alike bag (kind_answer self.now key.now (C.entries rows.now))) }
+        ensures bag { IfOk result IsBag }
+        ensures keyed { IfOk result
+            (λ bag. IsTrue (list_all (has_key (length key.now) key.now) bag)) }
+        ensures refused { IfErr result (IsMemoryOrOverflow
+            ((self.now ≡ Kind.Count) × HasLargeSum (C.entries rows.now))) }
+    {
         match self {
             Kind::Count => Count.reduce(alloc, key, rows),
             Kind::Distinct => Distinct.reduce(alloc, key, rows),

@@ -38,14 +38,6 @@ module _ {T S : Type 0} (times : Times T) (cmp : T → T → Ordering) where
       subst (λ (x : Known (BoardEvent T) × SharedState T). IsIn times cmp hub own x.0 h x.1) (λ i. (is i, sym same i))
       (record { same_hub = there.0; own_number = there.1; actor = there.2; tenure = of; stands = stands })
 
-  -- the same, of the pass that was taken out
-  pub entered_by : (o : Option (Known (BoardEvent T))) (p d k : Known (BoardEvent T)) (hub : TableId) (own : ℕ) (Q : Known (BoardEvent T) → Type 0) → o ≡ Some p
-      → IsSomeAnd o (λ p. (p.hub ≡ hub) × (p.number ≡ own) × IsActor times p × Q p) → unwrap_or o d ≡ k
-      → (h : Tenure S (BoardEvent T)) → IsTenureOf p h → (m b : SharedState T) → StandsFor times cmp b h.found → m ≡ b
-      → IsIn times cmp hub own k h m
-  entered_by o p d k hub own Q lay there is h of m b stands same =
-      entered o d k hub own Q there is h (subst (λ (x : Option (Known (BoardEvent T))). IfSome x (λ q. IsTenureOf q h)) (sym lay) of) m b stands same
-
 module _ {T : Type 0} (times : Times T) where
   -- what more the invariant of an actor says holds of what it knows
   pub remembered : (o : Option (Known (BoardEvent T))) (d k : Known (BoardEvent T)) (hub : TableId) (own : ℕ) (Q : Known (BoardEvent T) → Type 0)

@@ -15,6 +15,7 @@ ghost use Rattle.shared_board.specs.Tenures.{IsNextTenure, opening_in, state_lef
 ghost use Rattle.shared_board.specs.Widths.{are_wide_for};
 
 use crate::actor::Actor;
+use crate::actor::entry::try_enter;
 use crate::board::Taken;
 use crate::protocol::BoardProtocol;
 use antichain::Antichain;
@@ -36,10 +37,7 @@ impl<T: Minimum, P: BoardProtocol<T>> Actor<T, P> {
             × IsNextTenure self.old (Look self.old.number) self.new)) }
         ensures busy { result ≡ None → self.new ≡ self.old }
     {
-        let Some(pass) = self.pass.take() else {
-            unreachable!()
-        };
-        match self.hub.try_enter(pass) {
+        match try_enter(&self.hub, &mut self.pass) {
             Ok(home) => {
                 let mut tenure = home;
                 let board = tenure.state();
@@ -48,10 +46,7 @@ impl<T: Minimum, P: BoardProtocol<T>> Actor<T, P> {
                 self.pass = Some(tenure.leave());
                 Some(answer)
             }
-            Err(same) => {
-                self.pass = Some(same);
-                None
-            }
+            Err(_busy) => None,
         }
     }
 
@@ -73,10 +68,7 @@ impl<T: Minimum, P: BoardProtocol<T>> Actor<T, P> {
         ensures refused { IfSome result (λ r. OnlyMemory r) }
         ensures busy { result ≡ None → self.new ≡ self.old }
     {
-        let Some(pass) = self.pass.take() else {
-            unreachable!()
-        };
-        match self.hub.try_enter(pass) {
+        match try_enter(&self.hub, &mut self.pass) {
             Ok(home) => {
                 let mut tenure = home;
                 let board = tenure.state();
@@ -85,10 +77,7 @@ impl<T: Minimum, P: BoardProtocol<T>> Actor<T, P> {
                 self.pass = Some(tenure.leave());
                 Some(fronts)
             }
-            Err(same) => {
-                self.pass = Some(same);
-                None
-            }
+            Err(_busy) => None,
         }
     }
 
@@ -117,10 +106,7 @@ impl<T: Minimum, P: BoardProtocol<T>> Actor<T, P> {
         ensures busy { IfErr result (λ u. (self.new ≡ self.old)
             × (u ≡ record { cut = cut; held = held })) }
     {
-        let Some(pass) = self.pass.take() else {
-            unreachable!()
-        };
-        match self.hub.try_enter(pass) {
+        match try_enter(&self.hub, &mut self.pass) {
             Ok(home) => {
                 let mut tenure = home;
                 let board = tenure.state();
@@ -129,10 +115,7 @@ impl<T: Minimum, P: BoardProtocol<T>> Actor<T, P> {
                 self.pass = Some(tenure.leave());
                 Ok(answer)
             }
-            Err(same) => {
-                self.pass = Some(same);
-                Err(Ungiven { cut, held })
-            }
+            Err(_busy) => Err(Ungiven { cut, held }),
         }
     }
 }

@@ -5,7 +5,7 @@ use Rattle.update.specs.Refusals.{IsMemoryOrOverflow}
 use Rattle.oracle.specs.Evaluation.{HasLargeAbove, list_of, sums_at}
 use Rattle.oracle.specs.JoinClosures.{HavePassed, IsJoinClosure}
 use Rattle.oracle.specs.Listing.{HasLargeDifference, HasLargeGap}
-use Rattle.oracle.proofs.CountLemmas.{refused_by}
+use Rattle.oracle.proofs.ResultLemmas.{refused_by}
 use Rattle.oracle.proofs.DifferenceLemmas.{listed_none, listed_next, listed_large, listed_end, passed_here}
 use Rattle.oracle.proofs.difference.along.Goals as goal
 

@@ -4,7 +4,7 @@ use Rattle.plan.specs.Changes.{query_at}
 use Rattle.update.specs.Refusals.{IsMemoryOrOverflow}
 use Rattle.oracle.specs.Evaluation.{HasLargeAbove, list_of, sums_at}
 use Rattle.oracle.specs.Listing.{HasLargeGap}
-use Rattle.oracle.proofs.CountLemmas.{refused_by}
+use Rattle.oracle.proofs.ResultLemmas.{refused_by}
 use Rattle.oracle.proofs.ListingLemmas.{gap_alike}
 use Rattle.oracle.proofs.difference.list_at.Goals as goal
 

@@ -4,9 +4,8 @@ use Rattle.update.specs.Bags.{HasLargeCount, count_of}
 use Rattle.update.specs.Updates.{as_of}
 use Rattle.update.specs.Refusals.{IsMemoryOrOverflow}
 use Rattle.oracle.specs.Listing.{HasLargeGap}
-use Rattle.oracle.proofs.CountLemmas.{refused_by}
 use Rattle.oracle.proofs.ListingLemmas.{large_gap}
-use Rattle.oracle.proofs.ResultLemmas.{err_more}
+use Rattle.oracle.proofs.ResultLemmas.{err_more, refused_by}
 use Rattle.oracle.proofs.listing.gap.Goals as goal
 
 pub returns-clause-refused : goal.returns-clause-refused

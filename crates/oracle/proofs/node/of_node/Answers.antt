@@ -8,9 +8,8 @@ use Rattle.plan.specs.Operators.{mapped_entry, join_output}
 use Rattle.plan.specs.declared.node.Node.TheVariants.{Input, Map, Filter, Join, Reduce}
 use Rattle.update.specs.Refusals.{IsMemoryOrOverflow}
 use Rattle.oracle.specs.Evaluation.{nth_bag, HasLargeAt, HasLargeProductOf}
-use Rattle.oracle.proofs.CountLemmas.{refused_by}
 use Rattle.oracle.proofs.NodeLemmas.{map_within, filter_within, left_keys, right_keys, join_room, reduce_some, reduce_keys, count_room, large_of, join_large}
-use Rattle.oracle.proofs.ResultLemmas.{err_more}
+use Rattle.oracle.proofs.ResultLemmas.{err_more, refused_by}
 use Rattle.oracle.proofs.node.of_node.Goals as goal
 
 pub mapped-requires-clause-within : goal.mapped-requires-clause-within

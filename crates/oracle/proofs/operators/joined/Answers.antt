@@ -5,7 +5,7 @@ use Rattle.plan.specs.Operators.{join_output}
 use Rattle.update.specs.Refusals.{IsMemoryOrOverflow}
 use Rattle.oracle.specs.Evaluation.{HasLargeProductOf}
 use Rattle.oracle.specs.Products.{HasLargePair}
-use Rattle.oracle.proofs.CountLemmas.{refused_by}
+use Rattle.oracle.proofs.ResultLemmas.{refused_by}
 use Rattle.oracle.proofs.ProductLemmas.{large_product}
 use Rattle.oracle.proofs.operators.joined.Goals as goal
 

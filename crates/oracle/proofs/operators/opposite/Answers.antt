@@ -5,7 +5,7 @@ use Rattle.std.proofs.lemmas.Result.{err_from_is_err_and}
 use Rattle.update.specs.Bags.{Entry, HasLargeCount}
 use Rattle.plan.specs.Operators.{negated_entry}
 use Rattle.update.specs.Refusals.{IsMemoryOrOverflow}
-use Rattle.oracle.proofs.CountLemmas.{refused_by}
+use Rattle.oracle.proofs.ResultLemmas.{refused_by}
 use Rattle.oracle.proofs.ProductLemmas.{negated_large}
 use Rattle.oracle.proofs.operators.opposite.Goals as goal
 

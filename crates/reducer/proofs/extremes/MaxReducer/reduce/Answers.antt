@@ -9,7 +9,7 @@ use Rattle.reducer.proofs.extremes.MaxReducer.reduce.Goals as goal
 
 pub returns-in-Some : goal.returns-in-Some
 returns-in-Some g c =
-    let key = c.args._key.now in
+    let key = c.args.key.now in
     let rows = g.C.RowCounts.entries c.args.rows.now in
     let found = c.in-Some.ensures in
     let made = c.one_row.ensures in
@@ -25,7 +25,7 @@ returns-in-Some g c =
 
 pub returns-in-None : goal.returns-in-None
 returns-in-None g c =
-    let key = c.args._key.now in
+    let key = c.args.key.now in
     let rows = g.C.RowCounts.entries c.args.rows.now in
     let made = c.no_rows.ensures in
     let answer : Alike [] (max_answer key rows) = no_greatest rows c.known.ensures.order key (c.in-None.ensures.none refl) in

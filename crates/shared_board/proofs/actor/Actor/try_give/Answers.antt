@@ -7,7 +7,7 @@ use Rattle.histories.specs.declared.event.Event.TheVariants.{Give, Look}
 use Rattle.shared_board.specs.Tenures.{StandsFor, doing, opening_in, opening_of_board}
 use Rattle.shared_board.specs.Widths.{are_wide_for}
 use Rattle.shared_board.proofs.ActorLemmas.{IsIn, adds_as, after, give_found, if_err_map, kept, leaves, looked, on_board}
-use Rattle.shared_board.proofs.CallLemmas.{entered_by}
+use Rattle.shared_board.proofs.CallLemmas.{entered}
 use Rattle.shared_board.proofs.actor.Actor.try_give.Given.{Over}
 use Rattle.shared_board.proofs.actor.Actor.try_give.Goals.{After-deref_mut}
 use Rattle.shared_board.proofs.actor.Actor.try_give.Goals as goal
@@ -15,7 +15,7 @@ use Rattle.shared_board.proofs.actor.Actor.try_give.Goals as goal
 -- the call is made in a tenure
 tenure : (g : Over) (c : After-deref_mut g) → IsIn g.T.PartialOrder.times g.T.Ord.cmp (hub_id (arc_value c.self.inside.hub)) c.self.inside.number c.args.self.now c.in-Ok.home c.deref_mut.result.now
 tenure g c =
-    entered_by g.T.PartialOrder.times g.T.Ord.cmp c.self.inside.pass c.in-Some.pass _ c.args.self.now _ _ _ (search rules) c.self.invariant c.self.view_is c.in-Ok.home c.in-Ok.ensures.found.0 c.deref_mut.result.now c.in-Ok.home.state.value (g.met.P.BoardProtocol.stands_for c.in-Ok.home.state c.in-Ok.home.found c.in-Ok.ensures.found.1) (search rules)
+    entered g.T.PartialOrder.times g.T.Ord.cmp c.self.inside.pass _ c.args.self.now _ _ _ c.self.invariant c.self.view_is c.in-Ok.home c.in-Ok.ensures.found c.deref_mut.result.now c.in-Ok.home.state.value (g.met.P.BoardProtocol.stands_for c.in-Ok.home.state c.in-Ok.home.found c.in-Ok.ensures.stands) (search rules)
 
 pub give-answer-requires-clause-worker : goal.give-answer-requires-clause-worker
 give-answer-requires-clause-worker g c =

@@ -4,7 +4,7 @@ use Rattle.hub.specs.Passes.{hub_id}
 use Rattle.std.specs.Prelude.{IfOk}
 use Rattle.shared_board.specs.Ports.{AreFrontsOf, AreWithin}
 use Rattle.shared_board.proofs.ActorLemmas.{IsIn, after_one, kept, looked, of_found, on_board, one_leaves}
-use Rattle.shared_board.proofs.CallLemmas.{entered_by}
+use Rattle.shared_board.proofs.CallLemmas.{entered}
 use Rattle.shared_board.proofs.actor.Actor.try_port_frontiers.Given.{Over}
 use Rattle.shared_board.proofs.actor.Actor.try_port_frontiers.Goals.{After-deref_mut}
 use Rattle.shared_board.proofs.actor.Actor.try_port_frontiers.Goals as goal
@@ -12,7 +12,7 @@ use Rattle.shared_board.proofs.actor.Actor.try_port_frontiers.Goals as goal
 -- the call is made in a tenure
 tenure : (g : Over) (c : After-deref_mut g) → IsIn g.T.PartialOrder.times g.T.Ord.cmp (hub_id (arc_value c.self.inside.hub)) c.self.inside.number c.args.self.now c.in-Ok.home c.deref_mut.result.now
 tenure g c =
-    entered_by g.T.PartialOrder.times g.T.Ord.cmp c.self.inside.pass c.in-Some.pass _ c.args.self.now _ _ _ (search rules) c.self.invariant c.self.view_is c.in-Ok.home c.in-Ok.ensures.found.0 c.deref_mut.result.now c.in-Ok.home.state.value (g.met.P.BoardProtocol.stands_for c.in-Ok.home.state c.in-Ok.home.found c.in-Ok.ensures.found.1) (search rules)
+    entered g.T.PartialOrder.times g.T.Ord.cmp c.self.inside.pass _ c.args.self.now _ _ _ c.self.invariant c.self.view_is c.in-Ok.home c.in-Ok.ensures.found c.deref_mut.result.now c.in-Ok.home.state.value (g.met.P.BoardProtocol.stands_for c.in-Ok.home.state c.in-Ok.home.found c.in-Ok.ensures.stands) (search rules)
 
 pub port_frontiers-fronts-requires : goal.port_frontiers-fronts-requires
 port_frontiers-fronts-requires g c =

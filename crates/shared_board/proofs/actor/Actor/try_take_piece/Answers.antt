@@ -2,7 +2,7 @@ use Rattle.std.proofs.Common.{rules, ◌<◌, ◌∙◌}
 use Rattle.std.specs.Arc.{arc_value}
 use Rattle.hub.specs.Passes.{hub_id}
 use Rattle.shared_board.proofs.ActorLemmas.{IsIn, after_one, both_ok, hand_found, if_err_map, kept, looked, on_board, one_leaves}
-use Rattle.shared_board.proofs.CallLemmas.{entered_by}
+use Rattle.shared_board.proofs.CallLemmas.{entered}
 use Rattle.shared_board.proofs.TakenLemmas.{taken_in}
 use Rattle.shared_board.proofs.actor.Actor.try_take_piece.Given.{Over}
 use Rattle.shared_board.proofs.actor.Actor.try_take_piece.Goals.{After-deref_mut}
@@ -11,7 +11,7 @@ use Rattle.shared_board.proofs.actor.Actor.try_take_piece.Goals as goal
 -- the call is made in a tenure
 tenure : (g : Over) (c : After-deref_mut g) → IsIn g.T.PartialOrder.times g.T.Ord.cmp (hub_id (arc_value c.self.inside.hub)) c.self.inside.number c.args.self.now c.in-Ok.home c.deref_mut.result.now
 tenure g c =
-    entered_by g.T.PartialOrder.times g.T.Ord.cmp c.self.inside.pass c.in-Some.pass _ c.args.self.now _ _ _ (search rules) c.self.invariant c.self.view_is c.in-Ok.home c.in-Ok.ensures.found.0 c.deref_mut.result.now c.in-Ok.home.state.value (g.met.P.BoardProtocol.stands_for c.in-Ok.home.state c.in-Ok.home.found c.in-Ok.ensures.found.1) (search rules)
+    entered g.T.PartialOrder.times g.T.Ord.cmp c.self.inside.pass _ c.args.self.now _ _ _ c.self.invariant c.self.view_is c.in-Ok.home c.in-Ok.ensures.found c.deref_mut.result.now c.in-Ok.home.state.value (g.met.P.BoardProtocol.stands_for c.in-Ok.home.state c.in-Ok.home.found c.in-Ok.ensures.stands) (search rules)
 
 pub take_piece-answer-requires : goal.take_piece-answer-requires
 take_piece-answer-requires g c =

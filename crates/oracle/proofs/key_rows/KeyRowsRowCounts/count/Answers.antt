@@ -1,0 +1,32 @@
+use Rattle.std.proofs.Common.{◌≡◌, ◌<◌, ◌-◌, ap, length, sym, subst, w64, FitsSigned, rules, arith}
+use Rattle.std.specs.Prelude.{slice_get, IsSomeAnd}
+use Rattle.std.proofs.lemmas.Int.{to_z-of_z}
+use Rattle.std.proofs.lemmas.List.Edits.{length-between}
+use Rattle.oracle.proofs.RangeLemmas.{get_range}
+use Rattle.oracle.proofs.key_rows.KeyRowsRowCounts.count.Goals as goal
+
+pub overflow_add-self-inside : goal.overflow_add-self-inside
+overflow_add-self-inside c =
+    let rows = c.self.inside in
+    let long = length-between rows.bag.now rows.from rows.to c.self.invariant.1 in
+    let seen = ap length c.self.view_is in
+    omega (arith, long, seen, c.requires, c.self.invariant.2)
+
+pub count-requires : goal.count-requires
+count-requires c =
+    let rows = c.self.inside in
+    let long = length-between rows.bag.now rows.from rows.to c.self.invariant.1 in
+    let seen = ap length c.self.view_is in
+    omega (arith, long, seen, c.requires, c.self.invariant.1)
+
+pub returns : goal.returns
+returns c =
+    let rows = c.self.inside in
+    let i = c.args.i in
+    let long = length-between rows.bag.now rows.from rows.to c.self.invariant.1 in
+    let seen = ap length c.self.view_is in
+    let within : i < rows.to - rows.from = omega (arith, long, seen, c.requires) in
+    let n = c.count.result in
+    let fits : FitsSigned w64 n = search rules in
+    rw (to_z-of_z w64 n fits) (subst (λ es. IsSomeAnd (slice_get es i) (λ e. n ≡ e.count)) c.self.view_is
+    (subst (λ o. IsSomeAnd o (λ e. n ≡ e.count)) (sym (get_range rows.from rows.to i rows.bag.now within)) c.count.ensures))

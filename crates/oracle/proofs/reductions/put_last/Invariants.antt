@@ -1,8 +1,0 @@
-use Rattle.std.proofs.Common.{◌≡◌, ◌++◌, take}
-use Rattle.std.specs.List.{filter}
-use Rattle.oracle.specs.Reduced.{is_greatest_row}
-use Rattle.oracle.proofs.reductions.put_last.Given as goal
-
--- the entries so far
-abbrev pub invariant-loop-i : goal.invariant-loop-i
-invariant-loop-i l = l.entries ≡ l.initial.entries ++ filter (λ e. is_greatest_row l.k l.bag e.row) (take l.i l.bag)
