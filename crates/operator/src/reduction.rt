@@ -19,12 +19,12 @@ ghost use Rattle.update.specs.Refusals.{OnlyMemory, IsMemoryOrOverflow};
 ghost use Rattle.update.specs.Updates.{size, total_where, AreApart};
 ghost use Rattle.update.specs.declared.change.Update.{Update};
 ghost use Rattle.plan.specs.Changes.{has_passed};
+ghost use Rattle.plan.specs.Kinds.{state_key};
 ghost use Rattle.histories.specs.Histories.States.{update_times};
 ghost use Rattle.trace.specs.Readings.{Insertion, all_updates};
 ghost use Rattle.spine.specs.Spines.{Stands};
 ghost use Rattle.operator_laws.specs.ReduceNodes.{IsPendingWith};
 ghost use Rattle.operator.specs.Reductions.{HasRoom, StandIn, SumsToReceived, IsAnswerAt, IsPendingAfter, IsOverfullWith, IsReduced, pending_of, have_width};
-ghost use Rattle.plan.specs.Kinds.{state_key};
 
 use crate::frontier::put_in_all;
 use antichain::Antichain;
@@ -50,8 +50,8 @@ pub struct Reducing<T: Minimum> {
 impl<T: Minimum> Model for Reducing<T> {
     ghost use Rattle.std.specs.Prelude.{◌≡◌, ◌∷◌, [], IsTrue};
     ghost use Rattle.lattice.specs.Frontiers.{all_beyond};
-    ghost use Rattle.operator.specs.Reductions.{ReducingView, HasRoom, pending_in};
     ghost use Rattle.plan.specs.Kinds.{state_key};
+    ghost use Rattle.operator.specs.Reductions.{ReducingView, HasRoom, pending_in};
 
     ghost Value = { ReducingView T };
 

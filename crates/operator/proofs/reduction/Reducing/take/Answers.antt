@@ -1,9 +1,9 @@
 use Rattle.std.proofs.Common.{◌≡◌, ◌++◌, [], ◌∷◌, length, sym, subst}
 use Rattle.std.specs.Prelude.{IsTrue, nat_le}
+use Rattle.plan.specs.Kinds.{state_key}
 use Rattle.plan.specs.declared.kind.Kind.{Kind}
 use Rattle.reduce.specs.Histories.{ReduceView}
 use Rattle.operator.specs.Reductions.{HasRoom, ReducingView, IsReduced, have_width}
-use Rattle.plan.specs.Kinds.{state_key}
 use Rattle.operator.proofs.AnswerWidthLemmas.{part_of_rows}
 use Rattle.operator.proofs.ReductionLemmas.{wide_enough, took, behind, pending_after, pending_with, later_beyond, taken_beyond}
 use Rattle.operator.proofs.reduction.Reducing.take.Goals as goal
