@@ -103,11 +103,11 @@ by_state_key Max key width es within wide row = refl
 
 word_found : (kinds : List Kind) (word : List ℕ) (found : Kind) → kind_among kinds word ≡ Some found → word ≡ kind_text found
 word_found [] word found e = absurd cc
-word_found (kind ∷ kinds) word found e = step (bytes_eq word (kind_text kind)) refl e
+word_found (kind ∷ kinds) word found e = step (bytes_eq word (kind_text kind)) refl e (word_found kinds word found)
   where
-    step : (b : Bool) → bytes_eq word (kind_text kind) ≡ b → cond b (Some kind) (kind_among kinds word) ≡ Some found → word ≡ kind_text found
-    step true same h = let is : kind ≡ found = cc in (bytes_eq-Decides word (kind_text kind)).0 same ∙ ap kind_text is
-    step false other h = word_found kinds word found h
+    step : (b : Bool) → bytes_eq word (kind_text kind) ≡ b → cond b (Some kind) (kind_among kinds word) ≡ Some found → (kind_among kinds word ≡ Some found → word ≡ kind_text found) → word ≡ kind_text found
+    step true same h rest = let is : kind ≡ found = cc in (bytes_eq-Decides word (kind_text kind)).0 same ∙ ap kind_text is
+    step false other h rest = rest h
 
 -- the kind that a word names has this word
 pub named_ok : (word : List ℕ) (found : Kind) → kind_named word ≡ Some found → word ≡ kind_text found
