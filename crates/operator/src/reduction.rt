@@ -9,9 +9,9 @@
 //! The invariant: no pending time comes before the least time. What the state keeps is as of the
 //! least time. The trace need not be: a reader's hold keeps it readable at the pending times.
 //!
-//! The state may go by more columns than the plan's key, if the kind's answers are the same by them:
-//! a distinct goes by whole rows. So a correction looks at one row, and not at all rows of a key. It
-//! costs a history for each row in place of one for each key. What is given is the same.
+//! The state may go by more columns than the plan's key, if the kind's answers are the same by
+//! them: a distinct goes by whole rows. So a correction looks at one row, and not at all rows of a
+//! key. It costs a history for each row in place of one for each key. What is given is the same.
 ghost use Rattle.std.specs.Prelude.{◌≡◌, ◌≢◌, ◌≤◌, ◌^◌, ◌++◌, ◌∷◌, [], List, Bool, ℤ, pos, IfErr, IfOk, OnErr, OnOk, IsTrue};
 ghost use Rattle.std.specs.List.{AllByRecursion, list_all};
 ghost use Rattle.lattice.specs.Frontiers.{all_beyond};

@@ -19,6 +19,9 @@ pub enum Kind {
     Max,
 }
 
+/// The words of all kinds.
+pub const KIND_WORDS: [&str; 4] = ["count", "distinct", "min", "max"];
+
 impl Kind {
     /// The kind that the word names, or `None` if it names none. Takes no memory.
     #[tactic(auto, unfolding(crate::specs::Kinds::kind_named))]

@@ -28,7 +28,7 @@ pub use builder::PlanBuilder;
 pub use differences::{bounds_are_determined, differences_are_one_list};
 pub use edges::Edge;
 pub use items::Items;
-pub use kind::Kind;
+pub use kind::{KIND_WORDS, Kind};
 pub use laws::{
     extensions_keep_plans, keyed_operators_add_up, linear_operators_add_up,
     nodes_stand_on_their_sources, plans_are_in_order, queries_depend_on_bags,

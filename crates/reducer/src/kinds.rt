@@ -19,12 +19,7 @@ use std::alloc::Global;
 use update::{Bag, Refusal};
 
 // The answer of the kind, by its own function. Only a count overflows.
-fn answer_of<C: RowCounts>(
-    kind: Kind,
-    alloc: Global,
-    key: &[i64],
-    rows: &C,
-) -> Result<Bag, Refusal>
+fn answer_of<C: RowCounts>(kind: Kind, alloc: Global, key: &[i64], rows: &C) -> Result<Bag, Refusal>
     requires { 1 ≤ length key.now }
     ensures value { IfOk result
         (λ bag. Alike bag (kind_answer kind key.now (C.entries rows.now))) }
@@ -40,8 +35,8 @@ fn answer_of<C: RowCounts>(
     }
 }
 
-/// The reduction of a plan's node, by its kind. A key that leaves no room for its answers gets none:
-/// the row of a count would have one column more than the key. Only a count overflows.
+/// The reduction of a plan's node, by its kind. A key that leaves no room for its answers gets
+/// none: the row of a count would have one column more than the key. Only a count overflows.
 impl Reducer for Kind {
     ghost use Rattle.std.specs.Prelude.{◌≡◌, ◌≤◌, IfOk, IfErr, IsTrue, length};
     ghost use Rattle.std.specs.List.{list_all};
