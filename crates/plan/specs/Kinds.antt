@@ -77,7 +77,8 @@ kind_text Max = codes "max"
 -- the first kind of a list that has the word
 abbrev pub kind_among : List Kind → List ℕ → Option Kind
 kind_among [] word = None
-kind_among (kind ∷ kinds) word = if bytes_eq word (kind_text kind) then Some kind else kind_among kinds word
+kind_among (kind ∷ kinds) word =
+    if bytes_eq word (kind_text kind) then Some kind else kind_among kinds word
 
 -- the kind that has the word
 unfoldable pub kind_named : List ℕ → Option Kind

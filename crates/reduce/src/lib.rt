@@ -16,8 +16,8 @@
 //! them:
 //!
 //! - `reducer`: what a key's rows are reduced to. A [`Reducer`] is a function of a bag; the kind of
-//!   a plan's reduction is one. [`RowCounts`] is how it reads the rows of a key, and a [`Tally`] has
-//!   them with counts that change in place.
+//!   a plan's reduction is one. [`RowCounts`] is how it reads the rows of a key, and a [`Tally`]
+//!   has them with counts that change in place.
 //! - `joined_times`: which times are joined times, after new ones came.
 //! - `correction`: what is given of one key at one time.
 //! - `key_history`: what is kept of one key, a [`KeyHistory`], and what is given of it as of a
