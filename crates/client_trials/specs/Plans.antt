@@ -1,6 +1,6 @@
 -- The plan of the sessions that are tested.
 use Rattle.std.specs.Prelude.{List, [], ◌∷◌}
-use Rattle.plan.specs.declared.node.Kind.TheVariants.{Count}
+use Rattle.plan.specs.declared.kind.Kind.TheVariants.{Count}
 use Rattle.plan.specs.declared.node.Node.{Node}
 use Rattle.plan.specs.declared.node.Node.TheVariants.{Input, Output, Arrange, Reduce}
 

@@ -20,8 +20,9 @@ use Rattle.update.specs.declared.refusal.Refusal.{Refusal}
 use Rattle.join.proofs.LargeLemmas.{large_size}
 use Rattle.plan.specs.Changes.{has_passed}
 use Rattle.plan.specs.Nodes.{arranged_by, is_join, is_linear, is_reduction, key_width, node_at, sources}
-use Rattle.plan.specs.Widths.{reduced_width, width_from, width_of}
-use Rattle.plan.specs.declared.node.Kind.{Kind}
+use Rattle.plan.specs.Widths.{width_from, width_of}
+use Rattle.plan.specs.Kinds.{reduced_width}
+use Rattle.plan.specs.declared.kind.Kind.{Kind}
 use Rattle.plan.specs.declared.node.Node.{Node}
 use Rattle.plan.specs.declared.node.Node.TheVariants.{Arrange, Reduce}
 use Rattle.plan.proofs.PlanLemmas.{source_smaller}

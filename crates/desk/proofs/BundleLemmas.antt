@@ -9,7 +9,7 @@ use Rattle.lattice.specs.Frontiers.{all_beyond, is_beyond}
 use Rattle.update.specs.declared.change.Update.{Update}
 use Rattle.plan.specs.Nodes.{is_linear, node_at, sources}
 use Rattle.plan.specs.Widths.{width_of}
-use Rattle.plan.specs.declared.node.Kind.{Kind}
+use Rattle.plan.specs.declared.kind.Kind.{Kind}
 use Rattle.plan.specs.declared.node.Node.{Node}
 use Rattle.plan.specs.declared.node.Node.TheVariants.{Arrange, Input, Reduce}
 use Rattle.linear.proofs.PortLemmas.{input_at}

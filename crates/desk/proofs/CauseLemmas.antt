@@ -13,8 +13,8 @@ use Rattle.update.specs.declared.change.Update.{Update}
 use Rattle.plan.specs.Changes.{has_passed}
 use Rattle.plan.specs.Nodes.{is_linear, is_reduction, key_width, sources}
 use Rattle.plan.specs.Operators.{operator_output, reduction_output}
-use Rattle.plan.specs.Reductions.{reduction_answer}
-use Rattle.plan.specs.declared.node.Kind.{Kind}
+use Rattle.plan.specs.Kinds.{reduction_answer}
+use Rattle.plan.specs.declared.kind.Kind.{Kind}
 use Rattle.plan.specs.declared.node.Node.{Node}
 use Rattle.plan.specs.declared.node.Node.TheVariants.{Arrange, Join, Negate, Reduce}
 use Rattle.linear.specs.Applied.{Overflows, linear_output}

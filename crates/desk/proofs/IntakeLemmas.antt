@@ -17,7 +17,7 @@ use Rattle.update.specs.Updates.{size}
 use Rattle.update.specs.declared.change.Update.{Update}
 use Rattle.plan.specs.Nodes.{arranged_by, is_join, is_linear, is_reduction, node_at}
 use Rattle.plan.specs.Widths.{width_of}
-use Rattle.plan.specs.declared.node.Kind.{Kind}
+use Rattle.plan.specs.declared.kind.Kind.{Kind}
 use Rattle.plan.specs.declared.node.Node.{Node}
 use Rattle.plan.specs.declared.node.Node.TheVariants.{Arrange, Join, Reduce}
 use Rattle.linear.specs.Applied.{linear_output, Overflows}

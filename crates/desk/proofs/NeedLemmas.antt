@@ -8,7 +8,7 @@ use Rattle.lattice.specs.Order.{PartialOrderLaws}
 use Rattle.lattice.specs.Frontiers.{all_beyond, is_beyond}
 use Rattle.lattice.proofs.FrontierLemmas.{all_beyond_from, all_beyond_later, beyond_later}
 use Rattle.plan.specs.Nodes.{node_at}
-use Rattle.plan.specs.declared.node.Kind.{Kind}
+use Rattle.plan.specs.declared.kind.Kind.{Kind}
 use Rattle.plan.specs.declared.node.Node.{Node}
 use Rattle.plan.specs.declared.node.Node.TheVariants.{Reduce}
 use Rattle.operator.specs.Reductions.{ReducingView}

@@ -12,8 +12,9 @@ use Rattle.lattice.proofs.FrontierLemmas.{beyond_itself}
 use Rattle.update.specs.declared.change.Update.{Update}
 use Rattle.plan.specs.Rules.{IsPlan}
 use Rattle.plan.specs.Nodes.{node_at, sources, arranged_by, key_width, is_join, is_linear}
-use Rattle.plan.specs.Widths.{width_of, width_from, reduced_width}
-use Rattle.plan.specs.declared.node.Kind.{Kind}
+use Rattle.plan.specs.Widths.{width_of, width_from}
+use Rattle.plan.specs.Kinds.{reduced_width, state_key}
+use Rattle.plan.specs.declared.kind.Kind.{Kind}
 use Rattle.plan.specs.declared.node.Node.{Node}
 use Rattle.plan.specs.declared.node.Node.TheVariants.{Input, Map, Filter, Concat, Negate, Arrange, Join, Reduce, Output}
 use Rattle.plan.proofs.KeyLemmas.{key_bounds, source_arranged}
@@ -32,7 +33,7 @@ use Rattle.operator_laws.specs.JoinNodes.{on_top}
 use Rattle.operator_laws.specs.Workers.{first_works}
 use Rattle.operator.specs.Arrangements.{AreInTurn, ArrangementState, IsNew, IsOpen, IsWithReader, upper_of}
 use Rattle.operator.specs.Joins.{JoiningView, IsFitting}
-use Rattle.operator.specs.Reductions.{ReducingView, HasRoom, pending_of, state_key}
+use Rattle.operator.specs.Reductions.{ReducingView, HasRoom, pending_of}
 use Rattle.desk_laws.specs.Own.{AreHolding, DeskView, HasHold, IsArrangedOn, IsJoinedOn, IsLaid, IsReducedOn, IsTakenBefore, KeepsApart, ReadsAt, Reduces, boundary_at, first_keeps, gathered_in, hold_at, waiting_in, waits_on}
 use Rattle.desk_laws.specs.declared.hand.Hand.TheVariants.{Free}
 use Rattle.desk_laws.proofs.FirstLemmas.{first_lem}

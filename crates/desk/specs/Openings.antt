@@ -2,7 +2,8 @@
 use Rattle.std.specs.Prelude.{◌≡◌, ◌≢◌, ℕ, ◌<◌, List, [], ◌∷◌, length, slice_get, Some, ⊤}
 use Rattle.plan.specs.Nodes.{node_at, key_width}
 use Rattle.plan.specs.Widths.{width_of}
-use Rattle.plan.specs.declared.node.Kind.{Kind}
+use Rattle.plan.specs.Kinds.{state_key}
+use Rattle.plan.specs.declared.kind.Kind.{Kind}
 use Rattle.plan.specs.declared.node.Node.{Node}
 use Rattle.plan.specs.declared.node.Node.TheVariants.{Input, Map, Filter, Concat, Negate, Arrange, Join, Reduce, Output}
 use Rattle.trace.specs.Holds.{HoldState}
@@ -10,7 +11,7 @@ use Rattle.spine.specs.Spines.{Stands}
 use Rattle.histories.specs.Histories.Dataflows.{Dataflow}
 use Rattle.operator.specs.Arrangements.{ArrangementState, IsOpen, IsWithReader}
 use Rattle.operator.specs.Joins.{JoiningView}
-use Rattle.operator.specs.Reductions.{ReducingView, IsReduced, pending_of, state_key}
+use Rattle.operator.specs.Reductions.{ReducingView, IsReduced, pending_of}
 use Rattle.desk_laws.specs.Own.{AreSharing, DeskView, HasHold, ReadsAt, gathered_in, hold_at}
 use Rattle.lattice.specs.Times.{Times}
 

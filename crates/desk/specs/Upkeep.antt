@@ -5,7 +5,7 @@ use Rattle.std.specs.declared.cmp.Ordering.{Ordering}
 use Rattle.lattice.specs.Times.{Times}
 use Rattle.lattice.specs.Frontiers.{all_beyond, is_beyond}
 use Rattle.plan.specs.Nodes.{is_join, is_reduction, node_at}
-use Rattle.plan.specs.declared.node.Kind.{Kind}
+use Rattle.plan.specs.declared.kind.Kind.{Kind}
 use Rattle.plan.specs.declared.node.Node.{Node}
 use Rattle.plan.specs.declared.node.Node.TheVariants.{Arrange, Reduce}
 use Rattle.trace.specs.Readings.{Insertion}

@@ -3,7 +3,7 @@
 ghost use Rattle.std.specs.Prelude.{◌≡◌, ◌<◌, List, Some, None, Bool, false, IfOk, IfErr, OnErr, IsTrue, length, slice_get};
 ghost use Rattle.update.specs.Refusals.{IsMemoryOrOverflow};
 ghost use Rattle.plan.specs.Nodes.{arranged_by, is_reduction, node_at};
-ghost use Rattle.plan.specs.declared.node.Kind.{Kind};
+ghost use Rattle.plan.specs.declared.kind.Kind.{Kind};
 ghost use Rattle.plan.specs.declared.node.Node.TheVariants.{Reduce};
 ghost use Rattle.operator.specs.Arrangements.{ArrangementState};
 ghost use Rattle.operator.specs.Reductions.{ReducingView};

@@ -6,7 +6,7 @@
 ghost use Rattle.std.specs.Prelude.{◌≡◌, ◌<◌, ◌++◌, ◌∷◌, ℕ, suc, set, [], Some, IfOk, OnOk, length, slice_get};
 ghost use Rattle.update.specs.Refusals.{OnlyMemory};
 ghost use Rattle.plan.specs.Nodes.{node_at};
-ghost use Rattle.plan.specs.declared.node.Kind.{Kind};
+ghost use Rattle.plan.specs.declared.kind.Kind.{Kind};
 ghost use Rattle.plan.specs.declared.node.Node.TheVariants.{Arrange, Join, Reduce};
 ghost use Rattle.histories.specs.Histories.{initial_state};
 ghost use Rattle.histories.specs.Histories.Dataflows.{Dataflow, IsDataflow};

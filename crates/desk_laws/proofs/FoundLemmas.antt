@@ -14,7 +14,8 @@ use Rattle.update.specs.Updates.{as_of, AreApart}
 use Rattle.update.specs.declared.change.Update.{Update}
 use Rattle.plan.specs.Changes.{has_passed}
 use Rattle.plan.specs.Nodes.{arranged_by, is_linear, is_reduction, key_width, sources}
-use Rattle.plan.specs.declared.node.Kind.{Kind}
+use Rattle.plan.specs.Kinds.{state_key}
+use Rattle.plan.specs.declared.kind.Kind.{Kind}
 use Rattle.plan.specs.declared.node.Node.{Node}
 use Rattle.plan.specs.declared.node.Node.TheVariants.{Arrange, Reduce}
 use Rattle.plan.proofs.KeyLemmas.{source_arranged}
@@ -31,7 +32,7 @@ use Rattle.operator_laws.specs.ReduceNodes.{IsFound}
 use Rattle.operator_laws.specs.Workers.{Works, IsWorkingAt}
 use Rattle.operator_laws.proofs.WorkerLemmas.{has_all}
 use Rattle.operator.specs.Arrangements.{ArrangementState}
-use Rattle.operator.specs.Reductions.{HasRoom, IsReduced, ReducingView, SumsToReceived, pending_of, state_key}
+use Rattle.operator.specs.Reductions.{HasRoom, IsReduced, ReducingView, SumsToReceived, pending_of}
 use Rattle.desk_laws.specs.Own.{DeskView, IsArrangedOn, IsOfOneShape, IsOwn, IsReducedOn, IsSameAt, StayHolding}
 use Rattle.desk_laws.specs.declared.hand.Hand.TheVariants.{Ready, Turned}
 use Rattle.desk_laws.proofs.KeptLemmas.{at_each, ready_idle, same_keeps, turned_idle}

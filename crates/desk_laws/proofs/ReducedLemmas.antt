@@ -15,8 +15,8 @@ use Rattle.update.specs.declared.change.Update.{Update}
 use Rattle.plan.specs.Changes.{has_passed}
 use Rattle.plan.specs.Nodes.{arranged_by, is_reduction, key_width}
 use Rattle.plan.specs.Operators.{operator_output, reduction_output}
-use Rattle.plan.specs.Reductions.{reduction_answer}
-use Rattle.plan.specs.declared.node.Kind.{Kind}
+use Rattle.plan.specs.Kinds.{reduction_answer, state_key}
+use Rattle.plan.specs.declared.kind.Kind.{Kind}
 use Rattle.plan.specs.declared.node.Node.TheVariants.{Reduce}
 use Rattle.histories.specs.declared.event.Bundle.{Bundle}
 use Rattle.histories.specs.Histories.{with_at}
@@ -25,7 +25,7 @@ use Rattle.histories.specs.Histories.NodeLaws.{received_at}
 use Rattle.histories.specs.Histories.States.{State, emitted_by, held_at, update_times}
 use Rattle.operator_laws.specs.ReduceNodes.{IsReducing}
 use Rattle.operator_laws.specs.Workers.{Works, IsWorkingAt}
-use Rattle.operator.specs.Reductions.{HasRoom, IsPendingAfter, IsReduced, ReducingView, pending_of, state_key}
+use Rattle.operator.specs.Reductions.{HasRoom, IsPendingAfter, IsReduced, ReducingView, pending_of}
 use Rattle.operator.proofs.ReductionLemmas.{answer_at}
 use Rattle.desk_laws.specs.Own.{DeskView, IsOfOneShape, IsOwn, IsReducedOn, IsSameAt, StayHoldingWith}
 use Rattle.desk_laws.specs.declared.hand.Hand.TheVariants.{Kept, Taken}

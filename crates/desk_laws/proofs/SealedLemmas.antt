@@ -8,7 +8,7 @@ use Rattle.lattice.specs.Frontiers.{all_beyond}
 use Rattle.update.specs.declared.change.Update.{Update}
 use Rattle.batch.specs.Descriptions.{BatchState}
 use Rattle.plan.specs.Nodes.{is_linear, is_reduction, arranged_by}
-use Rattle.plan.specs.declared.node.Kind.{Kind}
+use Rattle.plan.specs.declared.kind.Kind.{Kind}
 use Rattle.plan.specs.declared.node.Node.TheVariants.{Join, Reduce}
 use Rattle.trace.specs.Readings.{Insertion}
 use Rattle.histories.specs.declared.event.Emission.{Emission}

@@ -7,7 +7,7 @@ use Rattle.lattice.specs.Order.{PartialOrderLaws}
 use Rattle.update.specs.declared.change.Update.{Update}
 use Rattle.plan.specs.Nodes.{key_width, arranged_by, sources}
 use Rattle.plan.specs.declared.node.Node.TheVariants.{Join, Reduce}
-use Rattle.plan.specs.declared.node.Kind.{Kind}
+use Rattle.plan.specs.declared.kind.Kind.{Kind}
 use Rattle.trace.specs.Readings.{Insertion, all_updates}
 use Rattle.join.specs.Pairs.{pairs}
 use Rattle.histories.specs.declared.event.Site.{Site}

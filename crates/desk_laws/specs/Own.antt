@@ -10,7 +10,8 @@ use Rattle.update.specs.declared.change.Update.{Update}
 use Rattle.plan.specs.Changes.{has_passed}
 use Rattle.plan.specs.Nodes.{is_reduction, is_join, key_width}
 use Rattle.plan.specs.Widths.{width_of}
-use Rattle.plan.specs.declared.node.Kind.{Kind}
+use Rattle.plan.specs.Kinds.{state_key}
+use Rattle.plan.specs.declared.kind.Kind.{Kind}
 use Rattle.plan.specs.declared.node.Node.{Node}
 use Rattle.plan.specs.declared.node.Node.TheVariants.{Arrange, Join, Reduce}
 use Rattle.linear.specs.Applied.{linear_output}
@@ -29,7 +30,7 @@ use Rattle.histories.specs.Histories.Outstanding.{input_frontier, port_frontier}
 use Rattle.histories.specs.Histories.Promises.{NeverGoesBack}
 use Rattle.operator.specs.Arrangements.{ArrangementState, AreInTurn, IsOpen, rows_have, times_from, upper_of}
 use Rattle.operator.specs.Joins.{JoiningView}
-use Rattle.operator.specs.Reductions.{ReducingView, HasRoom, IsReduced, pending_of, state_key}
+use Rattle.operator.specs.Reductions.{ReducingView, HasRoom, IsReduced, pending_of}
 use Rattle.operator_laws.specs.JoinNodes.{on_top}
 use Rattle.operator_laws.specs.ReduceNodes.{IsFound}
 use Rattle.operator_laws.specs.Workers.{Works, IsWorking, first_works}

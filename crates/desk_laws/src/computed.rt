@@ -6,7 +6,7 @@ ghost use Rattle.lattice.specs.Frontiers.{all_beyond};
 ghost use Rattle.update.specs.declared.change.Update.{Update};
 ghost use Rattle.plan.specs.Nodes.{arranged_by, is_linear, is_reduction};
 ghost use Rattle.plan.specs.Changes.{has_passed};
-ghost use Rattle.plan.specs.declared.node.Kind.{Kind};
+ghost use Rattle.plan.specs.declared.kind.Kind.{Kind};
 ghost use Rattle.plan.specs.declared.node.Node.TheVariants.{Arrange, Join, Reduce};
 ghost use Rattle.batch.specs.Descriptions.{BatchState};
 ghost use Rattle.trace.specs.Readings.{Insertion, all_updates, reached};

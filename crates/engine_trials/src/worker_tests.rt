@@ -3,7 +3,7 @@
 //! succeeds when it is made again. No clause says any of this: a worker that is refused each time
 //! meets its contract. What steps make of changes is seen by the runs of scripts.
 ghost use Rattle.std.specs.Prelude.{◌≡◌, ◌∷◌, [], IfOk};
-ghost use Rattle.plan.specs.declared.node.Kind.TheVariants.{Min};
+ghost use Rattle.plan.specs.declared.kind.Kind.TheVariants.{Min};
 ghost use Rattle.plan.specs.declared.node.Node.TheVariants.{Arrange, Input, Output, Reduce};
 
 use crate::pairs::{Players, worker_and_client};

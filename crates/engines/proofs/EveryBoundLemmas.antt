@@ -16,7 +16,7 @@ use Rattle.plan.specs.Changes.{AreDifferences, query_at}
 use Rattle.plan.specs.Nodes.{node_at}
 use Rattle.plan.specs.Rules.{IsPlan}
 use Rattle.plan.specs.Bounds.{AreOwn, IsBound, bound_by}
-use Rattle.plan.specs.declared.node.Kind.{Kind}
+use Rattle.plan.specs.declared.kind.Kind.{Kind}
 use Rattle.plan.specs.declared.node.Node.{Node}
 use Rattle.plan.specs.declared.node.Node.TheVariants.{Input, Reduce}
 use Rattle.plan.proofs.PlanLemmas.{node_past}

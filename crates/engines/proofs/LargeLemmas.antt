@@ -17,7 +17,7 @@ use Rattle.plan.specs.Changes.{query_at}
 use Rattle.plan.specs.Nodes.{node_at, sources, key_width}
 use Rattle.plan.specs.Queries.{query, source_value}
 use Rattle.plan.specs.Rules.{IsPlan}
-use Rattle.plan.specs.declared.node.Kind.TheVariants.{Count}
+use Rattle.plan.specs.declared.kind.Kind.TheVariants.{Count}
 use Rattle.plan.specs.declared.node.Node.{Node}
 use Rattle.plan.specs.declared.node.Node.TheVariants.{Join, Reduce}
 use Rattle.plan.proofs.PlanLemmas.{source_smaller}

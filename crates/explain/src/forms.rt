@@ -1,12 +1,18 @@
 //! Hints about the form and the order of lines.
 use crate::case::Case;
 use crate::places::{COMPARISONS, KEYWORDS, KINDS, Place};
+use plan::{KIND_WORDS, Kind};
 use std::alloc::AllocError;
 
 /// How the line is to look.
 pub(crate) fn push_form(text: &mut String, case: &Case<'_, '_>) -> Result<(), AllocError> {
-    let form = if case.word(0) == "node" {
-        node_form(case.word(2))
+    let is_node = case.word(0) == "node";
+    let kind = case.word(2);
+    if is_node && Kind::of(kind).is_some() {
+        return writeln!(text, "    hint: the line is `node NAME {kind} SOURCE`");
+    }
+    let form = if is_node {
+        node_form(kind)
     } else {
         line_form(case.word(0))
     };
@@ -38,7 +44,7 @@ fn line_form(keyword: &str) -> &'static str {
     }
 }
 
-// The form of a `node` line.
+// The form of a `node` line that declares no reduction.
 fn node_form(kind: &str) -> &'static str {
     if kind == "map" {
         "node NAME map SOURCE ITEM ..`, as `node m map a c1 c0"
@@ -52,14 +58,6 @@ fn node_form(kind: &str) -> &'static str {
         "node NAME arrange SOURCE KEY"
     } else if kind == "join" {
         "node NAME join SOURCE SOURCE"
-    } else if kind == "count" {
-        "node NAME count SOURCE"
-    } else if kind == "distinct" {
-        "node NAME distinct SOURCE"
-    } else if kind == "min" {
-        "node NAME min SOURCE"
-    } else if kind == "max" {
-        "node NAME max SOURCE"
     } else {
         "node NAME KIND SOURCE .."
     }
@@ -69,21 +67,31 @@ fn node_form(kind: &str) -> &'static str {
 pub(crate) fn push_unknown(text: &mut String, case: &Case<'_, '_>) -> Result<(), AllocError> {
     let word = case.fault();
     match case.due() {
-        Place::Kind => push_known(text, "the kinds are", &KINDS, word),
+        Place::Kind => push_known(text, "the kinds are", &KINDS, &KIND_WORDS, word),
         Place::Comparison => push_comparison(text, word),
-        _ => push_known(text, "a line begins with", &KEYWORDS, word),
+        _ => push_known(text, "a line begins with", &KEYWORDS, &[], word),
     }
 }
 
-// The known word that differs only in small and large letters, or else all that are known.
-fn push_known(text: &mut String, lead: &str, known: &[&str], word: &str) -> Result<(), AllocError> {
-    match known.iter().find(|other| other.eq_ignore_ascii_case(word)) {
-        Some(other) => writeln!(text, "    hint: it is written `{other}`"),
-        None => {
-            write!(text, "    hint: {lead}")?;
-            push_list(text, known)
-        }
+// The known word that differs only in small and large letters, or else all that are known: those of
+// the first list, and then more.
+fn push_known(
+    text: &mut String,
+    lead: &str,
+    known: &[&str],
+    more: &[&str],
+    word: &str,
+) -> Result<(), AllocError> {
+    if let Some(other) = known.iter().find(|other| other.eq_ignore_ascii_case(word)) {
+        return writeln!(text, "    hint: it is written `{other}`");
     }
+    if let Some(other) = more.iter().find(|other| other.eq_ignore_ascii_case(word)) {
+        return writeln!(text, "    hint: it is written `{other}`");
+    }
+    write!(text, "    hint: {lead}")?;
+    push_list(text, known)?;
+    push_list(text, more)?;
+    text.push('\n')
 }
 
 // All the words, each behind a space.
@@ -91,7 +99,7 @@ fn push_list(text: &mut String, words: &[&str]) -> Result<(), AllocError> {
     for word in words {
         write!(text, " {word}")?;
     }
-    text.push('\n')
+    Ok(())
 }
 
 // The comparison for which the word is a sign, or else all comparisons.

@@ -34,10 +34,8 @@ pub(crate) const KEYWORDS: [&str; 11] = [
     "frontier",
 ];
 
-/// The kinds of nodes.
-pub(crate) const KINDS: [&str; 10] = [
-    "map", "filter", "concat", "negate", "arrange", "join", "count", "distinct", "min", "max",
-];
+/// The kinds of nodes that are no reductions.
+pub(crate) const KINDS: [&str; 6] = ["map", "filter", "concat", "negate", "arrange", "join"];
 
 /// The comparisons, each with a sign that is often written for it.
 pub(crate) const COMPARISONS: [(&str, &str); 8] = [

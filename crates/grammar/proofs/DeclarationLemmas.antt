@@ -1,13 +1,13 @@
 -- What an accepted line that declares a node says, for each kind of such lines.
 use Rattle.std.proofs.Common.{◌≡◌, ℕ, false, ltb, List, [], ◌∷◌, ◌++◌, length, Some, None, Ok, refl, sym, ap, subst, ◌∙◌, codes}
-use Rattle.std.specs.Prelude.{map, decimal}
+use Rattle.std.specs.Prelude.{map, decimal, Option, option_map}
 use Rattle.row.specs.Text.{item_text}
 use Rattle.update.specs.declared.refusal.Refusal.TheVariants.{UnknownCommand, WrongWordCount}
 use Rattle.plan.specs.declared.node.Node.{Node}
 use Rattle.plan.specs.declared.node.Node.TheVariants.{Input, Map, Filter, Concat, Negate, Arrange, Join, Reduce, Output}
-use Rattle.plan.specs.declared.node.Kind.{Kind}
-use Rattle.plan.specs.declared.node.Kind.TheVariants.{Count, Distinct, Min, Max}
-use Rattle.plan.specs.Text.{kind_text}
+use Rattle.plan.specs.declared.kind.Kind.{Kind}
+use Rattle.plan.specs.Kinds.{kind_text, kind_named}
+use Rattle.plan.proofs.KindLemmas.{named_ok}
 use Rattle.grammar.specs.declared.kind.KindWord.{KindWord}
 use Rattle.grammar.specs.declared.kind.KindWord.TheVariants as kind
 use Rattle.grammar.specs.Outcomes.{◌>>=◌, or_refused}
@@ -159,6 +159,10 @@ word_of_kind kind.Arrange = codes "arrange"
 word_of_kind kind.Join = codes "join"
 word_of_kind (kind.Reduce reduction) = kind_text reduction
 
+reduction_ok : (word : List ℕ) (found : KindWord) (named : Option Kind) → kind_named word ≡ named → option_map (λ reduction. kind.Reduce reduction) named ≡ Some found → word ≡ word_of_kind found
+reduction_ok word found (Some reduction) is e = let same : kind.Reduce reduction ≡ found = cc in named_ok word reduction is ∙ ap word_of_kind same
+reduction_ok word found None is e = absurd cc
+
 kind_ok : (word : List ℕ) (found : KindWord) → kind_word word ≡ Some found → word ≡ word_of_kind found
 kind_ok word found e =
     one_of word_of_kind word (codes "map") kind.Map found _ e refl (λ e.
@@ -166,11 +170,7 @@ kind_ok word found e =
     one_of word_of_kind word (codes "concat") kind.Concat found _ e refl (λ e.
     one_of word_of_kind word (codes "negate") kind.Negate found _ e refl (λ e.
     one_of word_of_kind word (codes "arrange") kind.Arrange found _ e refl (λ e.
-    one_of word_of_kind word (codes "join") kind.Join found _ e refl (λ e.
-    one_of word_of_kind word (codes "count") (kind.Reduce Count) found _ e refl (λ e.
-    one_of word_of_kind word (codes "distinct") (kind.Reduce Distinct) found _ e refl (λ e.
-    one_of word_of_kind word (codes "min") (kind.Reduce Min) found _ e refl (λ e.
-    one_of word_of_kind word (codes "max") (kind.Reduce Max) found None e refl (λ e. absurd cc))))))))))
+    one_of word_of_kind word (codes "join") kind.Join found _ e refl (λ e. reduction_ok word found (kind_named word) refl e))))))
 
 kind_declares : (k next : ParseState) (name : List ℕ) (found : KindWord) (words : List (List ℕ)) → k.started ≡ false → kind_line k name found words ≡ Ok next → Declares k (codes "node" ∷ name ∷ word_of_kind found ∷ words) next
 kind_declares k next name kind.Map words early e = is_map_line k next name words early e

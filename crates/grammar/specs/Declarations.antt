@@ -1,13 +1,13 @@
 -- The lines that declare a node: what each says, or why it is refused. As in all lines, the order
 -- of the steps is the order of the tests.
-use Rattle.std.specs.Prelude.{ℕ, List, [], ◌∷◌, ◌++◌, length, Option, Some, None, Result, Ok, Err, nat_lt, codes, if◌then◌else◌}
+use Rattle.std.specs.Prelude.{ℕ, List, [], ◌∷◌, ◌++◌, length, Option, Some, option_map, Result, Ok, Err, nat_lt, codes, if◌then◌else◌}
 use Rattle.std.specs.Str.{bytes_eq}
 use Rattle.update.specs.declared.refusal.Refusal.{Refusal}
 use Rattle.update.specs.declared.refusal.Refusal.TheVariants.{UnknownCommand, WrongWordCount}
+use Rattle.plan.specs.Kinds.{kind_named}
 use Rattle.plan.specs.declared.node.Node.{Node}
 use Rattle.plan.specs.declared.node.Node.TheVariants.{Input, Map, Filter, Concat, Negate, Arrange, Join, Reduce, Output}
-use Rattle.plan.specs.declared.node.Kind.{Kind}
-use Rattle.plan.specs.declared.node.Kind.TheVariants.{Count, Distinct, Min, Max}
+use Rattle.plan.specs.declared.kind.Kind.{Kind}
 use Rattle.grammar.specs.declared.kind.KindWord.{KindWord}
 use Rattle.grammar.specs.declared.kind.KindWord.TheVariants as kind
 use Rattle.grammar.specs.Outcomes.{◌>>=◌, or_refused}
@@ -97,7 +97,7 @@ reduce_line reduction k name (from ∷ []) = do
   with_node k name (Reduce reduction from)
 reduce_line reduction k name _ = Err WrongWordCount
 
--- the kind that the third word of a `node` line names
+-- the kind that the third word of a `node` line names; the word of a reduction is that of its kind
 abbrev pub kind_word : List ℕ → Option KindWord
 kind_word word = if bytes_eq word (codes "map") then Some kind.Map
     else if bytes_eq word (codes "filter") then Some kind.Filter
@@ -105,10 +105,7 @@ kind_word word = if bytes_eq word (codes "map") then Some kind.Map
     else if bytes_eq word (codes "negate") then Some kind.Negate
     else if bytes_eq word (codes "arrange") then Some kind.Arrange
     else if bytes_eq word (codes "join") then Some kind.Join
-    else if bytes_eq word (codes "count") then Some (kind.Reduce Count)
-    else if bytes_eq word (codes "distinct") then Some (kind.Reduce Distinct)
-    else if bytes_eq word (codes "min") then Some (kind.Reduce Min)
-    else if bytes_eq word (codes "max") then Some (kind.Reduce Max) else None
+    else option_map (λ reduction. kind.Reduce reduction) (kind_named word)
 
 -- a `node` line of this kind; these words come after the kind
 abbrev pub kind_line : ParseState → List ℕ → KindWord → List (List ℕ) → Result ParseState Refusal

@@ -6,7 +6,7 @@ use Rattle.lattice.specs.declared.product.Pair.{Pair}
 use Rattle.row.specs.Text.{item_text, cmp_text}
 use Rattle.row.specs.declared.test.Test.{Test}
 use Rattle.plan.specs.Rules.{node_refusal}
-use Rattle.plan.specs.Text.{kind_text}
+use Rattle.plan.specs.Kinds.{kind_text}
 use Rattle.plan.specs.declared.node.Node.{Node}
 use Rattle.plan.specs.declared.node.Node.TheVariants.{Input, Map, Filter, Concat, Negate, Arrange, Join, Reduce, Output}
 use Rattle.grammar.specs.declared.command.Command.{Command}

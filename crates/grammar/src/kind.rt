@@ -33,16 +33,11 @@ impl KindWord {
             Some(KindWord::Arrange)
         } else if word == "join" {
             Some(KindWord::Join)
-        } else if word == "count" {
-            Some(KindWord::Reduce(Kind::Count))
-        } else if word == "distinct" {
-            Some(KindWord::Reduce(Kind::Distinct))
-        } else if word == "min" {
-            Some(KindWord::Reduce(Kind::Min))
-        } else if word == "max" {
-            Some(KindWord::Reduce(Kind::Max))
         } else {
-            None
+            match Kind::of(word) {
+                Some(kind) => Some(KindWord::Reduce(kind)),
+                None => None,
+            }
         }
     }
 }

@@ -6,6 +6,5 @@ pub mod OpenLemmas
 pub mod BoundaryAfterLemmas
 pub mod JoinSideLemmas
 pub mod JoinAnswerLemmas
-pub mod DistinctLemmas
 pub mod AnswerWidthLemmas
 pub mod ReductionLemmas

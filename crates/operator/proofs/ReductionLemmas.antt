@@ -24,9 +24,10 @@ use Rattle.batch.specs.Intervals.{is_interval_of}
 use Rattle.update.proofs.ConsolidatedLemmas.{summed_size, summed_size_is}
 use Rattle.plan.specs.Changes.{has_passed}
 use Rattle.plan.specs.Operators.{reduction_output}
-use Rattle.plan.specs.Reductions.{has_key, reduction_answer}
-use Rattle.plan.specs.Widths.{reduced_width}
+use Rattle.plan.specs.Reductions.{has_key}
+use Rattle.plan.specs.Kinds.{reduction_answer, reduced_width, state_key}
 use Rattle.plan.proofs.CountLemmas.{row_same, row_itself, count_of-filter}
+use Rattle.plan.proofs.KindLemmas.{same_reduced_width}
 use Rattle.plan.proofs.ReductionLemmas.{by_key_at}
 use Rattle.histories.specs.Histories.States.{update_times}
 use Rattle.histories.proofs.HistoryLemmas.FlowLemmas.{sum_at-append, not_beyond, is_passed}
@@ -48,8 +49,7 @@ use Rattle.joined_times.proofs.MemberLemmas.{in_left, in_right, in_either, membe
 use Rattle.reduce.proofs.PermutedLemmas.{stands_permuted}
 use Rattle.reduce.proofs.RowLemmas.{rows_answered}
 use Rattle.operator_laws.specs.ReduceNodes.{IsPendingWith}
-use Rattle.operator.specs.Reductions.{ReducingView, HasRoom, StandIn, AreAmong, SumsToReceived, IsAnswerAt, IsPendingAfter, AreOwedOf, IsOverfullWith, IsReduced, pending_in, pending_of, have_width, output_width, state_key}
-use Rattle.operator.proofs.DistinctLemmas.{same_output_width}
+use Rattle.operator.specs.Reductions.{ReducingView, HasRoom, StandIn, AreAmong, SumsToReceived, IsAnswerAt, IsPendingAfter, AreOwedOf, IsOverfullWith, IsReduced, pending_in, pending_of, have_width, output_width}
 use Rattle.operator.proofs.AnswerWidthLemmas.{plan_answers, alike_answers, output_wide, sum_wide}
 
 -- ---- lists
@@ -446,7 +446,7 @@ module _ {T : Type 0} {times : Times T} {cmp : T → T → Ordering} (o : Partia
     where
       -- the answers of the state have the width of the answers of the plan
       same_width : reduced_width r.state.reducer r.state.key r.width ≡ output_width r
-      same_width = ap (λ k. reduced_width r.state.reducer k r.width) goes ∙ same_output_width r.state.reducer r.key r.width
+      same_width = ap (λ k. reduced_width r.state.reducer k r.width) goes ∙ same_reduced_width r.state.reducer r.key r.width
 
       rows : IsTrue (have_width (output_width r) out)
       rows =

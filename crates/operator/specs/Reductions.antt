@@ -8,30 +8,20 @@ use Rattle.update.specs.Updates.{as_of, size, AreApart}
 use Rattle.update.specs.declared.change.Update.{Update}
 use Rattle.plan.specs.Changes.{has_passed}
 use Rattle.plan.specs.Operators.{reduction_output}
-use Rattle.plan.specs.Reductions.{reduction_answer}
-use Rattle.plan.specs.Widths.{reduced_width}
-use Rattle.plan.specs.declared.node.Kind.{Kind}
-use Rattle.plan.specs.declared.node.Kind.TheVariants.{Count, Distinct, Min, Max}
+use Rattle.plan.specs.Kinds.{reduction_answer, reduced_width}
+use Rattle.plan.specs.declared.kind.Kind.{Kind}
 use Rattle.histories.specs.Histories.States.{update_times}
 use Rattle.reduce.specs.Histories.{HistoryState, ReduceView}
 use Rattle.reduce.specs.Kinds.{kind_answer}
 use Rattle.reduce.specs.Reductions.{StandsFor, IsOpenTo}
 
 -- a reduction of a plan's kind: its state, the number of columns by which the plan reduces, and the
--- number of columns of the rows that it takes. The state goes by `state.key` columns, which for a
--- distinct are all columns
+-- number of columns of the rows that it takes. The state goes by `state.key` columns, those of the
+-- plan's `state_key`
 pub record ReducingView (T : Type 0) : Type 0 where
   pub state : ReduceView T Kind
   pub key : ℕ
   pub width : ℕ
-
--- the number of columns by which the state goes, from the number by which the plan reduces and the
--- width of the rows: a distinct goes by whole rows, every other reduction as the plan says
-abbrev pub state_key : Kind → ℕ → ℕ → ℕ
-state_key Count key width = key
-state_key Distinct key width = width
-state_key Min key width = key
-state_key Max key width = key
 
 module _ {T : Type 0} where
   -- the pending times of all keys

@@ -9,9 +9,9 @@
 //! The invariant: no pending time comes before the least time. What the state keeps is as of the
 //! least time. The trace need not be: a reader's hold keeps it readable at the pending times.
 //!
-//! A distinct goes by whole rows, whatever the plan's key is: of each row it answers from the count
-//! of that row alone. So a correction looks at one row, and not at all rows of a key. It costs a
-//! history for each row in place of one for each key. What is given is the same.
+//! The state may go by more columns than the plan's key, if the kind's answers are the same by
+//! them: a distinct goes by whole rows. So a correction looks at one row, and not at all rows of a
+//! key. It costs a history for each row in place of one for each key. What is given is the same.
 ghost use Rattle.std.specs.Prelude.{◌≡◌, ◌≢◌, ◌≤◌, ◌^◌, ◌++◌, ◌∷◌, [], List, Bool, ℤ, pos, IfErr, IfOk, OnErr, OnOk, IsTrue};
 ghost use Rattle.std.specs.List.{AllByRecursion, list_all};
 ghost use Rattle.lattice.specs.Frontiers.{all_beyond};
@@ -19,11 +19,12 @@ ghost use Rattle.update.specs.Refusals.{OnlyMemory, IsMemoryOrOverflow};
 ghost use Rattle.update.specs.Updates.{size, total_where, AreApart};
 ghost use Rattle.update.specs.declared.change.Update.{Update};
 ghost use Rattle.plan.specs.Changes.{has_passed};
+ghost use Rattle.plan.specs.Kinds.{state_key};
 ghost use Rattle.histories.specs.Histories.States.{update_times};
 ghost use Rattle.trace.specs.Readings.{Insertion, all_updates};
 ghost use Rattle.spine.specs.Spines.{Stands};
 ghost use Rattle.operator_laws.specs.ReduceNodes.{IsPendingWith};
-ghost use Rattle.operator.specs.Reductions.{HasRoom, StandIn, SumsToReceived, IsAnswerAt, IsPendingAfter, IsOverfullWith, IsReduced, pending_of, have_width, state_key};
+ghost use Rattle.operator.specs.Reductions.{HasRoom, StandIn, SumsToReceived, IsAnswerAt, IsPendingAfter, IsOverfullWith, IsReduced, pending_of, have_width};
 
 use crate::frontier::put_in_all;
 use antichain::Antichain;
@@ -49,7 +50,8 @@ pub struct Reducing<T: Minimum> {
 impl<T: Minimum> Model for Reducing<T> {
     ghost use Rattle.std.specs.Prelude.{◌≡◌, ◌∷◌, [], IsTrue};
     ghost use Rattle.lattice.specs.Frontiers.{all_beyond};
-    ghost use Rattle.operator.specs.Reductions.{ReducingView, HasRoom, pending_in, state_key};
+    ghost use Rattle.plan.specs.Kinds.{state_key};
+    ghost use Rattle.operator.specs.Reductions.{ReducingView, HasRoom, pending_in};
 
     ghost Value = { ReducingView T };
 
@@ -58,17 +60,6 @@ impl<T: Minimum> Model for Reducing<T> {
     ghost invariant = { λ r. HasRoom r.state.reducer r.key r.width
         × (r.state.key ≡ state_key r.state.reducer r.key r.width)
         × IsTrue (all_beyond T.times (T.times.least ∷ []) (pending_in r.state.histories)) };
-}
-
-// By how many columns the state of a reduction goes whose plan reduces by `key` columns: a distinct
-// by all columns.
-fn columns_of(kind: Kind, key: usize, width: usize) -> usize
-    ensures { result ≡ state_key kind key width }
-{
-    match kind {
-        Kind::Distinct => width,
-        Kind::Count | Kind::Min | Kind::Max => key,
-    }
 }
 
 // A batch that stands in for the updates.
@@ -90,8 +81,7 @@ fn sealed<T: Minimum>(
 
 impl<T: Minimum> Reducing<T> {
     /// A reduction of rows of `width` columns by their first `key` columns, which has received
-    /// nothing. Its state goes by these columns, for a distinct by all columns: there each row is a
-    /// matter of its own. Takes no memory.
+    /// nothing. Its state goes by the columns that [`Kind::state_columns`] says. Takes no memory.
     pub fn new(alloc: Global, key: usize, kind: Kind, width: usize) -> Reducing<T>
         requires { HasRoom kind key width }
         ensures key { result.key ≡ key }
@@ -102,7 +92,7 @@ impl<T: Minimum> Reducing<T> {
         ensures pending { pending_of result ≡ [] }
     {
         Reducing {
-            state: ReduceState::new(alloc, columns_of(kind, key, width), kind),
+            state: ReduceState::new(alloc, kind.state_columns(key, width), kind),
             key,
             width,
         }

@@ -7,7 +7,7 @@ use Rattle.update.specs.Bags.{Alike}
 use Rattle.update.specs.Updates.{as_of, AreApart}
 use Rattle.update.specs.declared.change.Update.{Update}
 use Rattle.plan.specs.Changes.{has_passed}
-use Rattle.plan.specs.declared.node.Kind.{Kind}
+use Rattle.plan.specs.declared.kind.Kind.{Kind}
 use Rattle.plan.specs.declared.node.Node.TheVariants.{Reduce}
 use Rattle.histories.specs.Histories.Dataflows.{Dataflow, node_of, node_output}
 use Rattle.histories.specs.Histories.States.{State, update_times, emitted_by, held_at}

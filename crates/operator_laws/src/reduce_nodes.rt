@@ -1,7 +1,7 @@
 //! What the events of a worker make of a reduction. The functions do nothing.
 ghost use Rattle.std.specs.Prelude.{◌≡◌, ℕ, List, [], ◌∷◌, IsTrue, false};
 ghost use Rattle.plan.specs.Changes.{has_passed};
-ghost use Rattle.plan.specs.declared.node.Kind.{Kind};
+ghost use Rattle.plan.specs.declared.kind.Kind.{Kind};
 ghost use Rattle.plan.specs.declared.node.Node.TheVariants.{Reduce};
 ghost use Rattle.histories.specs.declared.event.Bundle.{Bundle};
 ghost use Rattle.histories.specs.declared.event.Emission.{Emission};

@@ -15,7 +15,7 @@ use Rattle.plan.specs.Queries.{query, source_value}
 use Rattle.plan.specs.Reductions.{has_key, sum_of_counts}
 use Rattle.plan.specs.Rules.{IsPlan}
 use Rattle.plan.specs.Widths.{width_of, width_from}
-use Rattle.plan.specs.declared.node.Kind.TheVariants.{Count}
+use Rattle.plan.specs.declared.kind.Kind.TheVariants.{Count}
 use Rattle.plan.specs.declared.node.Node.{Node}
 use Rattle.plan.specs.declared.node.Node.TheVariants.{Input, Map, Filter, Concat, Negate, Arrange, Join, Reduce, Output}
 use Rattle.plan.proofs.OperatorLemmas.{given_alike}

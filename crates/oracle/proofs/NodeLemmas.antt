@@ -1,6 +1,6 @@
 -- What every plan promises its nodes: the rows at a node's ports have the columns that its operator
 -- names, and the rows of its output have its width.
-use Rattle.std.proofs.Common.{◌≡◌, ℕ, suc, ◌+◌, ◌-◌, ◌<◌, ◌≤◌, Bool, true, false, cond, List, [], ◌∷◌, ◌++◌, ℤ, map, take, drop, length, IsTrue, ◌⊎◌, refl, ap, sym, subst, ◌∙◌, length-append, length-drop, Some, None, arith}
+use Rattle.std.proofs.Common.{◌≡◌, ℕ, ◌+◌, ◌-◌, ◌<◌, ◌≤◌, Bool, true, false, cond, List, [], ◌∷◌, ◌++◌, ℤ, map, take, drop, length, IsTrue, ◌⊎◌, refl, ap, sym, subst, ◌∙◌, length-append, length-drop, Some, None, arith}
 use Rattle.std.specs.Prelude.{pos, neg_ℤ, not, nat_le, eqb, slice_get}
 use Rattle.std.specs.List.{filter, list_all}
 use Rattle.std.proofs.lemmas.Bool.{and_parts, and_from, leb-true, le-leb, eqb-true, eq-eqb}
@@ -13,11 +13,11 @@ use Rattle.update.specs.Bags.{Entry, Alike, IsBag, HasLargeCount, count_of}
 use Rattle.plan.specs.Nodes.{node_at, sources, key_width, is_linear, is_input}
 use Rattle.plan.specs.Operators.{operator_output, mapped_entry, joined_entry, join_output, reduction_output}
 use Rattle.plan.specs.Queries.{source_value}
-use Rattle.plan.specs.Reductions.{reduction_answer, has_key}
+use Rattle.plan.specs.Reductions.{has_key}
+use Rattle.plan.specs.Kinds.{reduction_answer, reduced_width}
 use Rattle.plan.specs.Rules.{IsPlan, node_faults, first_refusal, is_width}
-use Rattle.plan.specs.Widths.{width_of, width_from, reduced_width}
-use Rattle.plan.specs.declared.node.Kind.{Kind}
-use Rattle.plan.specs.declared.node.Kind.TheVariants.{Count}
+use Rattle.plan.specs.Widths.{width_of, width_from}
+use Rattle.plan.specs.declared.kind.Kind.{Kind}
 use Rattle.plan.specs.declared.node.Node.{Node}
 use Rattle.plan.specs.declared.node.Node.TheVariants.{Input, Map, Filter, Concat, Negate, Arrange, Join, Reduce, Output}
 use Rattle.update.specs.declared.refusal.Refusal.TheVariants.{BadWidth, BadColumn, WidthMismatch}
@@ -26,7 +26,7 @@ use Rattle.plan.proofs.PlanLemmas.{source_smaller, no_first, no_fault}
 use Rattle.plan.proofs.StepLemmas.{width_by_sources}
 use Rattle.plan.proofs.CountLemmas.{count_of-negated_entry}
 use Rattle.plan.proofs.WidthLemmas.{faultless, width_bounds}
-use Rattle.reducer.proofs.KindLemmas.{output_wide}
+use Rattle.plan.proofs.KindLemmas.{output_wide, room_at_most}
 use Rattle.oracle.specs.Entries.{all_wide}
 use Rattle.oracle.specs.Keys.{have_keys}
 use Rattle.oracle.specs.Evaluation.{output_at, HasLargeAt, HasLargeStep, HasLargeProductOf}
@@ -144,11 +144,11 @@ module _ (p : List Node) (plan : IsPlan p) (n : ℕ) (l : n < length p) (bags : 
   pub reduce_keys : (kind : Kind) (source : ℕ) → node_at p n ≡ Reduce kind source → IsTrue (have_keys (key_width p (node_at p n)) (bags source))
   reduce_keys kind source e = port_keys (Reduce kind source) e refl 0 source refl
 
-  -- the key of a count leaves room for the number
-  pub count_room : (kind : Kind) (source : ℕ) → node_at p n ≡ Reduce kind source → kind ≡ Count → key_width p (node_at p n) ≤ 7
-  count_room kind source e c =
-      let own : width_of p n ≡ suc (key_width p (node_at p n)) = width_is (Reduce kind source) e ∙ ap (λ node. reduced_width kind (key_width p node) (width_of p source)) (sym e) ∙ ap (λ (kind : Kind). reduced_width kind (key_width p (node_at p n)) (width_of p source)) c in
-      omega (arith, own, few)
+  -- the answers of a reduction have room, even for rows of 8 columns
+  pub answers_room : (kind : Kind) (source : ℕ) → node_at p n ≡ Reduce kind source → reduced_width kind (key_width p (node_at p n)) 8 ≤ 8
+  answers_room kind source e =
+      let own : width_of p n ≡ reduced_width kind (key_width p (node_at p n)) (width_of p source) = width_is (Reduce kind source) e ∙ ap (λ node. reduced_width kind (key_width p node) (width_of p source)) (sym e) in
+      room_at_most kind (key_width p (node_at p n)) (width_of p source) (subst (λ w. w ≤ 8) own few)
 
   -- a row of another width does not occur in the output
   absent_at : (outside : List Entry) → (is_input (node_at p n) ≡ true → IsTrue (all_wide (width_of p n) outside)) → (row : List ℤ) → eqb (length row) (width_of p n) ≡ false

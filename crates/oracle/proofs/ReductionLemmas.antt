@@ -12,11 +12,11 @@ use Rattle.std.proofs.lemmas.List.Sums.{list_all-from_AllPass}
 use Rattle.std.proofs.lemmas.Slice.{between_is}
 use Rattle.update.specs.Bags.{Entry, Alike, HasLargeCount, count_of, same_row}
 use Rattle.plan.specs.Operators.{reduction_output}
-use Rattle.plan.specs.Reductions.{IsReducer, reduction_answer, has_key}
-use Rattle.plan.specs.declared.node.Kind.{Kind}
-use Rattle.plan.proofs.AnswerLemmas.{answered_once}
+use Rattle.plan.specs.Reductions.{IsReducer, has_key}
+use Rattle.plan.specs.Kinds.{reduction_answer}
+use Rattle.plan.specs.declared.kind.Kind.{Kind}
+use Rattle.plan.proofs.KindLemmas.{answered_once, all_reduce}
 use Rattle.plan.proofs.CountLemmas.{row_same, count_of-append}
-use Rattle.plan.proofs.ReducerLemmas.{all_reduce}
 use Rattle.plan.proofs.ReductionLemmas.{by_key_at, row_differs}
 use Rattle.reducer.specs.Refusals.{HasLargeSum}
 use Rattle.oracle.specs.Keys.{IsKeyRange}

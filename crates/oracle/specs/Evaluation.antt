@@ -11,7 +11,7 @@ use Rattle.plan.specs.Ancestors.{reaches, numbers_below}
 use Rattle.plan.specs.Operators.{operator_output}
 use Rattle.plan.specs.Queries.{query, source_value}
 use Rattle.plan.specs.Widths.{width_of}
-use Rattle.plan.specs.declared.node.Kind.TheVariants.{Count}
+use Rattle.plan.specs.declared.kind.Kind.TheVariants.{Count}
 use Rattle.plan.specs.declared.node.Node.{Node}
 use Rattle.plan.specs.declared.node.Node.TheVariants.{Arrange, Join, Reduce, Output}
 use Rattle.oracle.specs.Entries.{all_wide}

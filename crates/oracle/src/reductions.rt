@@ -6,8 +6,9 @@ ghost use Rattle.std.specs.List.{list_all};
 ghost use Rattle.update.specs.Bags.{Alike, IsBag};
 ghost use Rattle.update.specs.Refusals.{IsMemoryOrOverflow};
 ghost use Rattle.plan.specs.Operators.{reduction_output};
-ghost use Rattle.plan.specs.Reductions.{has_key, reduction_answer};
-ghost use Rattle.plan.specs.declared.node.Kind.TheVariants.{Count};
+ghost use Rattle.plan.specs.Reductions.{has_key};
+ghost use Rattle.plan.specs.Kinds.{reduction_answer, reduced_width};
+ghost use Rattle.plan.specs.declared.kind.Kind.TheVariants.{Count};
 ghost use Rattle.reducer.specs.Refusals.{HasLargeSum};
 ghost use Rattle.oracle.specs.Keys.{have_keys};
 ghost use Rattle.oracle.specs.Reduced.{HasLargeNumber};
@@ -30,7 +31,7 @@ fn put_answer(
 ) -> Result<(), Refusal>
     requires some { 1 ≤ length key.now }
     requires few { length key.now ≤ 8 }
-    requires room { kind ≡ Count → length key.now ≤ 7 }
+    requires room { reduced_width kind (length key.now) 8 ≤ 8 }
     requires keyed { IsTrue (list_all (has_key (length key.now) key.now) rows.now) }
     ensures answer { OnOk result
         (Alike entries.new (entries.old ++ reduction_answer kind key.now rows.now)) }
@@ -51,7 +52,7 @@ fn put_answers(
     k: usize,
 ) -> Result<(), Refusal>
     requires some { 1 ≤ k }
-    requires room { kind ≡ Count → k ≤ 7 }
+    requires room { reduced_width kind k 8 ≤ 8 }
     requires keys { IsTrue (have_keys k bag.now) }
     ensures answers { OnOk result (Alike entries.new
         (entries.old ++ reduction_output k (reduction_answer kind) bag.now)) }
@@ -74,7 +75,7 @@ fn put_answers(
 /// Cost: one binary search and one call of the reducer for each key, and a sort of the answers.
 pub(crate) fn reduced(alloc: Global, bag: &Bag, kind: Kind, k: usize) -> Result<Bag, Refusal>
     requires some { 1 ≤ k }
-    requires room { kind ≡ Count → k ≤ 7 }
+    requires room { reduced_width kind k 8 ≤ 8 }
     requires keys { IsTrue (have_keys k bag.now) }
     ensures reduced { IfOk result
         (λ out. Alike out (reduction_output k (reduction_answer kind) bag.now)) }

@@ -1,19 +1,17 @@
--- What each reduction answers, row by row, in terms of the counts of the rows.
-use Rattle.std.proofs.Common.{◌≡◌, Bool, true, false, cond, not, IsTrue, List, [], ◌∷◌, ◌++◌, map, refl, ap, sym, ◌∙◌, ◌⊎◌, inl, inr, ◌↔◌}
-use Rattle.std.specs.Prelude.{ℤ, pos, int_lt}
+-- What the answers of reductions have, row by row, in terms of the counts of the rows.
+use Rattle.std.proofs.Common.{◌≡◌, Bool, true, false, cond, not, ◌&&◌, IsTrue, List, [], ◌∷◌, ◌++◌, map, refl, ap, sym, ◌∙◌, ◌⊎◌, inl, inr, ◌↔◌}
+use Rattle.std.specs.Prelude.{ℤ, pos, int_lt, ◌+ℤ◌}
 use Rattle.std.specs.List.{filter, list_any}
 use Rattle.std.specs.Ordering.{int_eq}
 use Rattle.std.proofs.lemmas.Bool.{true≢false, false_from_ne_true}
 use Rattle.update.specs.Bags.{Entry, count_of, same_row}
-use Rattle.plan.specs.Reductions.{single, is_present, present, is_before, sum_of_counts, count_answer, reduction_answer}
-use Rattle.plan.specs.declared.node.Kind.{Kind}
-use Rattle.plan.specs.declared.node.Kind.TheVariants.{Count, Distinct, Min, Max}
+use Rattle.plan.specs.Reductions.{single, is_present, present, count_answer}
 use Rattle.plan.proofs.ReductionLemmas.{any_at, any_none}
-use Rattle.plan.proofs.ReducerLemmas.{present_counts, counts_present, count_present, count_kept}
+use Rattle.plan.proofs.ReducerLemmas.{present_counts, counts_present, count_kept}
 
 -- ---- 1 if both tests hold, and 0 otherwise
 
-zero_or_one : (b c : Bool) (n : ℤ) → n ≡ cond b (cond c (pos 1) (pos 0)) (pos 0) → (n ≡ pos 0) ⊎ (n ≡ pos 1)
+pub zero_or_one : (b c : Bool) (n : ℤ) → n ≡ cond b (cond c (pos 1) (pos 0)) (pos 0) → (n ≡ pos 0) ⊎ (n ≡ pos 1)
 zero_or_one true true n h = inr h
 zero_or_one true false n h = inl h
 zero_or_one false c n h = inl h
@@ -27,11 +25,11 @@ one_both false c h = absurd (true≢false (sym (ap (int_lt (pos 0)) h)))
 
 module _ (beats : List ℤ → List ℤ → Bool) where
   -- no row of the list beats it
-  abbrev is_unbeaten : List (List ℤ) → List ℤ → Bool
+  abbrev pub is_unbeaten : List (List ℤ) → List ℤ → Bool
   is_unbeaten rows row = not (list_any (λ other. beats other row) rows)
 
   -- the count of the row among the present rows that no present row beats
-  abbrev times_answered : List Entry → List ℤ → ℤ
+  abbrev pub times_answered : List Entry → List ℤ → ℤ
   times_answered entries row = count_of (map single (filter (is_unbeaten (present entries)) (present entries))) row
 
   -- if no present row beats a row, then each present row does not
@@ -44,7 +42,7 @@ module _ (beats : List ℤ → List ℤ → Bool) where
   unbeaten_from entries row h = ap not (any_none (λ r. beats r row) (present entries) (λ r m. h r (present_counts entries r m)))
 
   -- the answer has exactly the present rows that no present row beats
-  unbeaten_answered : (entries : List Entry) (row : List ℤ) → (times_answered entries row ≡ pos 1)
+  pub unbeaten_answered : (entries : List Entry) (row : List ℤ) → (times_answered entries row ≡ pos 1)
       ↔ (IsTrue (is_present entries row) × ((other : List ℤ) → IsTrue (is_present entries other) → beats other row ≡ false))
   unbeaten_answered entries row = (there, back)
     where
@@ -56,27 +54,27 @@ module _ (beats : List ℤ → List ℤ → Bool) where
       back : IsTrue (is_present entries row) × ((other : List ℤ) → IsTrue (is_present entries other) → beats other row ≡ false) → times_answered entries row ≡ pos 1
       back h = count_kept is_unbeaten entries row ∙ rw (h.0, unbeaten_from entries row h.1) refl
 
-  unbeaten_once : (entries : List Entry) (row : List ℤ)
+  -- and it has each of them once
+  pub unbeaten_once : (entries : List Entry) (row : List ℤ)
       → (times_answered entries row ≡ pos 0) ⊎ (times_answered entries row ≡ pos 1)
   unbeaten_once entries row = zero_or_one (is_present entries row) (is_unbeaten (present entries) row) (times_answered entries row) (count_kept is_unbeaten entries row)
 
--- ---- each kind
+-- ---- the answer to a count
 
--- distinct answers a row if and only if its count is above 0
-pub distinct_answered : (key : List ℤ) (entries : List Entry) (row : List ℤ) → count_of (reduction_answer Distinct key entries) row ≡ cond (is_present entries row) (pos 1) (pos 0)
-distinct_answered key entries row = count_present entries row
+-- it has the key with the number, unless that is 0
+pub counted_rows : (key row : List ℤ) (n : ℤ) → count_of (count_answer key n) row ≡ cond (not (int_eq n (pos 0)) && same_row (key ++ n ∷ []) row) (pos 1) (pos 0)
+counted_rows key row n =
+    elim (int_eq n (pos 0)) as (λ b. count_of (cond b [] (single (key ++ n ∷ []) ∷ [])) row ≡ cond (not b && same_row (key ++ n ∷ []) row) (pos 1) (pos 0)) [
+      | true ↦ refl
+      | false ↦ once (same_row (key ++ n ∷ []) row)
+    ]
+  where
+    once : (b : Bool) → cond b (pos 1) (pos 0) +ℤ pos 0 ≡ cond b (pos 1) (pos 0)
+    once true = refl
+    once false = refl
 
--- min answers a row if and only if it is present and no present row is less
-pub least_answered : (key : List ℤ) (entries : List Entry) (row : List ℤ) → (count_of (reduction_answer Min key entries) row ≡ pos 1)
-    ↔ (IsTrue (is_present entries row) × ((other : List ℤ) → IsTrue (is_present entries other) → is_before other row ≡ false))
-least_answered key entries row = unbeaten_answered is_before entries row
-
--- max answers a row if and only if it is present and less than no present row
-pub greatest_answered : (key : List ℤ) (entries : List Entry) (row : List ℤ) → (count_of (reduction_answer Max key entries) row ≡ pos 1)
-    ↔ (IsTrue (is_present entries row) × ((other : List ℤ) → IsTrue (is_present entries other) → is_before row other ≡ false))
-greatest_answered key entries row = unbeaten_answered (λ other row. is_before row other) entries row
-
-counted_once : (key row : List ℤ) (n : ℤ) → (count_of (count_answer key n) row ≡ pos 0) ⊎ (count_of (count_answer key n) row ≡ pos 1)
+-- it has no row more than once
+pub counted_once : (key row : List ℤ) (n : ℤ) → (count_of (count_answer key n) row ≡ pos 0) ⊎ (count_of (count_answer key n) row ≡ pos 1)
 counted_once key row n =
     elim (int_eq n (pos 0)) as (λ b. (count_of (cond b [] (single (key ++ n ∷ []) ∷ [])) row ≡ pos 0) ⊎ (count_of (cond b [] (single (key ++ n ∷ []) ∷ [])) row ≡ pos 1)) [
       | true ↦ inl refl
@@ -86,10 +84,3 @@ counted_once key row n =
     one_row : (b : Bool) → same_row (key ++ n ∷ []) row ≡ b → (count_of (single (key ++ n ∷ []) ∷ []) row ≡ pos 0) ⊎ (count_of (single (key ++ n ∷ []) ∷ []) row ≡ pos 1)
     one_row true e = inr (rw e refl)
     one_row false e = inl (rw e refl)
-
--- no row is answered more than once
-pub answered_once : (kind : Kind) (key : List ℤ) (entries : List Entry) (row : List ℤ) → (count_of (reduction_answer kind key entries) row ≡ pos 0) ⊎ (count_of (reduction_answer kind key entries) row ≡ pos 1)
-answered_once Count key entries row = counted_once key row (sum_of_counts entries)
-answered_once Distinct key entries row = zero_or_one (is_present entries row) true (count_of (map single (present entries)) row) (count_present entries row)
-answered_once Min key entries row = unbeaten_once is_before entries row
-answered_once Max key entries row = unbeaten_once (λ other row. is_before row other) entries row

@@ -20,7 +20,7 @@ use Rattle.plan.specs.Upward.{found_within}
 use Rattle.plan.specs.Queries.{source_value}
 use Rattle.plan.specs.Changes.{AreDifferences, has_passed}
 use Rattle.plan.specs.Bounds.{output_bound, AreOwn, IsBound}
-use Rattle.plan.specs.declared.node.Kind.{Kind}
+use Rattle.plan.specs.declared.kind.Kind.{Kind}
 use Rattle.plan.specs.declared.node.Node.{Node}
 use Rattle.plan.specs.declared.node.Node.TheVariants.{Reduce}
 use Rattle.plan.proofs.BoundLemmas.{own_same_bound}

@@ -1,10 +1,12 @@
 -- Lemmas about plans, operators, queries and bounds.
 pub mod AnswerLemmas
+pub mod AnswerWidthLemmas
 pub mod BoundLemmas
 pub mod ChangeLemmas
 pub mod EdgeLemmas
 pub mod FedLemmas
 pub mod KeyLemmas
+pub mod KindLemmas
 pub mod OperatorLemmas
 pub mod PlanLemmas
 pub mod QueryLemmas

@@ -14,13 +14,14 @@ use Rattle.update.specs.Bags.{Entry, Alike, count_of, same_row, total_by}
 use Rattle.update.proofs.SumLemmas.{total_by-same, total_by-add, total_by-append, total_by-map, total_by-filter}
 use Rattle.plan.specs.Nodes.{sources, is_linear}
 use Rattle.plan.specs.Ancestors.{numbers_below}
-use Rattle.plan.specs.Reductions.{IsReducer, has_key, reduction_answer}
+use Rattle.plan.specs.Reductions.{IsReducer, has_key}
+use Rattle.plan.specs.Kinds.{reduction_answer}
 use Rattle.plan.specs.Operators.{mapped_entry, negated_entry, joined_entry, join_output, reduction_output, operator_output}
 use Rattle.plan.specs.declared.node.Node.{Node}
 use Rattle.plan.specs.declared.node.Node.TheVariants.{Input, Map, Filter, Concat, Negate, Join, Reduce}
 use Rattle.plan.proofs.CountLemmas.{row_same, times_add, add_times, when_zero, when_add, total_by-when, total_by-flat_map, count_of-append, count_of-negated_entry, count_of-filter, AddsUp, weigh, weigh_alike}
 use Rattle.plan.proofs.ReductionLemmas.{by_key_at}
-use Rattle.plan.proofs.ReducerLemmas.{all_reduce}
+use Rattle.plan.proofs.KindLemmas.{all_reduce}
 
 -- ---- images
 

@@ -1,4 +1,5 @@
--- The four reductions satisfy the laws of a reducer.
+-- What satisfies the laws of a reducer: the sum of all counts, the present rows, and those of them
+-- that pass a test.
 use Rattle.std.proofs.Common.{◌≡◌, ℕ, Bool, true, false, cond, not, List, [], ◌∷◌, ◌++◌, map, take, length, refl, ap, sym, ◌∙◌, inl, inr, ⊎_elim}
 use Rattle.std.specs.Prelude.{ℤ, pos, int_lt}
 use Rattle.std.specs.List.{filter, list_any}
@@ -11,9 +12,7 @@ use Rattle.antichain.proofs.AntichainLemmas.{among_same}
 use Rattle.update.specs.Bags.{Entry, Alike, count_of, same_row}
 use Rattle.update.proofs.SumLemmas.{total_by-zero, total_by-filter, total_by-map}
 use Rattle.update.proofs.UniqueLemmas.{passes_or_none}
-use Rattle.plan.specs.Reductions.{IsReducer, each_once, single, is_present, present, is_before, sum_of_counts, count_answer, reduction_answer, has_key}
-use Rattle.plan.specs.declared.node.Kind.{Kind}
-use Rattle.plan.specs.declared.node.Kind.TheVariants.{Count, Distinct, Min, Max}
+use Rattle.plan.specs.Reductions.{IsReducer, each_once, single, is_present, present, sum_of_counts, count_answer, has_key}
 use Rattle.plan.proofs.CountLemmas.{row_same, row_itself, when_zero, count_of-filter, weigh_alike}
 use Rattle.plan.proofs.ReductionLemmas.{any_has, any_at, each_once_among, total_by-once}
 
@@ -35,7 +34,8 @@ counted_keyed k key row n l d =
         let own : take k row ≡ key = ap (take k) (sym (row_same (key ++ n ∷ []) row h)) ∙ take_at key (n ∷ []) k l in
         true≢false (sym (ap (λ r. same_row r key) own ∙ row_itself key) ∙ d)
 
-count_reduces : (k : ℕ) → IsReducer k (reduction_answer Count)
+-- the answer to a count
+pub count_reduces : (k : ℕ) → IsReducer k (λ key entries. count_answer key (sum_of_counts entries))
 count_reduces k = record {
   alike = λ key a b h row. ap (λ n. count_of (count_answer key n) row) (sums_alike a b h);
   nothing = λ key row. refl;
@@ -103,8 +103,9 @@ count_present entries row =
     ∙ (total_by-once (λ r. cond (same_row r row) (pos 1) (pos 0)) row (filter (is_present entries) (map (λ e. e.row) entries)) (λ r m d. ap (λ b. cond b (pos 1) (pos 0)) d)
     ∙ rw (found_present entries row, row_itself row) refl)
 
-distinct_reduces : (k : ℕ) → IsReducer k (reduction_answer Distinct)
-distinct_reduces k = record {
+-- all present rows
+pub present_reduces : (k : ℕ) → IsReducer k (λ key entries. map single (present entries))
+present_reduces k = record {
   alike = λ key a b h row. count_present a row ∙ (ap (λ n. cond (int_lt (pos 0) n) (pos 1) (pos 0)) (h row) ∙ sym (count_present b row));
   nothing = λ key row. refl;
   keyed = λ key row entries l d. count_present (filter (has_key k key) entries) row ∙ ap (λ b. cond b (pos 1) (pos 0)) (absent_elsewhere k key row entries d);
@@ -122,7 +123,9 @@ module _ (keep : List (List ℤ) → List ℤ → Bool) where
       (λ r m d. ap (λ b. cond (keep (present entries) r) (cond b (pos 1) (pos 0)) (pos 0)) d ∙ when_zero (keep (present entries) r))
       ∙ rw (found_present entries row, row_itself row) refl))
 
-  kept_reduces : ((xs ys : List (List ℤ)) → ((row : List ℤ) → Among row xs → Among row ys) → ((row : List ℤ) → Among row ys → Among row xs) → (row : List ℤ) → keep xs row ≡ keep ys row)
+  -- so the present rows that pass it are answered by a reducer, if it asks of the rows only which
+  -- there are
+  pub kept_reduces : ((xs ys : List (List ℤ)) → ((row : List ℤ) → Among row xs → Among row ys) → ((row : List ℤ) → Among row ys → Among row xs) → (row : List ℤ) → keep xs row ≡ keep ys row)
       → (k : ℕ) → IsReducer k (λ key entries. map single (filter (keep (present entries)) (present entries)))
   kept_reduces same k = record {
     alike = λ key a b h row.
@@ -136,21 +139,12 @@ module _ (keep : List (List ℤ) → List ℤ → Bool) where
   }
 
 -- a test by `list_any` gives the same for lists with the same elements
-any_same : (test : List ℤ → Bool) (xs ys : List (List ℤ)) → ((row : List ℤ) → Among row xs → Among row ys) → ((row : List ℤ) → Among row ys → Among row xs) → list_any test xs ≡ list_any test ys
+pub any_same : (test : List ℤ → Bool) (xs ys : List (List ℤ)) → ((row : List ℤ) → Among row xs → Among row ys) → ((row : List ℤ) → Among row ys → Among row xs) → list_any test xs ≡ list_any test ys
 any_same test xs ys h k = same_from_decides (list_any test xs) (list_any test ys) (carry xs ys h, carry ys xs k) (λ e. e, λ e. e)
   where
     carry : (xs ys : List (List ℤ)) → ((row : List ℤ) → Among row xs → Among row ys) → list_any test xs ≡ true → list_any test ys ≡ true
     carry xs ys h e = let r = any_has test xs e in any_at test ys r.0 (h r.0 r.1) r.2
 
-min_reduces : (k : ℕ) → IsReducer k (reduction_answer Min)
-min_reduces = kept_reduces (λ rows row. not (list_any (λ other. is_before other row) rows)) (λ xs ys h i row. ap not (any_same (λ other. is_before other row) xs ys h i))
-
-max_reduces : (k : ℕ) → IsReducer k (reduction_answer Max)
-max_reduces = kept_reduces (λ rows row. not (list_any (λ other. is_before row other) rows)) (λ xs ys h i row. ap not (any_same (λ other. is_before row other) xs ys h i))
-
--- count, distinct, min and max satisfy the laws of a reducer
-pub all_reduce : (kind : Kind) (k : ℕ) → IsReducer k (reduction_answer kind)
-all_reduce Count k = count_reduces k
-all_reduce Distinct k = distinct_reduces k
-all_reduce Min k = min_reduces k
-all_reduce Max k = max_reduces k
+-- the present rows that no present row beats
+pub unbeaten_reduces : (beats : List ℤ → List ℤ → Bool) (k : ℕ) → IsReducer k (λ key entries. map single (filter (λ row. not (list_any (λ other. beats other row) (present entries))) (present entries)))
+unbeaten_reduces beats = kept_reduces (λ rows row. not (list_any (λ other. beats other row) rows)) (λ xs ys h i row. ap not (any_same (λ other. beats other row) xs ys h i))

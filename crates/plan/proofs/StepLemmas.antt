@@ -5,7 +5,8 @@ use Rattle.std.specs.List.{list_any}
 use Rattle.update.specs.Bags.{Entry}
 use Rattle.plan.specs.Nodes.{node_at, sources, key_of, key_width, arranged_by}
 use Rattle.plan.specs.Upward.{found}
-use Rattle.plan.specs.Widths.{width_from, width_of, reduced_width}
+use Rattle.plan.specs.Widths.{width_from, width_of}
+use Rattle.plan.specs.Kinds.{reduced_width}
 use Rattle.plan.specs.Operators.{operator_output}
 use Rattle.plan.specs.Queries.{source_value, query}
 use Rattle.plan.specs.Ancestors.{reaches}

@@ -4,7 +4,8 @@ use Rattle.std.proofs.lemmas.List.{length-take-le, take-append-drop}
 use Rattle.row.specs.Projection.{are_within}
 use Rattle.update.specs.declared.refusal.Refusal.TheVariants.{BadColumn, WidthMismatch, NotArranged, KeyMismatch, BadWidth, BadKey}
 use Rattle.plan.specs.Nodes.{node_at, sources, key_of, key_width, arranged_by}
-use Rattle.plan.specs.Widths.{width_from, width_of, reduced_width}
+use Rattle.plan.specs.Widths.{width_from, width_of}
+use Rattle.plan.specs.Kinds.{reduced_width}
 use Rattle.row.specs.Filters.{is_test_within}
 use Rattle.plan.specs.Rules.{is_width, is_arranged, node_faults, first_refusal, IsPlan}
 use Rattle.plan.specs.declared.node.Node.{Node}

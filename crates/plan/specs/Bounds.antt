@@ -9,7 +9,7 @@ use Rattle.plan.specs.Nodes.{node_at, sources}
 use Rattle.plan.specs.Upward.{found}
 use Rattle.plan.specs.Queries.{source_value}
 use Rattle.plan.specs.Changes.{AreDifferences}
-use Rattle.plan.specs.declared.node.Kind.{Kind}
+use Rattle.plan.specs.declared.kind.Kind.{Kind}
 use Rattle.plan.specs.declared.node.Node.{Node}
 use Rattle.plan.specs.declared.node.Node.TheVariants.{Concat, Join, Reduce}
 use Rattle.lattice.specs.Times.{Times}

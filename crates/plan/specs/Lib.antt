@@ -7,9 +7,10 @@ pub use Rattle.update.specs.Updates
 pub mod Equality
 pub mod Nodes
 pub mod Upward
+pub mod Reductions
+pub mod Kinds
 pub mod Widths
 pub mod Rules
-pub mod Reductions
 pub mod Operators
 pub mod Queries
 pub mod Ancestors

@@ -12,8 +12,7 @@ use Rattle.row.specs.declared.test.Cmp.{Cmp}
 use Rattle.row.specs.declared.test.Cmp.TheVariants.{Eq, Ne, Lt, Le, Gt, Ge}
 use Rattle.row.specs.declared.test.Test.{Test}
 use Rattle.plan.specs.Equality.{same_items, items_decide}
-use Rattle.plan.specs.declared.node.Kind.{Kind}
-use Rattle.plan.specs.declared.node.Kind.TheVariants.{Count, Distinct, Min, Max}
+use Rattle.plan.specs.Kinds.{kind_number, kind_from, same_kind_from}
 use Rattle.plan.specs.declared.node.Node.{Node}
 use Rattle.plan.specs.declared.node.Node.TheVariants.{Input, Map, Filter, Concat, Negate, Arrange, Join, Reduce, Output}
 
@@ -25,13 +24,6 @@ cmp_number Lt = 2
 cmp_number Le = 3
 cmp_number Gt = 4
 cmp_number Ge = 5
-
--- a number for each kind of reduction
-abbrev pub kind_number : Kind → ℕ
-kind_number Count = 0
-kind_number Distinct = 1
-kind_number Min = 2
-kind_number Max = 3
 
 -- the parts of a node
 pub record Parts : Type 0 where
@@ -72,12 +64,6 @@ cmp_from (suc (suc (suc zero))) = Le
 cmp_from (suc (suc (suc (suc zero)))) = Gt
 cmp_from (suc (suc (suc (suc (suc variant))))) = Ge
 
-kind_from : ℕ → Kind
-kind_from zero = Count
-kind_from (suc zero) = Distinct
-kind_from (suc (suc zero)) = Min
-kind_from (suc (suc (suc variant))) = Max
-
 test_from : ℕ → List Item → Test
 test_from n (left ∷ right ∷ items) = record { left = left; op = cmp_from n; right = right }
 test_from n (left ∷ []) = record { left = left; op = cmp_from n; right = left }
@@ -105,13 +91,6 @@ same_cmp_from Lt = refl
 same_cmp_from Le = refl
 same_cmp_from Gt = refl
 same_cmp_from Ge = refl
-
-same_kind_from : (kind : Kind) → kind_from (kind_number kind) ≡ kind
-unfolding kind_from
-same_kind_from Count = refl
-same_kind_from Distinct = refl
-same_kind_from Min = refl
-same_kind_from Max = refl
 
 found_again : (node : Node) → from_parts (parts_of node) ≡ node
 unfolding from_parts node_from test_from

@@ -6,7 +6,8 @@ use Rattle.row.specs.Projection.{projection}
 use Rattle.row.specs.Filters.{passes}
 use Rattle.row.specs.declared.projection.Item.{Item}
 use Rattle.update.specs.Bags.{Entry}
-use Rattle.plan.specs.Reductions.{each_once, has_key, reduction_answer}
+use Rattle.plan.specs.Reductions.{each_once, has_key}
+use Rattle.plan.specs.Kinds.{reduction_answer}
 use Rattle.plan.specs.declared.node.Node.{Node}
 use Rattle.plan.specs.declared.node.Node.TheVariants.{Input, Map, Filter, Concat, Negate, Arrange, Join, Reduce, Output}
 

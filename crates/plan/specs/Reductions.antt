@@ -1,11 +1,9 @@
--- The answer of a reduction for one key, from the entries of that key's rows.
+-- What reductions look for among the entries of one key's rows, and the laws that each satisfies.
 use Rattle.std.specs.Prelude.{◌≡◌, ℕ, Bool, false, not, if◌then◌else◌, List, [], ◌∷◌, ◌++◌, map, take, length, ℤ, pos, int_lt}
 use Rattle.std.specs.List.{filter, list_any}
 use Rattle.std.specs.Cmp.Lexicographic.{slice_cmp}
 use Rattle.std.specs.Ordering.{int_cmp, int_eq, is_lt}
 use Rattle.update.specs.Bags.{Entry, Alike, count_of, same_row, total_by}
-use Rattle.plan.specs.declared.node.Kind.{Kind}
-use Rattle.plan.specs.declared.node.Kind.TheVariants.{Count, Distinct, Min, Max}
 
 -- the rows without repetitions
 abbrev pub each_once : List (List ℤ) → List (List ℤ)
@@ -43,13 +41,6 @@ sum_of_counts entries = total_by (λ e. e.count) entries
 -- the key followed by n, unless n is 0
 abbrev pub count_answer : List ℤ → ℤ → List Entry
 count_answer key n = if int_eq n (pos 0) then [] else single (key ++ n ∷ []) ∷ []
-
--- the answer of each kind of reduction for a key
-abbrev pub reduction_answer : Kind → List ℤ → List Entry → List Entry
-reduction_answer Count key entries = count_answer key (sum_of_counts entries)
-reduction_answer Distinct key entries = map single (present entries)
-reduction_answer Min key entries = map single (least_rows (present entries))
-reduction_answer Max key entries = map single (greatest_rows (present entries))
 
 -- the entry's row begins with the key of k columns
 abbrev pub has_key : ℕ → List ℤ → Entry → Bool

@@ -4,11 +4,10 @@ use Rattle.std.specs.Prelude.{ℕ, List, [], ◌∷◌, ◌++◌, codes, decimal
 use Rattle.std.specs.List.{join_by, flat_map}
 use Rattle.row.specs.Text.{item_text, test_text}
 use Rattle.row.specs.declared.projection.Item.{Item}
+use Rattle.plan.specs.Kinds.{kind_text}
 use Rattle.plan.specs.Nodes.{node_at}
 use Rattle.plan.specs.Ancestors.{numbers_below}
 use Rattle.plan.specs.Widths.{width_of}
-use Rattle.plan.specs.declared.node.Kind.{Kind}
-use Rattle.plan.specs.declared.node.Kind.TheVariants.{Count, Distinct, Min, Max}
 use Rattle.plan.specs.declared.node.Node.{Node}
 use Rattle.plan.specs.declared.node.Node.TheVariants.{Input, Map, Filter, Concat, Negate, Arrange, Join, Reduce, Output}
 use Rattle.std.specs.Prelude.{length}
@@ -16,13 +15,6 @@ use Rattle.std.specs.Prelude.{length}
 -- the items, separated by one space
 abbrev pub items_text : List Item → List ℕ
 items_text items = join_by item_text (codes " ") items
-
--- the word of a reduction
-abbrev pub kind_text : Kind → List ℕ
-kind_text Count = codes "count"
-kind_text Distinct = codes "distinct"
-kind_text Min = codes "min"
-kind_text Max = codes "max"
 
 -- the word of the node, its sources and its parameters, separated by one space
 abbrev pub node_text : Node → List ℕ

@@ -1,19 +1,10 @@
 -- The number of columns of a node's rows.
-use Rattle.std.specs.Prelude.{ℕ, suc, ◌+◌, ◌-◌, List, length}
+use Rattle.std.specs.Prelude.{ℕ, ◌+◌, ◌-◌, List, length}
+use Rattle.plan.specs.Kinds.{reduced_width}
 use Rattle.plan.specs.Nodes.{key_width}
 use Rattle.plan.specs.Upward.{found}
-use Rattle.plan.specs.declared.node.Kind.{Kind}
-use Rattle.plan.specs.declared.node.Kind.TheVariants.{Count, Distinct, Min, Max}
 use Rattle.plan.specs.declared.node.Node.{Node}
 use Rattle.plan.specs.declared.node.Node.TheVariants.{Input, Map, Filter, Concat, Negate, Arrange, Join, Reduce, Output}
-
--- the width of a reduction's rows, from the width of the key and of its source; a count has the key
--- and one more column
-abbrev pub reduced_width : Kind → ℕ → ℕ → ℕ
-reduced_width Count key width = suc key
-reduced_width Distinct key width = width
-reduced_width Min key width = width
-reduced_width Max key width = width
 
 -- the width of a node's rows, from the width of the key and the widths of its sources; a join has
 -- the key and the rest of both rows

@@ -1,24 +1,23 @@
 //! What follows from the definitions of plans and queries alone. The functions do nothing: they are
 //! called, or their clauses cited, for what they promise. A layer above needs nothing of the
 //! definitions but these laws.
-ghost use Rattle.std.specs.Prelude.{◌≡◌, ◌<◌, ◌≤◌, ◌↔◌, ℕ, ℤ, Bool, false, not, List, [], ◌++◌, None, Some, IsTrue, map, take, length, eqb, ◌||◌, ◌&&◌, ◌⊎◌, slice_get, pos, ◌∷◌, int_lt, if◌then◌else◌};
-ghost use Rattle.std.specs.Ordering.{int_eq};
+ghost use Rattle.std.specs.Prelude.{◌≡◌, ◌<◌, ◌≤◌, ℕ, ℤ, Bool, false, List, [], ◌++◌, None, Some, IsTrue, take, length, eqb, ◌||◌, ◌⊎◌, slice_get, pos};
 ghost use Rattle.std.specs.List.{filter, flat_map, list_any};
-ghost use Rattle.update.specs.Bags.{Entry, Alike, count_of, same_row};
+ghost use Rattle.update.specs.Bags.{Entry, Alike, count_of};
 ghost use Rattle.plan.specs.Nodes.{node_at, sources, arranged_by, key_width, is_output, is_linear};
 ghost use Rattle.plan.specs.Widths.{width_of, width_from};
 ghost use Rattle.plan.specs.Rules.{IsPlan, is_width, node_faults, first_refusal};
-ghost use Rattle.plan.specs.Reductions.{IsReducer, reduction_answer, has_key, is_before, sum_of_counts};
+ghost use Rattle.plan.specs.Reductions.{IsReducer, has_key};
+ghost use Rattle.plan.specs.Kinds.{reduction_answer, AnswersRow};
 ghost use Rattle.plan.specs.Operators.{operator_output, reduction_output};
 ghost use Rattle.plan.specs.Queries.{query, source_value};
 ghost use Rattle.plan.specs.Ancestors.{reaches, feeds, numbers_below};
 ghost use Rattle.plan.specs.Bounds.{bound_by};
-ghost use Rattle.plan.specs.declared.node.Kind.{Kind};
-ghost use Rattle.plan.specs.declared.node.Kind.TheVariants.{Count, Distinct, Min, Max};
+ghost use Rattle.plan.specs.declared.kind.Kind.{Kind};
 ghost use Rattle.plan.specs.declared.node.Node.{Node};
 
-/// Each of the four reductions satisfies the laws of a reducer. For every reducer, the answer for a
-/// key depends only on the rows of the key.
+/// Each kind of reduction satisfies the laws of a reducer. For every reducer, the answer for a key
+/// depends only on the rows of the key.
 pub fn reductions_are_reducers()
     ensures reducers { (kind : Kind) (k : ℕ) → IsReducer k (reduction_answer kind) }
     ensures by_key { (k : ℕ) (reduce : List ℤ → List Entry → List Entry) → IsReducer k reduce
@@ -27,27 +26,11 @@ pub fn reductions_are_reducers()
         ≡ count_of (reduce (take k row) (filter (has_key k (take k row)) entries)) row }
 {}
 
-/// What each reduction answers for a key, row by row, in terms of the counts alone. Count: the key
-/// with the sum of all counts, unless that sum is 0. Distinct: each row with a count above 0. Min
-/// and max: the least and the greatest of these rows. No row is answered more than once.
+/// What each reduction answers for a key, row by row, in terms of the counts alone: `AnswersRow`
+/// says it kind by kind, as [`Kind`](crate::Kind) does in words. No row is answered more than once.
 pub fn reductions_answer_rows()
-    ensures count { (key : List ℤ) (entries : List Entry) (row : List ℤ)
-        → count_of (reduction_answer Count key entries) row
-        ≡ (if not (int_eq (sum_of_counts entries) (pos 0))
-        && same_row (key ++ sum_of_counts entries ∷ []) row then pos 1 else pos 0) }
-    ensures distinct { (key : List ℤ) (entries : List Entry) (row : List ℤ)
-        → count_of (reduction_answer Distinct key entries) row
-        ≡ (if int_lt (pos 0) (count_of entries row) then pos 1 else pos 0) }
-    ensures least { (key : List ℤ) (entries : List Entry) (row : List ℤ)
-        → (count_of (reduction_answer Min key entries) row ≡ pos 1)
-        ↔ (IsTrue (int_lt (pos 0) (count_of entries row))
-        × ((other : List ℤ) → IsTrue (int_lt (pos 0) (count_of entries other))
-        → is_before other row ≡ false)) }
-    ensures greatest { (key : List ℤ) (entries : List Entry) (row : List ℤ)
-        → (count_of (reduction_answer Max key entries) row ≡ pos 1)
-        ↔ (IsTrue (int_lt (pos 0) (count_of entries row))
-        × ((other : List ℤ) → IsTrue (int_lt (pos 0) (count_of entries other))
-        → is_before row other ≡ false)) }
+    ensures rows { (kind : Kind) (key : List ℤ) (entries : List Entry) (row : List ℤ)
+        → AnswersRow kind key entries row }
     ensures once { (kind : Kind) (key : List ℤ) (entries : List Entry) (row : List ℤ)
         → (count_of (reduction_answer kind key entries) row ≡ pos 0)
         ⊎ (count_of (reduction_answer kind key entries) row ≡ pos 1) }

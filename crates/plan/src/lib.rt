@@ -16,6 +16,7 @@ mod builder;
 mod differences;
 mod edges;
 mod items;
+mod kind;
 mod laws;
 mod node;
 mod plan;
@@ -27,12 +28,13 @@ pub use builder::PlanBuilder;
 pub use differences::{bounds_are_determined, differences_are_one_list};
 pub use edges::Edge;
 pub use items::Items;
+pub use kind::{KIND_WORDS, Kind};
 pub use laws::{
     extensions_keep_plans, keyed_operators_add_up, linear_operators_add_up,
     nodes_stand_on_their_sources, plans_are_in_order, queries_depend_on_bags,
     reductions_answer_rows, reductions_are_reducers,
 };
-pub use node::{Kind, Node, NodeId};
+pub use node::{Node, NodeId};
 pub use plan::Plan;
 pub use rules::MAX_NODES;
 pub use sort::Sort;

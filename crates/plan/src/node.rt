@@ -6,6 +6,7 @@ ghost use Rattle.plan.specs.Nodes.{sources, arranged_by};
 ghost use Rattle.plan.specs.NodeEquality.{same_node};
 
 use crate::items::Items;
+use crate::kind::Kind;
 use row::Test;
 use std::marker::Model;
 
@@ -39,19 +40,6 @@ impl NodeId {
     {
         self.number
     }
-}
-
-/// Which reduction: what it answers for each key from the rows of the key.
-#[derive(Clone, Copy, PartialEq, Eq)]
-pub enum Kind {
-    /// The key and the sum of the counts of its rows, unless that sum is 0.
-    Count,
-    /// Each row that counts more than 0 times, once.
-    Distinct,
-    /// The least of the rows that count more than 0 times, once.
-    Min,
-    /// The greatest of the rows that count more than 0 times, once.
-    Max,
 }
 
 /// What a node does, and which nodes it reads: `source`, or `left` and `right`. The numbers here

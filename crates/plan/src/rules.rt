@@ -6,13 +6,14 @@
 ghost use Rattle.std.specs.Prelude.{◌≡◌, ◌<◌, ◌≤◌, ◌+◌, ◌-◌, ℕ, not, Some, None, [], ◌∷◌, length, IsTrue, nat_lt};
 ghost use Rattle.std.specs.List.{list_all};
 ghost use Rattle.plan.specs.Nodes.{sources, key_of, key_width};
-ghost use Rattle.plan.specs.Widths.{width_of, width_from, reduced_width};
+ghost use Rattle.plan.specs.Widths.{width_of, width_from};
 ghost use Rattle.plan.specs.Rules.{is_width, is_readable, node_faults, first_refusal, node_refusal};
 ghost use Rattle.plan.specs.declared.node.Node.TheVariants.{Join, Reduce};
 ghost use Rattle.row.specs.Projection.{are_within};
 ghost use Rattle.update.specs.declared.refusal.Refusal.TheVariants.{BadWidth, BadColumn};
 
-use crate::node::{Kind, Node, NodeId};
+use crate::kind::Kind;
+use crate::node::{Node, NodeId};
 use crate::plan::Plan;
 use row::{Item, MAX_WIDTH, are_within};
 use update::Refusal;
@@ -103,7 +104,7 @@ impl Plan {
         if !self.is_arranged(source) {
             return Some(Refusal::NotArranged);
         }
-        let width = reduced_width(kind, self.key(source), self.width(source));
+        let width = kind.width(self.key(source), self.width(source));
         refused(!is_width(width), Refusal::BadWidth)
     }
 
@@ -119,7 +120,7 @@ impl Plan {
                 joined_width(self.key(*left), self.width(*left), self.width(*right))
             }
             Node::Reduce { kind, source } => {
-                reduced_width(*kind, self.key(*source), self.width(*source))
+                kind.width(self.key(*source), self.width(*source))
             }
             Node::Concat { left: source, .. }
             | Node::Filter { source, .. }
@@ -138,17 +139,6 @@ fn joined_width(key: usize, left: usize, right: usize) -> usize
     ensures { result ≡ key + ((left - key) + (right - key)) }
 {
     key + (left.saturating_sub(key) + right.saturating_sub(key))
-}
-
-// The width of a reduction's rows.
-fn reduced_width(kind: Kind, key: usize, width: usize) -> usize
-    requires { key ≤ 8 }
-    ensures { result ≡ reduced_width kind key width }
-{
-    match kind {
-        Kind::Count => key + 1,
-        Kind::Distinct | Kind::Min | Kind::Max => width,
-    }
 }
 
 // The refusal, if there is the fault.

@@ -1,10 +1,10 @@
 //! The text of plans, for people and tools: a line for each node, in the words with which a script
 //! declares it. The number of a node stands in place of its name.
 ghost use Rattle.std.specs.Prelude.{Some, decimal};
-ghost use Rattle.plan.specs.Text.{items_text, kind_text, node_text, plan_text};
+ghost use Rattle.plan.specs.Text.{items_text, node_text, plan_text};
 
 use crate::items::Items;
-use crate::node::{Kind, Node, NodeId};
+use crate::node::{Node, NodeId};
 use crate::plan::Plan;
 use std::fmt;
 
@@ -33,20 +33,6 @@ impl fmt::Display for Items {
                 Ok(())
             }
         }
-    }
-}
-
-/// The word of the reduction: `count`, `distinct`, `min` or `max`.
-impl fmt::Display for Kind {
-    ghost output = { λ kind. Some (kind_text kind) };
-
-    fn fmt<W: fmt::Write>(&self, f: &mut fmt::Formatter<W>) -> fmt::Result {
-        f.write_str(match self {
-            Kind::Count => "count",
-            Kind::Distinct => "distinct",
-            Kind::Min => "min",
-            Kind::Max => "max",
-        })
     }
 }
 

@@ -1,5 +1,5 @@
-//! Reductions that are kept up to date: count, distinct, min and max, or any reducer, by the first
-//! columns of rows.
+//! Reductions that are kept up to date: those of plans, or any reducer, by the first columns of
+//! rows.
 //!
 //! A correction of the past alters what was answered since, and not only at its own time. The rows
 //! of two corrections are first seen together at the join of their times, a time that no input may
@@ -15,9 +15,9 @@
 //! This crate goes through all keys. It stands on four others, and hands on what a caller needs of
 //! them:
 //!
-//! - `reducer`: what a key's rows are reduced to. A [`Reducer`] is a function of a bag; [`Count`],
-//!   [`Distinct`], [`Min`] and [`Max`] are those of plans. [`RowCounts`] is how it reads the rows
-//!   of a key, and a [`Tally`] has them with counts that change in place.
+//! - `reducer`: what a key's rows are reduced to. A [`Reducer`] is a function of a bag; the kind of
+//!   a plan's reduction is one. [`RowCounts`] is how it reads the rows of a key, and a [`Tally`]
+//!   has them with counts that change in place.
 //! - `joined_times`: which times are joined times, after new ones came.
 //! - `correction`: what is given of one key at one time.
 //! - `key_history`: what is kept of one key, a [`KeyHistory`], and what is given of it as of a
@@ -41,5 +41,5 @@ pub use laws::{
     order_does_not_matter, outputs_change_at_joined_times, rows_given_are_answered,
     settled_is_right, stands_as_of_later_frontiers,
 };
-pub use reducer::{Count, Distinct, Max, Min, Reducer, RowCounts, Tally, kinds_are_reductions};
+pub use reducer::{Reducer, RowCounts, Tally, kinds_are_reductions};
 pub use state::ReduceState;

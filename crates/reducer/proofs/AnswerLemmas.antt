@@ -29,26 +29,25 @@ rows_pass p bag is none = list_all-from_AllPass (λ (e : Entry). p e.row) bag (�
     step i d l false e =
         absurd (All-from_recursion (λ (e : Entry). e.count ≡ pos 0 → ⊥) bag is.nonzero i d l (sym (count_at bag i d l is.ascending) ∙ none (get_or bag i d).row e))
 
--- a call gives a bag of these entries, and they are the answer
-module _ (reduce : List ℤ → List Entry → List Entry) (key : List ℤ) (rows listed : List Entry) (given : Result (List Entry) Refusal)
-    (sum : IfOk given (λ bag. Alike bag listed)) (is : Alike listed (reduce key rows)) where
-  -- so it gives the answer
-  pub gives_answer : IfOk given (λ bag. Alike bag (reduce key rows))
-  gives_answer = IfOk-weaker given (λ bag. Alike bag listed) (λ bag. Alike bag (reduce key rows)) (λ bag alike row. alike row ∙ is row) sum
+-- if a call gives a bag of these entries, it gives a bag of all entries that are alike
+pub gives_alike : (wanted listed : List Entry) (given : Result (List Entry) Refusal) → IfOk given (λ bag. Alike bag listed) → Alike listed wanted → IfOk given (λ bag. Alike bag wanted)
+gives_alike wanted listed given sum is = IfOk-weaker given (λ bag. Alike bag listed) (λ bag. Alike bag wanted) (λ bag alike row. alike row ∙ is row) sum
 
-  -- by the laws of a reducer, each row of the answer begins with the key
-  pub gives_keyed : IsReducer (length key) reduce → IsTrue (list_all (has_key (length key) key) rows) → IfOk given IsBag → IfOk given (λ bag. IsTrue (list_all (has_key (length key) key) bag))
-  gives_keyed laws keyed bag = both given sum bag
-    where
-      passes : (out : List Entry) → Alike out listed → IsBag out → IsTrue (list_all (has_key (length key) key) out)
-      passes out alike bag =
-          rows_pass (λ row. same_row (take (length key) row) key) out bag
-          (λ row other.
-          alike row ∙ (is row ∙ (ap (λ es. count_of (reduce key es) row) (sym (filter_keeps (has_key (length key) key) rows keyed)) ∙ laws.keyed key row rows refl other)))
+-- if a call gives the answer of a reducer, then by its laws each row of the answer begins with the
+-- key
+pub gives_keyed : (reduce : List ℤ → List Entry → List Entry) (key : List ℤ) (rows : List Entry) (given : Result (List Entry) Refusal) → IfOk given (λ bag. Alike bag (reduce key rows))
+    → IsReducer (length key) reduce → IsTrue (list_all (has_key (length key) key) rows) → IfOk given IsBag → IfOk given (λ bag. IsTrue (list_all (has_key (length key) key) bag))
+gives_keyed reduce key rows given sum laws keyed bag = both given sum bag
+  where
+    passes : (out : List Entry) → Alike out (reduce key rows) → IsBag out → IsTrue (list_all (has_key (length key) key) out)
+    passes out alike bag =
+        rows_pass (λ row. same_row (take (length key) row) key) out bag
+        (λ row other.
+        alike row ∙ (ap (λ es. count_of (reduce key es) row) (sym (filter_keeps (has_key (length key) key) rows keyed)) ∙ laws.keyed key row rows refl other))
 
-      both : (r : Result (List Entry) Refusal) → IfOk r (λ bag. Alike bag listed) → IfOk r IsBag → IfOk r (λ bag. IsTrue (list_all (has_key (length key) key) bag))
-      both (Ok out) alike bag = passes out alike bag
-      both (Err refused) alike bag = tt
+    both : (r : Result (List Entry) Refusal) → IfOk r (λ bag. Alike bag (reduce key rows)) → IfOk r IsBag → IfOk r (λ bag. IsTrue (list_all (has_key (length key) key) bag))
+    both (Ok out) alike bag = passes out alike bag
+    both (Err refused) alike bag = tt
 
 -- if no count is too large, only memory can be refused
 pub only_memory : (listed : List Entry) (given : Result (List Entry) Refusal) → (HasLargeCount listed → ⊥)

@@ -13,11 +13,11 @@ use Rattle.std.proofs.lemmas.List.{append-nil, map-append}
 use Rattle.std.proofs.lemmas.List.Elements.{filter_more}
 use Rattle.update.specs.Bags.{Entry, Alike, HasLargeCount, count_of, same_row, entry_of}
 use Rattle.update.proofs.BagLemmas.{count_absent}
-use Rattle.plan.specs.Reductions.{single}
+use Rattle.plan.specs.Reductions.{single, present}
 use Rattle.plan.proofs.ReducerLemmas.{count_present}
 use Rattle.plan.proofs.CountLemmas.{row_same, when_zero}
 use Rattle.reducer.specs.Tallies.{AreInOrder}
-use Rattle.reducer.specs.Kinds.{is_positive, positive_rows, distinct_answer}
+use Rattle.reducer.specs.Kinds.{is_positive, positive_rows}
 
 -- any entry, as the default of an index
 abbrev pub no_entry : Entry
@@ -92,8 +92,8 @@ positive_at (e ∷ es) s row =
     ∙ added (same_row e.row row) e.count (count_of es row) (count_of (positive_rows es) row) (positive_at es s.1 row) (λ h. count_absent es row (others e es row h s.0))
 
 -- the rows with a count above 0 are the answer of distinct
-pub distinct_is : (key : List ℤ) (es : List Entry) → AreInOrder es → Alike (positive_rows es) (distinct_answer key es)
-distinct_is key es order row = positive_at es order row ∙ sym (count_present es row)
+pub distinct_is : (es : List Entry) → AreInOrder es → Alike (positive_rows es) (map single (present es))
+distinct_is es order row = positive_at es order row ∙ sym (count_present es row)
 
 -- no row occurs more than once, so no count is too large
 pub positive_fit : (es : List Entry) → AreInOrder es → HasLargeCount (positive_rows es) → ⊥

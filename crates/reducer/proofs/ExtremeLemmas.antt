@@ -1,10 +1,10 @@
 -- Min and max: of rows in order, each once, with a count above 0, the first is the least and the
 -- last the greatest.
-use Rattle.std.proofs.Common.{◌≡◌, ℕ, zero, suc, ◌+◌, ◌<◌, ◌≤◌, Bool, true, false, cond, List, [], ◌∷◌, ℤ, length, get_or, IsTrue, ⊎_elim, refl, ap, sym, ◌∙◌, ◌↔◌, eq-or-lt_of_le, arith}
+use Rattle.std.proofs.Common.{◌≡◌, ℕ, zero, suc, ◌+◌, ◌<◌, ◌≤◌, Bool, true, false, cond, List, [], ◌∷◌, ℤ, map, length, get_or, IsTrue, ⊎_elim, refl, ap, sym, ◌∙◌, ◌↔◌, eq-or-lt_of_le, arith}
 use Rattle.std.specs.Prelude.{pos, ◌+ℤ◌, int_lt}
 use Rattle.std.specs.Cmp.{IsTotalOrder}
 use Rattle.std.specs.Cmp.Lexicographic.{slice_cmp, lists_ties, lists_total}
-use Rattle.std.specs.List.{AllWithin}
+use Rattle.std.specs.List.{AllWithin, filter}
 use Rattle.std.specs.List.Sorted.{IsStrictlySortedBy}
 use Rattle.std.specs.Ordering.{int_cmp, is_eq, is_lt, ordering_reverse}
 use Rattle.std.specs.declared.cmp.Ordering.{Ordering}
@@ -14,13 +14,11 @@ use Rattle.std.proofs.lemmas.Cmp.{int_cmp_total}
 use Rattle.std.proofs.lemmas.List.Elements.{All-from_recursion}
 use Rattle.update.specs.Bags.{Entry, Alike, count_of, same_row}
 use Rattle.update.proofs.BagLemmas.{count_at}
-use Rattle.plan.specs.Reductions.{single, reduction_answer, is_present, is_before}
-use Rattle.plan.specs.declared.node.Kind.{Kind}
-use Rattle.plan.specs.declared.node.Kind.TheVariants.{Min, Max}
-use Rattle.plan.proofs.AnswerLemmas.{least_answered, greatest_answered, answered_once}
+use Rattle.plan.specs.Reductions.{single, is_present, present, is_before, least_rows, greatest_rows}
+use Rattle.plan.proofs.AnswerLemmas.{is_unbeaten, unbeaten_answered, unbeaten_once}
 use Rattle.plan.proofs.CountLemmas.{row_same, row_itself}
 use Rattle.reducer.specs.Tallies.{AreInOrder}
-use Rattle.reducer.specs.Kinds.{is_positive, min_answer, max_answer}
+use Rattle.reducer.specs.Kinds.{is_positive}
 use Rattle.reducer.proofs.DistinctLemmas.{no_entry, zero_plus}
 
 -- ---- the order of rows
@@ -82,66 +80,67 @@ module _ (es : List Entry) (order : AreInOrder es) where
       let found = entry_with es row (λ z. true≢false (sym h ∙ ap (int_lt (pos 0)) z)) in
       (found.0, found.1, found.2, ap (int_lt (pos 0)) (sym (count_at es found.0 no_entry found.1 order) ∙ ap (count_of es) found.2) ∙ h)
 
-  module _ (beats : List ℤ → List ℤ → Bool) (kind : Kind)
-      (answered : (key : List ℤ) (entries : List Entry) (row : List ℤ) → (count_of (reduction_answer kind key entries) row ≡ pos 1)
-      ↔ (IsTrue (is_present entries row) × ((other : List ℤ) → IsTrue (is_present entries other) → beats other row ≡ false)))
-      (key : List ℤ) where
+  module _ (beats : List ℤ → List ℤ → Bool) where
+    -- the present rows that no present row beats, each once
+    abbrev unbeaten : List Entry
+    unbeaten = map single (filter (is_unbeaten beats (present es)) (present es))
+
     -- if no present row beats the row of an entry, and it beats each other one, it is the answer
     only_is : (i : ℕ) → i < length es → is_positive (get_or es i no_entry) ≡ true
         → ((j : ℕ) → j < length es → is_positive (get_or es j no_entry) ≡ true → beats (row_of j) (row_of i) ≡ false)
         → ((j : ℕ) → j < length es → is_positive (get_or es j no_entry) ≡ true → (j ≡ i → ⊥) → beats (row_of i) (row_of j) ≡ true)
-        → Alike (single (row_of i) ∷ []) (reduction_answer kind key es)
-    only_is i l p unbeaten beats_others row = step (same_row (row_of i) row) refl
+        → Alike (single (row_of i) ∷ []) unbeaten
+    only_is i l p unbeaten_by beats_others row = step (same_row (row_of i) row) refl
       where
-        step : (b : Bool) → same_row (row_of i) row ≡ b → cond b (pos 1) (pos 0) +ℤ pos 0 ≡ count_of (reduction_answer kind key es) row
+        step : (b : Bool) → same_row (row_of i) row ≡ b → cond b (pos 1) (pos 0) +ℤ pos 0 ≡ count_of unbeaten row
         step true e =
             let same = row_same (row_of i) row e in
-            sym ((answered key es row).1 (
+            sym ((unbeaten_answered beats es row).1 (
               ap (is_present es) (sym same) ∙ present_at i l p,
               λ other there.
                   let found = entry_of_present other there in
-                  (λ t. beats (sym found.2 t) (sym same t)) ∙ unbeaten found.0 found.1 found.3,
+                  (λ t. beats (sym found.2 t) (sym same t)) ∙ unbeaten_by found.0 found.1 found.3,
             ))
         step false e =
             ⊎_elim
             (λ z. sym z)
             (λ o.
-            let facts = (answered key es row).0 o in
+            let facts = (unbeaten_answered beats es row).0 o in
             let found = entry_of_present row facts.0 in
             let other : found.0 ≡ i → ⊥ = λ s. true≢false (sym (row_itself row) ∙ (ap (λ r. same_row r row) (sym (sym (ap row_of s) ∙ found.2)) ∙ e)) in
             absurd (true≢false (sym (beats_others found.0 found.1 found.3 other) ∙ (ap (beats (row_of i)) found.2 ∙ facts.1 (row_of i) (present_at i l p)))))
-            (answered_once kind key es row)
+            (unbeaten_once beats es row)
 
     -- if no count is above 0, there is no answer
-    none_is : AllWithin (λ e. is_positive e ≡ false) es 0 (length es) → Alike [] (reduction_answer kind key es)
+    none_is : AllWithin (λ e. is_positive e ≡ false) es 0 (length es) → Alike [] unbeaten
     none_is none row =
         ⊎_elim
         (λ z. sym z)
         (λ o.
-        let found = entry_of_present row ((answered key es row).0 o).0 in
+        let found = entry_of_present row ((unbeaten_answered beats es row).0 o).0 in
         absurd (true≢false (sym found.3 ∙ none found.0 no_entry (omega arith) found.1)))
-        (answered_once kind key es row)
+        (unbeaten_once beats es row)
 
-  -- the first row with a count above 0 is the answer of min
-  pub first_is : (key : List ℤ) (i : ℕ) → i < length es → ((d : Entry) → is_positive (get_or es i d) ≡ true)
-      → AllWithin (λ e. is_positive e ≡ false) es 0 i → Alike (single (get_or es i no_entry).row ∷ []) (min_answer key es)
-  first_is key i l p first =
-      only_is is_before Min least_answered key i l (p no_entry)
+  -- the first row with a count above 0 is the least
+  pub first_is : (i : ℕ) → i < length es → ((d : Entry) → is_positive (get_or es i d) ≡ true)
+      → AllWithin (λ e. is_positive e ≡ false) es 0 i → Alike (single (get_or es i no_entry).row ∷ []) (map single (least_rows (present es)))
+  first_is i l p first =
+      only_is is_before i l (p no_entry)
       (λ j m q. ⊎_elim (λ s. absurd (true≢false (sym q ∙ first j no_entry (omega arith) s))) (λ s. not_before i j s m) (cases_lt j i))
       (λ j m q n. ⊎_elim (λ s. absurd (true≢false (sym q ∙ first j no_entry (omega arith) s))) (λ s. before i j (omega (arith, s, n)) m) (cases_lt j i))
 
-  -- the last row with a count above 0 is the answer of max
-  pub last_is : (key : List ℤ) (i : ℕ) → i < length es → ((d : Entry) → is_positive (get_or es i d) ≡ true)
-      → AllWithin (λ e. is_positive e ≡ false) es (i + 1) (length es) → Alike (single (get_or es i no_entry).row ∷ []) (max_answer key es)
-  last_is key i l p last =
-      only_is (λ other row. is_before row other) Max greatest_answered key i l (p no_entry)
+  -- the last row with a count above 0 is the greatest
+  pub last_is : (i : ℕ) → i < length es → ((d : Entry) → is_positive (get_or es i d) ≡ true)
+      → AllWithin (λ e. is_positive e ≡ false) es (i + 1) (length es) → Alike (single (get_or es i no_entry).row ∷ []) (map single (greatest_rows (present es)))
+  last_is i l p last =
+      only_is (λ other row. is_before row other) i l (p no_entry)
       (λ j m q. ⊎_elim (λ s. absurd (true≢false (sym q ∙ last j no_entry (omega (arith, s)) m))) (λ s. not_before j i s l) (cases_lt i j))
       (λ j m q n. ⊎_elim (λ s. absurd (true≢false (sym q ∙ last j no_entry (omega (arith, s)) m))) (λ s. before j i (omega (arith, s, n)) l) (cases_lt i j))
 
-  -- without a count above 0, min answers nothing
-  pub no_least : (key : List ℤ) → AllWithin (λ e. is_positive e ≡ false) es 0 (length es) → Alike [] (min_answer key es)
-  no_least key none = none_is is_before Min least_answered key none
+  -- without a count above 0, there is no least row
+  pub no_least : AllWithin (λ e. is_positive e ≡ false) es 0 (length es) → Alike [] (map single (least_rows (present es)))
+  no_least none = none_is is_before none
 
-  -- without a count above 0, max answers nothing
-  pub no_greatest : (key : List ℤ) → AllWithin (λ e. is_positive e ≡ false) es 0 (length es) → Alike [] (max_answer key es)
-  no_greatest key none = none_is (λ other row. is_before row other) Max greatest_answered key none
+  -- without a count above 0, there is no greatest row
+  pub no_greatest : AllWithin (λ e. is_positive e ≡ false) es 0 (length es) → Alike [] (map single (greatest_rows (present es)))
+  no_greatest none = none_is (λ other row. is_before row other) none

@@ -1,29 +1,50 @@
-//! The four reducers are the four reductions of a plan, and a node's kind is a reducer itself: code
-//! that has nodes of all kinds in one list uses that one. The function does nothing: it is called,
-//! or its clauses cited, for what it promises. With the contract of [`Reducer`](crate::Reducer)
-//! this is all that a layer above needs.
-ghost use Rattle.std.specs.Prelude.{◌≡◌, ◌≤◌, List, ℤ, length};
-ghost use Rattle.update.specs.Bags.{Entry};
-ghost use Rattle.plan.specs.Reductions.{reduction_answer};
-ghost use Rattle.reducer.specs.declared.count.Count.{Count};
-ghost use Rattle.reducer.specs.declared.distinct.Distinct.{Distinct};
-ghost use Rattle.reducer.specs.declared.extremes.Min.{Min};
-ghost use Rattle.reducer.specs.declared.extremes.Max.{Max};
+//! A node's kind is a reducer. It answers what the plan's reduction of this kind answers, by a
+//! function of its own. Code that keeps reductions up to date asks the kind, and so does the plain
+//! query. `kinds_are_reductions` does nothing: it is called, or its clause cited, for what it
+//! promises. With the contract of [`Reducer`](crate::Reducer) this is all that a layer above needs.
+ghost use Rattle.std.specs.Prelude.{◌≡◌, ◌≤◌, List, ℤ, length, IfOk, IfErr};
+ghost use Rattle.update.specs.Bags.{Entry, Alike, IsBag};
+ghost use Rattle.update.specs.Refusals.{IsMemoryOrOverflow};
+ghost use Rattle.plan.specs.Kinds.{reduction_answer, reduced_width};
+ghost use Rattle.plan.specs.declared.kind.Kind.{Kind};
+ghost use Rattle.reducer.specs.Kinds.{kind_answer};
+ghost use Rattle.reducer.specs.Refusals.{HasLargeSum};
 
-use crate::{Count, Distinct, Max, Min, Reducer, RowCounts};
+use crate::count::count_answer;
+use crate::distinct::distinct_answer;
+use crate::extremes::{greatest_answer, least_answer};
+use crate::{Reducer, RowCounts};
 use plan::Kind;
 use std::alloc::Global;
 use update::{Bag, Refusal};
 
-/// The reduction of a plan's node, by its kind. It answers what the reducer of that kind answers,
-/// and refuses when that one does. So only a count overflows.
+// The answer of the kind, by its own function. Only a count overflows.
+fn answer_of<C: RowCounts>(kind: Kind, alloc: Global, key: &[i64], rows: &C) -> Result<Bag, Refusal>
+    requires { 1 ≤ length key.now }
+    ensures value { IfOk result
+        (λ bag. Alike bag (kind_answer kind key.now (C.entries rows.now))) }
+    ensures bag { IfOk result IsBag }
+    ensures refused { IfErr result (IsMemoryOrOverflow
+        ((kind ≡ Kind.Count) × HasLargeSum (C.entries rows.now))) }
+{
+    match kind {
+        Kind::Count => count_answer(alloc, key, rows),
+        Kind::Distinct => distinct_answer(alloc, rows),
+        Kind::Min => least_answer(alloc, rows),
+        Kind::Max => greatest_answer(alloc, rows),
+    }
+}
+
+/// The reduction of a plan's node, by its kind. A key that leaves no room for its answers gets
+/// none: the row of a count would have one column more than the key. Only a count overflows.
 impl Reducer for Kind {
     ghost use Rattle.std.specs.Prelude.{◌≡◌, ◌≤◌, IfOk, IfErr, IsTrue, length};
     ghost use Rattle.std.specs.List.{list_all};
     ghost use Rattle.update.specs.Bags.{Alike, IsBag};
     ghost use Rattle.update.specs.Refusals.{IsMemoryOrOverflow};
+    ghost use Rattle.plan.specs.Kinds.{kind_sees_rows};
     ghost use Rattle.plan.specs.Reductions.{has_key};
-    ghost use Rattle.reducer.specs.Kinds.{kind_answer, kind_sees_rows, kind_reduces, kind_is_blind};
+    ghost use Rattle.reducer.specs.Kinds.{kind_answer, kind_reduces, kind_is_blind};
     ghost use Rattle.reducer.specs.Refusals.{HasLargeSum};
 
     ghost reduces = { kind_answer };
@@ -43,20 +64,13 @@ impl Reducer for Kind {
         ensures refused { IfErr result (IsMemoryOrOverflow
             ((self.now ≡ Kind.Count) × HasLargeSum (C.entries rows.now))) }
     {
-        match self {
-            Kind::Count => Count.reduce(alloc, key, rows),
-            Kind::Distinct => Distinct.reduce(alloc, key, rows),
-            Kind::Min => Min.reduce(alloc, key, rows),
-            Kind::Max => Max.reduce(alloc, key, rows),
-        }
+        answer_of(*self, alloc, key, rows)
     }
 
     fn sees_rows(&self) -> bool {
         match self {
-            Kind::Count => Count.sees_rows(),
-            Kind::Distinct => Distinct.sees_rows(),
-            Kind::Min => Min.sees_rows(),
-            Kind::Max => Max.sees_rows(),
+            Kind::Count => false,
+            Kind::Distinct | Kind::Min | Kind::Max => true,
         }
     }
 
@@ -65,16 +79,10 @@ impl Reducer for Kind {
     ghost blind = { kind_is_blind };
 }
 
-/// Each of the four reducers answers what the reduction of its kind answers. For count the key has
-/// at most 7 columns, as in every plan. Costs nothing.
+/// A kind answers what the plan's reduction of this kind answers, if the rows of its answers have
+/// room, as in every plan. For count the key has at most 7 columns. Costs nothing.
 pub fn kinds_are_reductions()
-    ensures count { (self : Count) (key : List ℤ) (entries : List Entry) → length key ≤ 7
-        → ⟦<Count as Reducer>⟧.reduces self key entries ≡ reduction_answer Kind.Count key entries }
-    ensures distinct { (self : Distinct) (key : List ℤ) (entries : List Entry)
-        → ⟦<Distinct as Reducer>⟧.reduces self key entries
-        ≡ reduction_answer Kind.Distinct key entries }
-    ensures min { (self : Min) (key : List ℤ) (entries : List Entry)
-        → ⟦<Min as Reducer>⟧.reduces self key entries ≡ reduction_answer Kind.Min key entries }
-    ensures max { (self : Max) (key : List ℤ) (entries : List Entry)
-        → ⟦<Max as Reducer>⟧.reduces self key entries ≡ reduction_answer Kind.Max key entries }
+    ensures { (kind : Kind) (key : List ℤ) (entries : List Entry)
+        → reduced_width kind (length key) 8 ≤ 8
+        → ⟦<Kind as Reducer>⟧.reduces kind key entries ≡ reduction_answer kind key entries }
 {}

@@ -6,14 +6,14 @@
 //!
 //! - [`Reducer`] is such a function, with its laws: alike bags get alike answers, an empty bag gets
 //!   an empty answer, and each row of an answer begins with the key.
-//! - [`Count`], [`Distinct`], [`Min`] and [`Max`] are the reducers of plans. A plan's `Kind` is a
-//!   reducer, too.
+//! - A plan's `Kind` is a reducer: it answers what the plan's reduction of this kind answers. Each
+//!   kind has a function of its own, which nothing else in this crate knows.
 //! - [`RowCounts`] is how a reducer reads the rows of a key. A bag is read so, and so is a
 //!   [`Tally`], whose counts change in place and are set back by what was noted of them
 //!   ([`Undone`]).
 //!
-//! What the four reducers answer is defined in `specs/Kinds.antt`, and what a reducer that does not
-//! look at rows owes in `specs/Blind.antt`.
+//! What a kind answers is defined in the plan's `specs/Kinds.antt`, for keys that leave room in
+//! `specs/Kinds.antt`, and what a reducer that does not look at rows owes in `specs/Blind.antt`.
 #![tactic(auto)]
 
 mod answers;
@@ -25,9 +25,6 @@ mod reducer;
 mod row_counts;
 mod tally;
 
-pub use count::Count;
-pub use distinct::Distinct;
-pub use extremes::{Max, Min};
 pub use kinds::kinds_are_reductions;
 pub use reducer::Reducer;
 pub use row_counts::RowCounts;

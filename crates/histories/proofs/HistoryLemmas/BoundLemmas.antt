@@ -21,7 +21,7 @@ use Rattle.plan.specs.Changes.{query_at, AreDifferences}
 use Rattle.plan.specs.Nodes.{sources, arranged_by, key_width, is_linear, is_reduction, is_input}
 use Rattle.plan.specs.Queries.{source_value}
 use Rattle.plan.specs.Bounds.{output_bound, bound_by, AreOwn}
-use Rattle.plan.specs.declared.node.Kind.{Kind}
+use Rattle.plan.specs.declared.kind.Kind.{Kind}
 use Rattle.plan.specs.declared.node.Node.TheVariants.{Reduce}
 use Rattle.plan.proofs.PlanLemmas.{source_smaller}
 use Rattle.plan.proofs.StepLemmas.{bound_by_sources}

@@ -17,9 +17,9 @@ use Rattle.update.specs.declared.change.Update.{Update}
 use Rattle.plan.specs.Ancestors.{reaches}
 use Rattle.plan.specs.Nodes.{arranged_by, is_reduction}
 use Rattle.plan.specs.Operators.{reduction_output}
-use Rattle.plan.specs.Reductions.{reduction_answer}
+use Rattle.plan.specs.Kinds.{reduction_answer}
 use Rattle.plan.specs.Widths.{width_of}
-use Rattle.plan.specs.declared.node.Kind.TheVariants.{Count}
+use Rattle.plan.specs.declared.kind.Kind.TheVariants.{Count}
 use Rattle.histories.specs.declared.event.Bundle.{Bundle}
 use Rattle.histories.specs.declared.event.Event.{Event}
 use Rattle.histories.specs.declared.event.Event.TheVariants.{Feed, Advance, Take, TakeHeld}

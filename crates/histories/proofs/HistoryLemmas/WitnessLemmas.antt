@@ -13,14 +13,14 @@ use Rattle.update.specs.Updates.{as_of, IsConsolidated}
 use Rattle.update.specs.declared.change.Update.{Update}
 use Rattle.plan.specs.Ancestors.{reaches}
 use Rattle.plan.specs.Operators.{reduction_output}
-use Rattle.plan.specs.Reductions.{reduction_answer}
+use Rattle.plan.specs.Kinds.{reduction_answer}
 use Rattle.plan.specs.Rules.{IsPlan}
 use Rattle.plan.specs.Bounds.{AreOwn, IsBound, bound_by}
 use Rattle.plan.specs.Changes.{query_at}
 use Rattle.plan.specs.Nodes.{is_reduction}
 use Rattle.plan.specs.Queries.{query}
 use Rattle.plan.specs.Widths.{width_of}
-use Rattle.plan.specs.declared.node.Kind.TheVariants.{Distinct}
+use Rattle.plan.specs.declared.kind.Kind.TheVariants.{Distinct}
 use Rattle.histories.specs.declared.event.Event.TheVariants.{Allow, Give}
 use Rattle.histories.specs.Histories.Dataflows.{IsDataflow}
 use Rattle.histories.specs.Histories.States.{place, same_place, held_at}

@@ -10,7 +10,7 @@ use Rattle.plan.specs.Ancestors.{numbers_below}
 use Rattle.plan.specs.Changes.{has_passed, query_at, AreDifferences}
 use Rattle.plan.specs.Nodes.{key_width, sources, is_linear, is_reduction}
 use Rattle.plan.specs.Bounds.{IsBound, output_bound}
-use Rattle.plan.specs.declared.node.Kind.{Kind}
+use Rattle.plan.specs.declared.kind.Kind.{Kind}
 use Rattle.plan.specs.declared.node.Node.TheVariants.{Reduce}
 use Rattle.histories.specs.declared.event.Bundle.{Bundle}
 use Rattle.histories.specs.declared.event.HeldTime.{HeldTime}

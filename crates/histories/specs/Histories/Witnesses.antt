@@ -7,7 +7,7 @@ use Rattle.row.specs.declared.test.Cmp.TheVariants.{Lt}
 use Rattle.update.specs.declared.change.Update.{Update}
 use Rattle.plan.specs.declared.node.Node.{Node}
 use Rattle.plan.specs.declared.node.Node.TheVariants.{Input, Map, Filter, Concat, Negate, Arrange, Join, Reduce, Output}
-use Rattle.plan.specs.declared.node.Kind.TheVariants.{Count, Distinct}
+use Rattle.plan.specs.declared.kind.Kind.TheVariants.{Count, Distinct}
 use Rattle.histories.specs.declared.event.Site.{Site}
 use Rattle.histories.specs.declared.event.Bundle.{Bundle}
 use Rattle.histories.specs.declared.event.Emission.{Emission}

@@ -1,6 +1,6 @@
 use Rattle.std.proofs.Common.{ℕ, ◌<◌, List, ◌∷◌, [], length, IsTrue, sym, refl, subst, ap, arith}
 use Rattle.plan.specs.Nodes.{is_input}
-use Rattle.plan.specs.declared.node.Kind.TheVariants.{Min}
+use Rattle.plan.specs.declared.kind.Kind.TheVariants.{Min}
 use Rattle.plan.specs.declared.node.Node.{Node}
 use Rattle.plan.specs.declared.node.Node.TheVariants.{Arrange, Input, Output, Reduce}
 use Rattle.histories.specs.Histories.Dataflows.{node_of}

@@ -8,7 +8,7 @@ use Rattle.plan.specs.Operators.{mapped_entry, join_output}
 use Rattle.plan.specs.declared.node.Node.TheVariants.{Input, Map, Filter, Join, Reduce}
 use Rattle.update.specs.Refusals.{IsMemoryOrOverflow}
 use Rattle.oracle.specs.Evaluation.{nth_bag, HasLargeAt, HasLargeProductOf}
-use Rattle.oracle.proofs.NodeLemmas.{map_within, filter_within, left_keys, right_keys, join_room, reduce_some, reduce_keys, count_room, large_of, join_large}
+use Rattle.oracle.proofs.NodeLemmas.{map_within, filter_within, left_keys, right_keys, join_room, reduce_some, reduce_keys, answers_room, large_of, join_large}
 use Rattle.oracle.proofs.ResultLemmas.{err_more, refused_by}
 use Rattle.oracle.proofs.node.of_node.Goals as goal
 
@@ -59,7 +59,7 @@ reduced-requires-clause-room g c =
     let p = c.args.plan.now in
     let bags = nth_bag c.args.bags.now in
     let e : node_at p c.args.id ≡ Reduce c.in-Reduce.kind c.in-Reduce.source = sym c.node.ensures ∙ c.in-Reduce.is in
-    rw c.key_width-k.ensures (count_room p c.known.ensures.plan c.args.id c.requires.inside bags c.requires.wide c.in-Reduce.kind c.in-Reduce.source e)
+    rw c.key_width-k.ensures (answers_room p c.known.ensures.plan c.args.id c.requires.inside bags c.requires.wide c.in-Reduce.kind c.in-Reduce.source e)
 
 pub reduced-requires-clause-keys : goal.reduced-requires-clause-keys
 reduced-requires-clause-keys g c =

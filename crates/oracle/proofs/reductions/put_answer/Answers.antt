@@ -1,6 +1,6 @@
 use Rattle.std.proofs.Common.{◌∙◌, ap}
 use Rattle.update.specs.Bags.{count_of}
-use Rattle.plan.specs.Reductions.{reduction_answer}
+use Rattle.plan.specs.Kinds.{reduction_answer}
 use Rattle.reducer.proofs.KindLemmas.{with_room}
 use Rattle.oracle.proofs.ReductionLemmas.{answer_put}
 use Rattle.oracle.proofs.reductions.put_answer.Goals as goal

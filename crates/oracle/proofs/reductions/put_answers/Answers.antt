@@ -1,4 +1,4 @@
-use Rattle.std.proofs.Common.{◌≡◌, ◌++◌, ◌∙◌, List, take, take_all, length, slice_index_or, IsTrue, refl, ap, sym, subst, rules, arith}
+use Rattle.std.proofs.Common.{◌≡◌, ◌≤◌, ◌++◌, ◌∙◌, List, take, take_all, length, slice_index_or, IsTrue, refl, ap, sym, subst, rules, arith}
 use Rattle.std.specs.Prelude.{slice_range}
 use Rattle.std.specs.List.{list_all}
 use Rattle.std.proofs.lemmas.List.{append-nil}
@@ -6,8 +6,9 @@ use Rattle.std.proofs.lemmas.Result.{err_from_is_err_and}
 use Rattle.update.specs.Bags.{Entry, Alike, count_of}
 use Rattle.update.specs.Refusals.{IsMemoryOrOverflow}
 use Rattle.plan.specs.Operators.{reduction_output}
-use Rattle.plan.specs.Reductions.{has_key, reduction_answer}
-use Rattle.plan.specs.declared.node.Kind.TheVariants.{Count}
+use Rattle.plan.specs.Reductions.{has_key}
+use Rattle.plan.specs.Kinds.{reduction_answer, reduced_width}
+use Rattle.plan.specs.declared.kind.Kind.TheVariants.{Count}
 use Rattle.reducer.specs.Refusals.{HasLargeSum}
 use Rattle.oracle.specs.Keys.{IsKeyRange}
 use Rattle.oracle.specs.Reduced.{HasLargeNumber}
@@ -36,7 +37,7 @@ pub put_answer-requires-clause-few : goal.put_answer-requires-clause-few
 put_answer-requires-clause-few c = omega (arith, c.key_at-key.ensures.few, c.key_at-key.ensures.width)
 
 pub put_answer-requires-clause-room : goal.put_answer-requires-clause-room
-put_answer-requires-clause-room c = λ e. let room = c.requires.room e in omega (arith, room, c.key_at-key.ensures.width)
+put_answer-requires-clause-room c = subst (λ n. reduced_width c.args.kind n 8 ≤ 8) (sym c.key_at-key.ensures.width) c.requires.room
 
 pub put_answer-requires-clause-keyed : goal.put_answer-requires-clause-keyed
 put_answer-requires-clause-keyed c =

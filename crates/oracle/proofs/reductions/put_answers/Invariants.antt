@@ -1,7 +1,7 @@
 use Rattle.std.proofs.Common.{◌≤◌, ◌-◌, ◌++◌, take, length}
 use Rattle.update.specs.Bags.{Alike}
 use Rattle.plan.specs.Operators.{reduction_output}
-use Rattle.plan.specs.Reductions.{reduction_answer}
+use Rattle.plan.specs.Kinds.{reduction_answer}
 use Rattle.oracle.specs.Keys.{IsKeyStart}
 use Rattle.oracle.proofs.reductions.put_answers.Given as goal
 

@@ -2,8 +2,8 @@ use Rattle.std.proofs.Common.{◌≡◌, ◌++◌, ◌∙◌, List, ap}
 use Rattle.update.specs.Bags.{Entry, Alike, HasLargeCount, count_of}
 use Rattle.update.specs.Refusals.{IsMemoryOrOverflow}
 use Rattle.plan.specs.Operators.{reduction_output}
-use Rattle.plan.specs.Reductions.{reduction_answer}
-use Rattle.plan.specs.declared.node.Kind.TheVariants.{Count}
+use Rattle.plan.specs.Kinds.{reduction_answer}
+use Rattle.plan.specs.declared.kind.Kind.TheVariants.{Count}
 use Rattle.oracle.specs.Reduced.{HasLargeNumber}
 use Rattle.oracle.proofs.ReductionLemmas.{reduced_fit}
 use Rattle.oracle.proofs.ResultLemmas.{ok_more, err_more, refused_by}

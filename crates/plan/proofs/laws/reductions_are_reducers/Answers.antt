@@ -1,5 +1,5 @@
 use Rattle.plan.proofs.ReductionLemmas.{by_key}
-use Rattle.plan.proofs.ReducerLemmas.{all_reduce}
+use Rattle.plan.proofs.KindLemmas.{all_reduce}
 use Rattle.plan.proofs.laws.reductions_are_reducers.Goals as goal
 
 pub returns-clause-reducers : goal.returns-clause-reducers

@@ -4,11 +4,12 @@ use Rattle.std.specs.List.{list_all}
 use Rattle.lattice.specs.Frontiers.{all_beyond, is_beyond}
 use Rattle.update.specs.declared.change.Update.{Update}
 use Rattle.plan.specs.Changes.{has_passed}
-use Rattle.plan.specs.declared.node.Kind.{Kind}
+use Rattle.plan.specs.Kinds.{state_key}
+use Rattle.plan.specs.declared.kind.Kind.{Kind}
 use Rattle.trace.specs.Readings.{Insertion, all_updates}
 use Rattle.reduce.specs.Histories.{ReduceView}
 use Rattle.correction.proofs.ResultLemmas.{passed_on}
-use Rattle.operator.specs.Reductions.{HasRoom, ReducingView, IsReduced, SumsToReceived, pending_in, pending_of, state_key}
+use Rattle.operator.specs.Reductions.{HasRoom, ReducingView, IsReduced, SumsToReceived, pending_in, pending_of}
 use Rattle.operator.proofs.ReductionLemmas.{each_of, pending_has, overfull, sums_taken, gave, answer_at, rest_later, rest_beyond, out_settled, out_beyond}
 use Rattle.operator.proofs.reduction.Reducing.ready.Given.{Over}
 use Rattle.operator.proofs.reduction.Reducing.ready.Goals as goal

@@ -1,9 +1,10 @@
 use Rattle.std.proofs.Common.{◌≡◌, ◌++◌, [], ◌∷◌, length, sym, subst}
 use Rattle.std.specs.Prelude.{IsTrue, nat_le}
-use Rattle.plan.specs.declared.node.Kind.{Kind}
+use Rattle.plan.specs.Kinds.{state_key}
+use Rattle.plan.specs.declared.kind.Kind.{Kind}
 use Rattle.reduce.specs.Histories.{ReduceView}
-use Rattle.operator.specs.Reductions.{HasRoom, ReducingView, IsReduced, have_width, state_key}
-use Rattle.operator.proofs.DistinctLemmas.{state_within}
+use Rattle.operator.specs.Reductions.{HasRoom, ReducingView, IsReduced, have_width}
+use Rattle.operator.proofs.AnswerWidthLemmas.{part_of_rows}
 use Rattle.operator.proofs.ReductionLemmas.{wide_enough, took, behind, pending_after, pending_with, later_beyond, taken_beyond}
 use Rattle.operator.proofs.reduction.Reducing.take.Goals as goal
 
@@ -12,7 +13,7 @@ take-requires g c =
     let us = c.args.updates.now in
     let key = c.self.inside.state.key in
     let wide = subst (λ (v : ReducingView g.row.T.Denot). IsTrue (have_width v.width us)) (sym c.self.view_is) c.requires.wide in
-    record { wide = c.in_ok-batch.ensures.same.among (λ row t. nat_le key (length row)) (wide_enough key c.self.inside.width us (state_within c.self.inside.state.reducer key c.self.inside.key c.self.inside.width c.self.invariant.1 c.self.invariant.0) wide) }
+    record { wide = c.in_ok-batch.ensures.same.among (λ row t. nat_le key (length row)) (wide_enough key c.self.inside.width us (part_of_rows c.self.inside.state.reducer key c.self.inside.key c.self.inside.width c.self.invariant.1 c.self.invariant.0) wide) }
 
 pub invariant_of-self-2 : goal.invariant_of-self-2
 invariant_of-self-2 g c =
