@@ -73,23 +73,23 @@ module _ {T S : Type 0} {times : Times T} {cmp : T → T → Ordering} {hub : Ta
       → F (opening_in k.seen).dataflow (state_found times n)
   found_at F x same says = found_so F (subst (λ (y : SharedState T). InEachState times cmp y F) same says)
 
-  pub done : {Tries : Type 0} (at : ℕ → Event T) (fault : Dataflow → State T → Option Refusal) (r : Result (Unit {0}) Refusal) → OnOk r (event ≡ at own) → OnErr r (event ≡ Look own)
+  pub done : (Tries : Type 0) (at : ℕ → Event T) (fault : Dataflow → State T → Option Refusal) (r : Result (Unit {0}) Refusal) → OnOk r (event ≡ at own) → OnErr r (event ≡ Look own)
       → Says (λ p w. OnOk r (fault p w ≡ None)) → Says (λ p w. IfErr r (IsRefusalBy (fault p w)))
       → IsDone Tries k n (at k.number) (fault (opening_in k.seen).dataflow (state_found times n)) (IsRefusalBy (fault (opening_in k.seen).dataflow (state_found times n))) r
-  done at fault (Ok x) did looks accepts refuses = (adds_as a at did, found_so (λ p w. fault p w ≡ None) accepts)
-  done at fault (Err x) did looks accepts refuses = inr (looked a looks, found_so (λ p w. IsRefusalBy (fault p w) x) refuses)
+  done Tries at fault (Ok x) did looks accepts refuses = (adds_as a at did, found_so (λ p w. fault p w ≡ None) accepts)
+  done Tries at fault (Err x) did looks accepts refuses = inr (looked a looks, found_so (λ p w. IsRefusalBy (fault p w) x) refuses)
 
-  pub answered : {Tries A : Type 0} (Found : Dataflow → State T → A → Type 0) (Refused : Refusal → Type 0) (r : Result A Refusal) → event ≡ Look own
+  pub answered : (Tries : Type 0) {A : Type 0} (Found : Dataflow → State T → A → Type 0) (Refused : Refusal → Type 0) (r : Result A Refusal) → event ≡ Look own
       → Says (λ p w. IfOk r (Found p w)) → IfErr r Refused
       → IsAnswered Tries k n (Found (opening_in k.seen).dataflow (state_found times n)) Refused r
-  answered Found Refused (Ok x) looks finds refuses = (looked a looks, found_so (λ p w. Found p w x) finds)
-  answered Found Refused (Err x) looks finds refuses = inr (looked a looks, refuses)
+  answered Tries Found Refused (Ok x) looks finds refuses = (looked a looks, found_so (λ p w. Found p w x) finds)
+  answered Tries Found Refused (Err x) looks finds refuses = inr (looked a looks, refuses)
 
-  pub read : {Tries : Type 0} (v : ℕ) (x : T) (r : Result (List BagEntry) Refusal) → event ≡ Look own
+  pub read : (Tries : Type 0) (v : ℕ) (x : T) (r : Result (List BagEntry) Refusal) → event ≡ Look own
       → Says (λ p w. OnOk r (read_refusal_in times p w v x ≡ None)) → IfOk r IsBag → Says (λ p w. IfOk r (λ bag. Alike bag (query_at times p.nodes (changes_in w) v x)))
       → Says (λ p w. IfErr r (IsReadRefusalIn times p w v x))
       → IsAnswered Tries k n (λ bag. IsRead times k n v x bag) (IsReadRefusalFound times k n v x) r
-  read v x (Ok bag) looks accepts is_bag query refuses = (
+  read Tries v x (Ok bag) looks accepts is_bag query refuses = (
     looked a looks,
     record {
       accepted = found_so (λ p w. read_refusal_in times p w v x ≡ None) accepts;
@@ -97,17 +97,17 @@ module _ {T S : Type 0} {times : Times T} {cmp : T → T → Ordering} {hub : Ta
       query = found_so (λ p w. Alike bag (query_at times p.nodes (changes_in w) v x)) query;
     },
   )
-  read v x (Err e) looks accepts is_bag query refuses = inr (looked a looks, found_so (λ p w. IsReadRefusalIn times p w v x e) refuses)
+  read Tries v x (Err e) looks accepts is_bag query refuses = inr (looked a looks, found_so (λ p w. IsReadRefusalIn times p w v x e) refuses)
 
-  pub listed : {Tries V : Type 0} (items : V → List (Update T)) (v : ℕ) (r : Result V Refusal) → event ≡ Look own
+  pub listed : (Tries : Type 0) {V : Type 0} (items : V → List (Update T)) (v : ℕ) (r : Result V Refusal) → event ≡ Look own
       → Says (λ p w. OnOk r (changes_refusal_in times w v ≡ None)) → Says (λ p w. IfOk r (λ us. AreDifferences times cmp p.nodes (changes_in w) (frontier times p w v) v (items us)))
       → Says (λ p w. IfErr r (IsChangesRefusalIn times p w v))
       → IsAnswered Tries k n (λ us. AreListed times k n cmp v (items us)) (IsChangesRefusalFound times k n v) r
-  listed items v (Ok us) looks accepts differences refuses = (
+  listed Tries items v (Ok us) looks accepts differences refuses = (
     looked a looks,
     record {
       accepted = found_so (λ p w. changes_refusal_in times w v ≡ None) accepts;
       differences = found_so (λ p w. AreDifferences times cmp p.nodes (changes_in w) (frontier times p w v) v (items us)) differences;
     },
   )
-  listed items v (Err e) looks accepts differences refuses = inr (looked a looks, found_so (λ p w. IsChangesRefusalIn times p w v e) refuses)
+  listed Tries items v (Err e) looks accepts differences refuses = inr (looked a looks, found_so (λ p w. IsChangesRefusalIn times p w v e) refuses)

@@ -39,4 +39,4 @@ pub returns : goal.returns
 returns g c =
     let t = tenure g (goal.at.returns g c).After-deref_mut in
     let a = after_one t c.advance-told.ensures.event _ (g.met.P.BoardProtocol.last_is _) c.leave.result c.leave.ensures in
-    done t a (λ n. Advance n c.args.input c.args.times.now) (λ p w. advance_refusal_in g.T.PartialOrder.times w c.args.input c.args.times.now) c.advance-told.result c.advance-told.ensures.advanced c.advance-told.ensures.unchanged c.advance-told.ensures.accepted c.advance-told.ensures.refused
+    done t a g.A.Access.tries (λ n. Advance n c.args.input c.args.times.now) (λ p w. advance_refusal_in g.T.PartialOrder.times w c.args.input c.args.times.now) c.advance-told.result c.advance-told.ensures.advanced c.advance-told.ensures.unchanged c.advance-told.ensures.accepted c.advance-told.ensures.refused

@@ -44,4 +44,4 @@ pub returns : goal.returns
 returns g c =
     let t = tenure g (goal.at.returns g c).After-deref_mut in
     let a = after_one t c.allow-told.ensures.event _ (g.met.P.BoardProtocol.last_is _) c.leave.result c.leave.ensures in
-    done t a (λ n. Allow n c.args.view c.args.times.now) (λ p w. allow_refusal_in g.T.PartialOrder.times w c.args.view c.args.times.now) c.allow-told.result c.allow-told.ensures.allowed c.allow-told.ensures.unchanged c.allow-told.ensures.accepted c.allow-told.ensures.refused
+    done t a g.A.Access.tries (λ n. Allow n c.args.view c.args.times.now) (λ p w. allow_refusal_in g.T.PartialOrder.times w c.args.view c.args.times.now) c.allow-told.result c.allow-told.ensures.allowed c.allow-told.ensures.unchanged c.allow-told.ensures.accepted c.allow-told.ensures.refused

@@ -35,4 +35,4 @@ pub returns : goal.returns
 returns g c =
     let t = tenure g (goal.at.returns g c).After-deref_mut in
     let a = after_one t c.changes-changes.ensures.event _ (g.met.P.BoardProtocol.last_is _) c.leave.result c.leave.ensures in
-    listed t a (λ us. us.items) c.args.view c.changes-changes.result c.changes-changes.ensures.looked c.changes-changes.ensures.accepted c.changes-changes.ensures.differences c.changes-changes.ensures.refused
+    listed t a g.A.Access.tries (λ us. us.items) c.args.view c.changes-changes.result c.changes-changes.ensures.looked c.changes-changes.ensures.accepted c.changes-changes.ensures.differences c.changes-changes.ensures.refused

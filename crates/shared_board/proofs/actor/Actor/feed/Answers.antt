@@ -40,4 +40,4 @@ pub returns : goal.returns
 returns g c =
     let t = tenure g (goal.at.returns g c).After-deref_mut in
     let a = after_one t c.feed-told.ensures.event _ (g.met.P.BoardProtocol.last_is _) c.leave.result c.leave.ensures in
-    done t a (λ n. Feed n (change_to c.args.input c.args.update)) (λ p w. feed_refusal_in g.T.PartialOrder.times p w (change_to c.args.input c.args.update)) c.feed-told.result c.feed-told.ensures.fed c.feed-told.ensures.unchanged c.feed-told.ensures.accepted c.feed-told.ensures.refused
+    done t a g.A.Access.tries (λ n. Feed n (change_to c.args.input c.args.update)) (λ p w. feed_refusal_in g.T.PartialOrder.times p w (change_to c.args.input c.args.update)) c.feed-told.result c.feed-told.ensures.fed c.feed-told.ensures.unchanged c.feed-told.ensures.accepted c.feed-told.ensures.refused

@@ -31,4 +31,4 @@ pub returns : goal.returns
 returns g c =
     let t = tenure g (goal.at.returns g c).After-deref_mut in
     let a = after_one t c.frontier-found.ensures.event _ (g.met.P.BoardProtocol.last_is _) c.leave.result c.leave.ensures in
-    answered t a (λ p w found. SameElements found (frontier g.T.PartialOrder.times p w c.args.view)) _ c.frontier-found.result c.frontier-found.ensures.looked c.frontier-found.ensures.frontier c.frontier-found.ensures.refused
+    answered t a g.A.Access.tries (λ p w found. SameElements found (frontier g.T.PartialOrder.times p w c.args.view)) _ c.frontier-found.result c.frontier-found.ensures.looked c.frontier-found.ensures.frontier c.frontier-found.ensures.refused

@@ -35,4 +35,4 @@ pub returns : goal.returns
 returns g c =
     let t = tenure g (goal.at.returns g c).After-deref_mut in
     let a = after_one t c.read-rows.ensures.event _ (g.met.P.BoardProtocol.last_is _) c.leave.result c.leave.ensures in
-    read t a c.args.view c.args.t c.read-rows.result c.read-rows.ensures.looked c.read-rows.ensures.accepted c.read-rows.ensures.bag c.read-rows.ensures.query c.read-rows.ensures.refused
+    read t a g.A.Access.tries c.args.view c.args.t c.read-rows.result c.read-rows.ensures.looked c.read-rows.ensures.accepted c.read-rows.ensures.bag c.read-rows.ensures.query c.read-rows.ensures.refused
