@@ -5,7 +5,7 @@ use Rattle.lattice.specs.declared.product.Pair.{Pair}
 use Rattle.std.specs.Prelude.{Result}
 use Rattle.update.specs.declared.change.Update.{Update}
 use Rattle.update.specs.declared.refusal.Refusal.{Refusal}
-use Rattle.shared_board.specs.Found.{dataflow_of}
+use Rattle.shared_board.specs.Found.{IsChangesRefusalFound, dataflow_of}
 use Rattle.shared_board.specs.Tenures.{HasLargeListed, changes_refusal_in, state_found}
 use Rattle.shared_board.specs.declared.event.BoardEvent.{BoardEvent}
 use Rattle.engines.specs.Answers.{FindsChanges}
@@ -47,5 +47,5 @@ returns-clause-answered g c s =
       | in-Err z ↦ subst (Answered k) (sym z.result-is)
           (λ a. refused_alike (HasLargeListed bitime_times p w v) (IsLarge p.nodes s) (changes_refusal_in bitime_times w v) _ z.in-Err.refusal
           (same_changes_refusal bitime_times bitime_order p asked.dataflow w s (asked.found s a) v asked.caught)
-          (large_changes bitime_order bitime_bounds bitime_extends bitime_total p asked.dataflow w s (asked.found s a) v asked.within) (refused_there k new _ _ z.in-Err.ensures).1)
+          (large_changes bitime_order bitime_bounds bitime_extends bitime_total p asked.dataflow w s (asked.found s a) v asked.within) (refused_there k new (IsChangesRefusalFound bitime_times k new v) z.in-Err.refusal z.in-Err.ensures).1)
     ])

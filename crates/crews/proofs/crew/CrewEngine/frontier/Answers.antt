@@ -1,9 +1,10 @@
-use Rattle.std.proofs.Common.{ℕ, List, refl, inl, inr, sym, subst}
+use Rattle.std.proofs.Common.{◌≡◌, ℕ, List, refl, inl, inr, sym, subst}
 use Rattle.lattice.specs.Bitimes.{bitime_times}
 use Rattle.hub.specs.Known.{Known}
 use Rattle.lattice.specs.declared.product.Pair.{Pair}
 use Rattle.std.specs.Prelude.{Result}
 use Rattle.update.specs.declared.refusal.Refusal.{Refusal}
+use Rattle.update.specs.declared.refusal.Refusal.TheVariants.{OutOfMemory}
 use Rattle.shared_board.specs.Found.{dataflow_of}
 use Rattle.shared_board.specs.Tenures.{state_found}
 use Rattle.shared_board.specs.declared.event.BoardEvent.{BoardEvent}
@@ -37,5 +38,5 @@ returns-clause-answered g c s =
     (elim c.match-frontier.branch [
       | in-Ok z ↦ subst (Answered k) (sym z.result-is)
           (λ a. (refl, frontier_found bitime_times bitime_order (dataflow_of k) asked.dataflow (state_found bitime_times new) s (asked.found s a) v asked.caught bitime_total bitime_extends.exact z.in-Ok.frontier z.known-in-Ok.ensures z.in-Ok.ensures.1))
-      | in-Err z ↦ subst (Answered k) (sym z.result-is) (λ a. inr (inl (refused_there k new _ _ z.in-Err.ensures).1))
+      | in-Err z ↦ subst (Answered k) (sym z.result-is) (λ a. inr (inl (refused_there k new (λ refusal. refusal ≡ OutOfMemory) z.in-Err.refusal z.in-Err.ensures).1))
     ])
