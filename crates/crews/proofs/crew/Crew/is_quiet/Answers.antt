@@ -1,7 +1,11 @@
 use Rattle.lattice.specs.Bitimes.{bitime_times}
 use Rattle.engines.proofs.BitimeLemmas.{bitime_order}
 use Rattle.crews.proofs.BoardStateLemmas.{still_stands}
+use Rattle.crews.proofs.TurnLemmas.{never}
 use Rattle.crews.proofs.crew.Crew.is_quiet.Goals as goal
+
+pub unreachable-requires : goal.unreachable-requires
+unreachable-requires g c = never c.in_default.ensures
 
 pub returns-clause-stands : goal.returns-clause-stands
 returns-clause-stands g c s =

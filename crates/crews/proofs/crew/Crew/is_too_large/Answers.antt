@@ -10,7 +10,11 @@ use Rattle.engines.specs.Bounds.{IsLarge}
 use Rattle.engines.proofs.BitimeLemmas.{bitime_bounds, bitime_extends, bitime_order, bitime_total}
 use Rattle.crews.specs.BoardStates.{StandsAs}
 use Rattle.crews.proofs.BoardStateLemmas.{client_step, large_session, session_found, still_stands}
+use Rattle.crews.proofs.TurnLemmas.{never}
 use Rattle.crews.proofs.crew.Crew.is_too_large.Goals as goal
+
+pub unreachable-requires : goal.unreachable-requires
+unreachable-requires g c = never c.in_default.ensures
 
 pub returns-clause-stands : goal.returns-clause-stands
 returns-clause-stands g c s =
