@@ -4,7 +4,7 @@
 //! what went wrong.
 ghost use Rattle.std.specs.Prelude.{◌≡◌, ℕ, List, Some, IfErr, OnOk, option_map};
 ghost use Rattle.grammar.specs.Scripts.{Answers, script_of};
-ghost use Rattle.script.specs.RunEnds.{failures};
+ghost use Rattle.script.specs.Ends.{TookBeginning};
 ghost use Rattle.output.specs.Outs.{IsBeginning};
 ghost use Rattle.script.specs.declared.fault.RunFault.TheVariants.{Refused};
 ghost use Rattle.bitview.specs.Actions.{IsPartBeforeOverflow, asked_text, check_text};
@@ -147,9 +147,8 @@ fn write_asked<R: Threads + Wait + Sync, W: Out, V: Watch>(
 ) -> Result<(), RunFault>
     requires { IsInRange action }
     ensures written { OnOk result (W.took out.old (asked_text action.entry script.now) 0 out.new) }
-    ensures beginning { IfErr result (λ fault. (part : List ℕ)
-        × IsBeginning part (asked_text action.entry script.now)
-        × W.took out.old part (failures fault) out.new) }
+    ensures beginning { IfErr result
+        (TookBeginning W.took out.old out.new (asked_text action.entry script.now)) }
     ensures overflow { IfErr result (λ fault. fault ≡ Refused 10 → (part : List ℕ)
         × IsBeginning part (asked_text action.entry script.now)
         × IsPartBeforeOverflow action.entry script.now part × W.took out.old part 0 out.new) }
@@ -166,8 +165,8 @@ fn write_asked<R: Threads + Wait + Sync, W: Out, V: Watch>(
 // Writes the numbers of nodes and commands of a script.
 fn write_size<W: Out>(alloc: Global, script: &Script, out: &mut W) -> Result<(), RunFault>
     ensures written { OnOk result (W.took out.old (check_text script.now) 0 out.new) }
-    ensures beginning { IfErr result (λ fault. (part : List ℕ)
-        × IsBeginning part (check_text script.now) × W.took out.old part (failures fault) out.new) }
+    ensures beginning { IfErr result
+        (TookBeginning W.took out.old out.new (check_text script.now)) }
     ensures overflow { IfErr result (λ fault. fault ≡ Refused 10 → ⊥) }
 {
     let nodes = script.nodes();

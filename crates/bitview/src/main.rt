@@ -180,6 +180,22 @@ fn perform_comparison<R: Files + AllocGlobal + Eprint + Threads + Wait + Sync, W
     Ok(compare(rt, alloc, comparison, bytes, out, &mut error))
 }
 
+// The bytes of two files. If one was not read, then the status that tells so.
+fn both_bytes_of<R: Files + AllocGlobal + Eprint>(
+    rt: &R,
+    first: &str,
+    second: &str,
+) -> Result<Result<(Vec<u8>, Vec<u8>), u8>, AllocError> {
+    let mut error = StandardError { runtime: rt };
+    let Some(first_bytes) = bytes_of(rt, first)? else {
+        return Ok(Err(unread(first, &mut error)));
+    };
+    let Some(second_bytes) = bytes_of(rt, second)? else {
+        return Ok(Err(unread(second, &mut error)));
+    };
+    Ok(Ok((first_bytes, second_bytes)))
+}
+
 // Reads a schema and a CSV file, and writes the command file and the dictionary that they make.
 fn perform_import<R: Files + AllocGlobal + Eprint, W: Out>(
     rt: &R,
@@ -188,13 +204,11 @@ fn perform_import<R: Files + AllocGlobal + Eprint, W: Out>(
     table: &str,
     out: &mut W,
 ) -> Result<u8, AllocError> {
+    let (schema_bytes, table_bytes) = match both_bytes_of(rt, schema, table)? {
+        Ok(both) => both,
+        Err(status) => return Ok(status),
+    };
     let mut error = StandardError { runtime: rt };
-    let Some(schema_bytes) = bytes_of(rt, schema)? else {
-        return Ok(unread(schema, &mut error));
-    };
-    let Some(table_bytes) = bytes_of(rt, table)? else {
-        return Ok(unread(table, &mut error));
-    };
     let schema = Source {
         name: schema,
         bytes: schema_bytes.as_slice(),
@@ -256,13 +270,11 @@ fn perform_show<R: Files + AllocGlobal + Eprint, W: Out>(
     text: &str,
     out: &mut W,
 ) -> Result<u8, AllocError> {
+    let (dictionary_bytes, text_bytes) = match both_bytes_of(rt, dictionary, text)? {
+        Ok(both) => both,
+        Err(status) => return Ok(status),
+    };
     let mut error = StandardError { runtime: rt };
-    let Some(dictionary_bytes) = bytes_of(rt, dictionary)? else {
-        return Ok(unread(dictionary, &mut error));
-    };
-    let Some(text_bytes) = bytes_of(rt, text)? else {
-        return Ok(unread(text, &mut error));
-    };
     let dictionary = Source {
         name: dictionary,
         bytes: dictionary_bytes.as_slice(),

@@ -3,13 +3,13 @@ ghost use Rattle.std.specs.Prelude.{◌≡◌, ◌⊎◌, IfErr};
 
 use crate::actions::end;
 use crate::writers::Told;
-use dictionary::{Dictionary, DictionaryFault, Problem, dictionary_text, read_dictionary};
-use importer::{ImportFault, Imported, Schema, SchemaFault, SchemaProblem, import, read_schema};
+use dictionary::{Dictionary, Problem, dictionary_text, read_dictionary};
+use importer::{ImportFault, Imported, Schema, SchemaProblem, import, read_schema};
 use output::{MemoryOut, Out};
-use presenter::{ShowFault, ShowProblem, show};
+use presenter::{ShowProblem, show};
 use script::RunFault;
 use std::alloc::Global;
-use std::fmt::Write;
+use std::fmt::{Display, Write};
 
 /// A file that was read: its name, for messages, and its bytes.
 #[derive(Clone, Copy)]
@@ -40,23 +40,11 @@ fn without_memory<E: Out>(error: &mut E) -> u8
     end(RunFault::Refused(1), error)
 }
 
-// Reports what is wrong with a schema.
-fn refuse_schema<E: Out>(name: &str, fault: &SchemaFault, error: &mut E) -> u8
+// Reports what is wrong with a file, or that memory was refused.
+fn refuse_file<F: Display, E: Out>(name: &str, fault: &F, for_memory: bool, error: &mut E) -> u8
     ensures { (result ≡ 2) ⊎ (result ≡ 3) }
 {
-    if let SchemaProblem::OutOfMemory = fault.problem {
-        return without_memory(error);
-    }
-    let _told = writeln!(Told { error }, "{name}: {fault}");
-    2
-}
-
-// Reports what is wrong with a CSV file. The text is put into memory, so no output failed but for
-// want of memory.
-fn refuse_table<E: Out>(name: &str, fault: &ImportFault, error: &mut E) -> u8
-    ensures { (result ≡ 2) ⊎ (result ≡ 3) }
-{
-    if let ImportFault::OutOfMemory | ImportFault::Write = fault {
+    if for_memory {
         return without_memory(error);
     }
     let _told = writeln!(Told { error }, "{name}: {fault}");
@@ -75,7 +63,11 @@ fn make_by<E: Out>(
     let mut commands = MemoryOut::new(alloc);
     match import(alloc, schema, table.bytes, &mut commands) {
         Ok(imported) => with_dictionary(alloc, commands, &imported, error),
-        Err(fault) => Err(refuse_table(table.name, &fault, error)),
+        // The text is put into memory, so no output failed but for want of memory.
+        Err(fault) => {
+            let memory = matches!(&fault, ImportFault::OutOfMemory | ImportFault::Write);
+            Err(refuse_file(table.name, &fault, memory, error))
+        }
     }
 }
 
@@ -115,31 +107,9 @@ pub(crate) fn make<E: Out>(
 {
     match read_schema(alloc, schema.bytes) {
         Ok(read) => make_by(alloc, &read, table, error),
-        Err(fault) => Err(refuse_schema(schema.name, &fault, error)),
-    }
-}
-
-// Reports what is wrong with a dictionary.
-fn refuse_dictionary<E: Out>(name: &str, fault: &DictionaryFault, error: &mut E) -> u8
-    ensures { (result ≡ 2) ⊎ (result ≡ 3) }
-{
-    if let Problem::OutOfMemory = fault.problem {
-        return without_memory(error);
-    }
-    let _told = writeln!(Told { error }, "{name}: {fault}");
-    2
-}
-
-// Reports what is wrong with the text of a run, or with the output.
-fn refuse_text<E: Out>(name: &str, fault: &ShowFault, error: &mut E) -> u8
-    ensures { (result ≡ 2) ⊎ (result ≡ 3) }
-{
-    match fault.problem {
-        ShowProblem::OutOfMemory => without_memory(error),
-        ShowProblem::Write => end(RunFault::Write, error),
-        _ => {
-            let _told = writeln!(Told { error }, "{name}: {fault}");
-            2
+        Err(fault) => {
+            let memory = matches!(&fault.problem, SchemaProblem::OutOfMemory);
+            Err(refuse_file(schema.name, &fault, memory, error))
         }
     }
 }
@@ -156,7 +126,13 @@ fn show_by<W: Out, E: Out>(
 {
     match show(alloc, dictionary, text.bytes, out) {
         Ok(()) => 0,
-        Err(fault) => refuse_text(text.name, &fault, error),
+        Err(fault) => {
+            if let ShowProblem::Write = fault.problem {
+                return end(RunFault::Write, error);
+            }
+            let memory = matches!(fault.problem, ShowProblem::OutOfMemory);
+            refuse_file(text.name, &fault, memory, error)
+        }
     }
 }
 
@@ -176,6 +152,9 @@ pub(crate) fn show_text<W: Out, E: Out>(
 {
     match read_dictionary(alloc, dictionary.bytes) {
         Ok(read) => show_by(alloc, &read, text, out, error),
-        Err(fault) => refuse_dictionary(dictionary.name, &fault, error),
+        Err(fault) => {
+            let memory = matches!(fault.problem, Problem::OutOfMemory);
+            refuse_file(dictionary.name, &fault, memory, error)
+        }
     }
 }

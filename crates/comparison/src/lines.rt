@@ -1,7 +1,7 @@
 //! The lines of a difference, printed into a buffer and passed on to the output in large pieces.
 ghost use Rattle.std.specs.Prelude.{◌≡◌, ◌<◌, ◌+◌, ◌^◌, ◌++◌, ℤ, List, [], if◌then◌else◌, IfErr, IfOk, OnOk};
 ghost use Rattle.std.specs.List.{count_by, flat_map};
-ghost use Rattle.output.specs.Outs.{Wrote, Broke};
+ghost use Rattle.output.specs.Outs.{Broke, IsPrinted};
 ghost use Rattle.update.specs.Bags.{entry_of};
 ghost use Rattle.update.specs.Text.{entry_text};
 ghost use Rattle.comparison.specs.Differences.{AreRowsOfEither, is_removal, is_addition, removal_text, addition_text, change_text, totals_text, changes_text, difference_text};
@@ -51,12 +51,8 @@ fn print_line<W: Out>(
     weight: i64,
     row: &Row,
 ) -> Result<(), PrintFault>
-    ensures wrote { OnOk result
-        (Wrote W.took out.old buffer.old
-        (sign.now ++ entry_text (entry_of row.now weight)) out.new buffer.new) }
-    ensures broke { IfErr result
-        (λ fault. Broke W.took out.old buffer.old
-        (sign.now ++ entry_text (entry_of row.now weight)) (failures fault) out.new) }
+    ensures { IsPrinted W.took failures out.old buffer.old
+        (sign.now ++ entry_text (entry_of row.now weight)) out.new buffer.new result }
 {
     buffer.push(sign)?;
     buffer.print_row(weight, row)?;
@@ -70,11 +66,8 @@ fn print_removal<W: Out>(
     out: &mut W,
     change: &Change,
 ) -> Result<(), PrintFault>
-    ensures wrote { OnOk result
-        (Wrote W.took out.old buffer.old (removal_text change.now) out.new buffer.new) }
-    ensures broke { IfErr result
-        (λ fault. Broke W.took out.old buffer.old (removal_text change.now)
-        (failures fault) out.new) }
+    ensures { IsPrinted W.took failures out.old buffer.old
+        (removal_text change.now) out.new buffer.new result }
 {
     if change.is_removal() {
         print_line(buffer, out, "- ", change.before, &change.row)?;
@@ -88,11 +81,8 @@ fn print_addition<W: Out>(
     out: &mut W,
     change: &Change,
 ) -> Result<(), PrintFault>
-    ensures wrote { OnOk result
-        (Wrote W.took out.old buffer.old (addition_text change.now) out.new buffer.new) }
-    ensures broke { IfErr result
-        (λ fault. Broke W.took out.old buffer.old (addition_text change.now)
-        (failures fault) out.new) }
+    ensures { IsPrinted W.took failures out.old buffer.old
+        (addition_text change.now) out.new buffer.new result }
 {
     if change.is_addition() {
         print_line(buffer, out, "+ ", change.after, &change.row)?;
@@ -106,11 +96,8 @@ fn print_change<W: Out>(
     out: &mut W,
     change: &Change,
 ) -> Result<(), PrintFault>
-    ensures wrote { OnOk result
-        (Wrote W.took out.old buffer.old (change_text change.now) out.new buffer.new) }
-    ensures broke { IfErr result
-        (λ fault. Broke W.took out.old buffer.old (change_text change.now)
-        (failures fault) out.new) }
+    ensures { IsPrinted W.took failures out.old buffer.old
+        (change_text change.now) out.new buffer.new result }
 {
     print_removal(buffer, out, change)?;
     print_addition(buffer, out, change)?;
@@ -124,15 +111,11 @@ fn print_changes<W: Out>(
     before: &Bag,
     after: &Bag,
 ) -> Result<Totals, PrintFault>
-    ensures wrote { OnOk result
-        (Wrote W.took out.old buffer.old
-        (flat_map change_text (merged before.now after.now)) out.new buffer.new) }
+    ensures printed { IsPrinted W.took failures out.old buffer.old
+        (flat_map change_text (merged before.now after.now)) out.new buffer.new result }
     ensures counted { IfOk result (λ totals.
         (totals.removals ≡ count_by is_removal (merged before.now after.now))
         × (totals.additions ≡ count_by is_addition (merged before.now after.now))) }
-    ensures broke { IfErr result
-        (λ fault. Broke W.took out.old buffer.old
-        (flat_map change_text (merged before.now after.now)) (failures fault) out.new) }
 {
     let mut at = Cursors {
         before: 0,
@@ -156,12 +139,8 @@ fn print_totals<W: Out>(
     out: &mut W,
     totals: Totals,
 ) -> Result<(), PrintFault>
-    ensures wrote { OnOk result
-        (Wrote W.took out.old buffer.old
-        (totals_text totals.removals totals.additions) out.new buffer.new) }
-    ensures broke { IfErr result
-        (λ fault. Broke W.took out.old buffer.old
-        (totals_text totals.removals totals.additions) (failures fault) out.new) }
+    ensures { IsPrinted W.took failures out.old buffer.old
+        (totals_text totals.removals totals.additions) out.new buffer.new result }
 {
     let removals = totals.removals;
     let additions = totals.additions;
@@ -179,12 +158,8 @@ fn print_difference<W: Out>(
     before: &Bag,
     after: &Bag,
 ) -> Result<(), PrintFault>
-    ensures wrote { OnOk result
-        (Wrote W.took out.old buffer.old
-        (changes_text (merged before.now after.now)) out.new buffer.new) }
-    ensures broke { IfErr result
-        (λ fault. Broke W.took out.old buffer.old
-        (changes_text (merged before.now after.now)) (failures fault) out.new) }
+    ensures { IsPrinted W.took failures out.old buffer.old
+        (changes_text (merged before.now after.now)) out.new buffer.new result }
 {
     let totals = print_changes(buffer, out, before, after)?;
     print_totals(alloc, buffer, out, totals)?;

@@ -34,7 +34,7 @@ use Rattle.outstanding.specs.Inputs.{feed_faults, advance_faults}
 use Rattle.outstanding.proofs.OpenLemmas.{first_front, open_set}
 use Rattle.histories.proofs.HistoryLemmas.PlaceLemmas.{in_place_lem}
 use Rattle.histories.proofs.HistoryLemmas.QuietLemmas.{caught_up_lem}
-use Rattle.grammar.specs.Commands.{is_input_of}
+use Rattle.grammar.specs.Commands.{is_input_of, is_view_of}
 use Rattle.shared_board.specs.declared.event.BoardEvent.{BoardEvent}
 use Rattle.shared_board.specs.Found.{dataflow_of}
 use Rattle.shared_board.specs.Large.{HasNoSmallBound}
@@ -113,6 +113,33 @@ module _ {T : Type 0} (times : Times T) (o : PartialOrderLaws times) where
 
   pub after_looked : (old new : Known (BoardEvent T)) (actor : ℕ) (s : Session T) → IsClientStep old new (Look actor) → StandsAs times old s → StandsAs times new s
   after_looked old new actor s step a = stood old new (Look actor) s step (session_found (dataflow_of old) (state_left times old) (state_found times new) s step.clients a)
+
+  -- a question leaves what the engine stands for
+  pub still_stands : (old new : Known (BoardEvent T)) {e : Known (BoardEvent T)} → old.number ≡ (dataflow_of old).workers → (opening_in old.seen).actors ≡ (dataflow_of old).workers + 1 → IsActor times new → IsNextTenure old (Look old.number) new → old ≡ e
+      → (s : Session T) → StandsAs times e s → StandsAs times new s
+  still_stands old new number one actor looked same s =
+      subst (λ (k : Known (BoardEvent T)). StandsAs times k s → StandsAs times new s) same
+      (λ a. after_looked old new old.number s (client_step old new (Look old.number) number one actor looked) a)
+
+  -- what a question about a view of a board that had caught up found
+  pub record IsAskedOf (old new : Known (BoardEvent T)) (v : ℕ) : Type 0 where
+    pub dataflow : IsDataflow (dataflow_of old)
+    pub within : v < length (dataflow_of old).nodes
+    pub caught : SameElements (frontier times (dataflow_of old) (state_found times new) v) (least times (open_for times (dataflow_of old).nodes (λ i. open_at i (state_found times new).open_times) v))
+    pub found : (s : Session T) → StandsAs times old s → HasSession (dataflow_of old) (state_found times new) s
+
+  pub asked_of : (old new : Known (BoardEvent T)) {e : Known (BoardEvent T)} → old.number ≡ (dataflow_of old).workers → (opening_in old.seen).actors ≡ (dataflow_of old).workers + 1 → IsActor times new → IsNextTenure old (Look old.number) new → old ≡ e
+      → (v : ℕ) → IsTrue (is_view_of (dataflow_of e).nodes v) → IsQuiet times (dataflow_of e) (state_left times e) → IsAskedOf old new v
+  asked_of old new number one actor looked same v view quiet =
+      let step = client_step old new (Look old.number) number one actor looked in
+      let there = subst (λ (k : Known (BoardEvent T)). IsTrue (is_view_of (dataflow_of k).nodes v)) (sym same) view in
+      let still = subst (λ (k : Known (BoardEvent T)). IsQuiet times (dataflow_of k) (state_left times k)) (sym same) quiet in
+      record {
+        dataflow = step.dataflow;
+        within = ltb-true v (length (dataflow_of old).nodes) (and_parts _ _ there).0;
+        caught = step.caught v (subst (IsQuiet times (dataflow_of old)) (sym (step.quiet still)) still);
+        found = λ s. session_found (dataflow_of old) (state_left times old) (state_found times new) s step.clients;
+      }
 
   pub after_fed : (old new : Known (BoardEvent T)) (client : ℕ) (f : Fed T) (s : Session T) → IsClientStep old new (Feed client f) → StandsAs times old s → StandsAs times new (with_change f s)
   after_fed old new client f s step a =

@@ -6,8 +6,6 @@ use Rattle.atomic_table.specs.Seated.{TableId}
 use Rattle.hub.specs.Histories.{entry}
 use Rattle.hub.specs.Known.{Known}
 use Rattle.lattice.specs.Bitimes.{bitime_times, Bitime}
-use Rattle.lattice.specs.Naturals.{nat_order}
-use Rattle.lattice.specs.Pairs.{pair_order}
 use Rattle.plan.specs.Rules.{IsPlan}
 use Rattle.plan.specs.declared.node.Node.{Node}
 use Rattle.histories.specs.declared.event.Event.TheVariants.{Look}
@@ -17,6 +15,7 @@ use Rattle.shared_board.specs.Found.{dataflow_of}
 use Rattle.shared_board.specs.Tenures.{IsActor, IsFirst, doing, state_left, opening_for}
 use Rattle.crews.specs.BoardStates.{StandsAs}
 use Rattle.engines.specs.Bitemporal.{opening_session}
+use Rattle.engines.proofs.BitimeLemmas.{bitime_order}
 use Rattle.crews.proofs.BoardStateLemmas.{first_stands}
 
 module _ (p : List Node) where
@@ -43,4 +42,4 @@ module _ (p : List Node) where
   client_stands plan hub =
       let actor = looked_actor plan hub in
       let first = looked_first hub in
-      (looked hub, actor, first, first_stands bitime_times (pair_order nat_order nat_order) p 1 (looked hub) actor first, record { in_flight = refl; hand = λ k l. refl; held = refl })
+      (looked hub, actor, first, first_stands bitime_times bitime_order p 1 (looked hub) actor first, record { in_flight = refl; hand = λ k l. refl; held = refl })

@@ -12,7 +12,7 @@ use lattice::{Bitime, Minimum};
 use machine::Bundle;
 use plan::{Node, NodeId, Plan, PlanBuilder};
 use row::Row;
-use shared_board::{Actor, Boards, Taken, open, others_change_nothing_of_a_worker};
+use shared_board::{Actor, Boards, InTurn, Taken, open, others_change_nothing_of_a_worker};
 use std::alloc::Global;
 use std::marker::Model;
 use std::process::Abort;
@@ -49,38 +49,39 @@ impl<T: Minimum> Client<T> {
             row: Row::new(alloc, &[7])?,
             diff: 1,
         };
-        self.actor.feed(rt, NodeId::new(0), update)
+        self.actor.feed(&InTurn(rt), NodeId::new(0), update)
     }
 
     // Moves the frontier of the input to one time.
     fn advance<R: Wait>(&mut self, rt: &R, alloc: Global, time: T) -> Result<(), Refusal> {
         let mut times = Vec::new(alloc);
         times.push(time)?;
-        self.actor.advance(rt, NodeId::new(0), times.as_slice())
+        self.actor
+            .advance(&InTurn(rt), NodeId::new(0), times.as_slice())
     }
 
-    fn close<R: Wait>(&mut self, rt: &R) {
-        self.actor.close(rt, NodeId::new(0));
+    fn close<R: Wait>(&mut self, rt: &R) -> Result<(), Refusal> {
+        self.actor.close(&InTurn(rt), NodeId::new(0))
     }
 
     fn frontier<R: Wait>(&mut self, rt: &R) -> Result<Antichain<T>, Refusal> {
-        self.actor.frontier(rt, NodeId::new(1))
+        self.actor.frontier(&InTurn(rt), NodeId::new(1))
     }
 
     fn read<R: Wait>(&mut self, rt: &R, time: T) -> Result<Bag, Refusal> {
-        self.actor.read(rt, NodeId::new(1), time)
+        self.actor.read(&InTurn(rt), NodeId::new(1), time)
     }
 
     fn changes<R: Wait>(&mut self, rt: &R) -> Result<Vec<Update<T>>, Refusal> {
-        self.actor.changes(rt, NodeId::new(1))
+        self.actor.changes(&InTurn(rt), NodeId::new(1))
     }
 
-    fn is_quiet<R: Wait>(&mut self, rt: &R) -> bool {
-        self.actor.is_quiet(rt)
+    fn is_quiet<R: Wait>(&mut self, rt: &R) -> Result<bool, Refusal> {
+        self.actor.is_quiet(&InTurn(rt))
     }
 
-    fn is_too_large<R: Wait>(&mut self, rt: &R) -> bool {
-        self.actor.is_too_large(rt)
+    fn is_too_large<R: Wait>(&mut self, rt: &R) -> Result<bool, Refusal> {
+        self.actor.is_too_large(&InTurn(rt))
     }
 }
 
@@ -175,13 +176,13 @@ fn is_answered<T: Minimum, R: Wait + Abort>(
         done => done?,
     };
     assert!(rt; changes.is_empty());
-    assert!(rt; !client.is_quiet(rt));
-    assert!(rt; !client.is_too_large(rt));
+    assert!(rt; !client.is_quiet(rt)?);
+    assert!(rt; !client.is_too_large(rt)?);
     let frontier = match client.frontier(rt) {
         Err(Refusal::OutOfMemory) => client.frontier(rt)?,
         done => done?,
     };
-    client.close(rt);
+    client.close(rt)?;
     Ok(frontier)
 }
 

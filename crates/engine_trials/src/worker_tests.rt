@@ -10,7 +10,7 @@ use crate::pairs::{Players, worker_and_client};
 use lattice::Bitime;
 use plan::{Kind, Node, NodeId, Plan, PlanBuilder};
 use row::Row;
-use shared_board::BitemporalBoards;
+use shared_board::{BitemporalBoards, InTurn};
 use std::alloc::Global;
 use std::sync::Wait;
 use std::test::Fail;
@@ -73,11 +73,12 @@ fn is_carried<R: Wait>(rt: &R, alloc: Global) -> Result<(bool, bool), Refusal> {
         row: Row::new(alloc, &[7])?,
         diff: 1,
     };
-    client.feed(rt, NodeId::new(0), update)?;
-    client.close(rt, NodeId::new(0));
-    let before = client.is_quiet(rt);
+    let access = InTurn(rt);
+    client.feed(&access, NodeId::new(0), update)?;
+    client.close(&access, NodeId::new(0))?;
+    let before = client.is_quiet(&access)?;
     let after = is_done(rt, alloc, &mut worker)?;
-    Ok((before, after && client.is_quiet(rt)))
+    Ok((before, after && client.is_quiet(&access)?))
 }
 
 #[test]

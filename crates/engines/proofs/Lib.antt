@@ -1,3 +1,4 @@
+pub mod BitimeLemmas
 pub mod BagLemmas
 pub mod OrderLemmas
 pub mod InputLemmas

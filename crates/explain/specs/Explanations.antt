@@ -37,3 +37,9 @@ module _ {W : Type 0} (took : W → List ℕ → ℕ → W → Type 0) where
   -- the output took some bytes, and this many calls failed
   abbrev pub TookSome : W → ℕ → W → Type 0
   TookSome out count later = (part : List ℕ) × took out part count later
+
+  -- how telling ends. Ok: some text was written. Err: the output took some bytes, and as many of its
+  -- calls failed as the fault says
+  abbrev pub HasTold : {A E : Type 0} → (E → ℕ) → W → List ℕ → W → List ℕ → Result A E → Type 0
+  HasTold failures out waiting later left (Ok done) = WroteSome out waiting later left
+  HasTold failures out waiting later left (Err fault) = TookSome out (failures fault) later

@@ -4,8 +4,8 @@
 //! enough. So what is written is a beginning that the caller gives, and then text of which the
 //! contracts say only that nothing but it is taken.
 ghost use Rattle.std.specs.Prelude.{ℕ, List, ◌++◌, IfErr, OnOk};
-ghost use Rattle.output.specs.Outs.{Wrote, Broke};
-ghost use Rattle.explain.specs.Explanations.{WroteSome, TookSome};
+ghost use Rattle.output.specs.Outs.{IsPrinted, Wrote};
+ghost use Rattle.explain.specs.Explanations.{HasTold, TookSome};
 ghost use Rattle.output.specs.Faults.{failures};
 
 use grammar::first_line;
@@ -29,9 +29,7 @@ pub(crate) trait Teller<'a> {
 
 // Prints the text.
 fn print<W: Out>(buffer: &mut OutputBuffer, out: &mut W, text: &str) -> Result<(), PrintFault>
-    ensures wrote { OnOk result (Wrote W.took out.old buffer.old text.now out.new buffer.new) }
-    ensures broke { IfErr result
-        (λ fault. Broke W.took out.old buffer.old text.now (failures fault) out.new) }
+    ensures { IsPrinted W.took failures out.old buffer.old text.now out.new buffer.new result }
 {
     buffer.push(text)?;
     buffer.pass_on(out)?;
@@ -47,8 +45,7 @@ fn print_line<'a, T: Teller<'a>, W: Out>(
     buffer: &mut OutputBuffer,
     out: &mut W,
 ) -> Result<(), PrintFault>
-    ensures wrote { OnOk result (WroteSome W.took out.old buffer.old out.new buffer.new) }
-    ensures broke { IfErr result (λ fault. TookSome W.took out.old (failures fault) out.new) }
+    ensures { HasTold W.took failures out.old buffer.old out.new buffer.new result }
 {
     let mut text = String::new(alloc);
     teller.tell_line(alloc, number, line, &mut text)?;
@@ -64,8 +61,7 @@ fn print_lines<'a, T: Teller<'a>, W: Out>(
     buffer: &mut OutputBuffer,
     out: &mut W,
 ) -> Result<(), PrintFault>
-    ensures wrote { OnOk result (WroteSome W.took out.old buffer.old out.new buffer.new) }
-    ensures broke { IfErr result (λ fault. TookSome W.took out.old (failures fault) out.new) }
+    ensures { HasTold W.took failures out.old buffer.old out.new buffer.new result }
 {
     let mut number: u64 = 1;
     let mut rest = bytes;
@@ -85,8 +81,7 @@ fn print_end<'a, T: Teller<'a>, W: Out>(
     buffer: &mut OutputBuffer,
     out: &mut W,
 ) -> Result<(), PrintFault>
-    ensures wrote { OnOk result (WroteSome W.took out.old buffer.old out.new buffer.new) }
-    ensures broke { IfErr result (λ fault. TookSome W.took out.old (failures fault) out.new) }
+    ensures { HasTold W.took failures out.old buffer.old out.new buffer.new result }
 {
     let mut text = String::new(alloc);
     teller.tell_end(alloc, &mut text)?;

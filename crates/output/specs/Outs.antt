@@ -1,5 +1,5 @@
 -- What has been written: the output took it, or it still waits in the buffer.
-use Rattle.std.specs.Prelude.{◌≡◌, ℕ, List, ◌++◌}
+use Rattle.std.specs.Prelude.{◌≡◌, ℕ, List, ◌++◌, Result, Ok, Err}
 
 -- `whole` begins with `part`
 abbrev pub IsBeginning : List ℕ → List ℕ → Type 0
@@ -19,3 +19,9 @@ module _ {W : Type 0} (took : W → List ℕ → ℕ → W → Type 0) where
     pub part : List ℕ
     pub taken : took out part failures later
     pub beginning : IsBeginning part (waiting ++ bytes)
+
+  -- how a print of these bytes ends. Ok: they were written. Err: the output broke while they were,
+  -- and as many of its calls failed as the fault says
+  abbrev pub IsPrinted : {A E : Type 0} → (E → ℕ) → W → List ℕ → List ℕ → W → List ℕ → Result A E → Type 0
+  IsPrinted failures out waiting bytes later left (Ok done) = Wrote out waiting bytes later left
+  IsPrinted failures out waiting bytes later left (Err fault) = Broke out waiting bytes (failures fault) later

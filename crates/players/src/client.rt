@@ -12,12 +12,12 @@ use antichain::Antichain;
 use lattice::Minimum;
 use plan::{NodeId, Plan};
 use session::Client as Caller;
-use shared_board::BoardProtocol;
+use shared_board::{AtOnce, BoardProtocol, InTurn};
 use std::alloc::Global;
 use std::sync::Wait;
 use update::{Bag, Refusal, Update};
 
-/// The client of a session. It makes each call by the twin that waits, or by the one that does not.
+/// The client of a session. It waits in each call, or in none.
 #[derive(Drop)]
 pub struct Client<T: Minimum, P: BoardProtocol<T>> {
     alloc: Global,
@@ -74,9 +74,10 @@ impl<T: Minimum, P: BoardProtocol<T>> Client<T, P> {
         if self.waits {
             return self
                 .client
-                .feed_wait(rt, self.alloc, input, columns, time, diff);
+                .feed(&InTurn(rt), self.alloc, input, columns, time, diff);
         }
-        self.client.feed(self.alloc, input, columns, time, diff)
+        self.client
+            .feed(&AtOnce, self.alloc, input, columns, time, diff)
     }
 
     /// Moves the frontier of an input.
@@ -90,9 +91,9 @@ impl<T: Minimum, P: BoardProtocol<T>> Client<T, P> {
             return Err(Refusal::UnknownName);
         }
         if self.waits {
-            return self.client.advance_wait(rt, input, frontier);
+            return self.client.advance(&InTurn(rt), input, frontier);
         }
-        self.client.advance(input, frontier)
+        self.client.advance(&AtOnce, input, frontier)
     }
 
     /// The frontier of a view.
@@ -101,9 +102,9 @@ impl<T: Minimum, P: BoardProtocol<T>> Client<T, P> {
             return Err(Refusal::UnknownName);
         }
         if self.waits {
-            return self.client.probe_wait(rt, view);
+            return self.client.probe(&InTurn(rt), view);
         }
-        self.client.probe(view)
+        self.client.probe(&AtOnce, view)
     }
 
     /// The rows of a view at a time.
@@ -112,9 +113,9 @@ impl<T: Minimum, P: BoardProtocol<T>> Client<T, P> {
             return Err(Refusal::UnknownName);
         }
         if self.waits {
-            return self.client.read_wait(rt, view, time);
+            return self.client.read(&InTurn(rt), view, time);
         }
-        self.client.read(view, time)
+        self.client.read(&AtOnce, view, time)
     }
 
     /// The changes of a view.
@@ -123,16 +124,16 @@ impl<T: Minimum, P: BoardProtocol<T>> Client<T, P> {
             return Err(Refusal::UnknownName);
         }
         if self.waits {
-            return self.client.changes_wait(rt, view);
+            return self.client.changes(&InTurn(rt), view);
         }
-        self.client.changes(view)
+        self.client.changes(&AtOnce, view)
     }
 
     /// Whether all that was fed has reached the views.
     pub fn is_quiet<R: Wait>(&mut self, rt: &R) -> Result<bool, Refusal> {
         if self.waits {
-            return Ok(self.client.quiet_wait(rt));
+            return self.client.quiet(&InTurn(rt));
         }
-        self.client.quiet()
+        self.client.quiet(&AtOnce)
     }
 }

@@ -1,11 +1,9 @@
 //! A run without workers. Each answer is computed from scratch, so it is slow, and easy to believe.
-ghost use Rattle.std.specs.Prelude.{◌≡◌, List, ℕ, IfErr, OnOk};
-ghost use Rattle.output.specs.Outs.{IsBeginning};
+ghost use Rattle.std.specs.Prelude.{IfErr, OnOk};
 ghost use Rattle.script.specs.Bounds.{IsLargeScript};
-ghost use Rattle.script.specs.Ends.{IsTextBeforeOverflow};
-ghost use Rattle.script.specs.RunEnds.{IsRunEnd, failures};
+ghost use Rattle.script.specs.Ends.{TookBeginning, TookTextBeforeOverflow};
+ghost use Rattle.script.specs.RunEnds.{IsRunEnd};
 ghost use Rattle.script.specs.Text.{text};
-ghost use Rattle.script.specs.declared.fault.RunFault.TheVariants.{Refused};
 
 use crate::fault::RunFault;
 use crate::run::run;
@@ -38,10 +36,8 @@ use std::alloc::Global;
 /// times as the number of distinct valid times multiplied by the number of distinct system times.
 pub fn plain_script<W: Out>(alloc: Global, script: &Script, out: &mut W) -> Result<(), RunFault>
     ensures written { OnOk result (W.took out.old (text script.now) 0 out.new) }
-    ensures beginning { IfErr result (λ fault. (part : List ℕ) × IsBeginning part (text script.now)
-        × W.took out.old part (failures fault) out.new) }
-    ensures overflow { IfErr result (λ fault. fault ≡ Refused 10
-        → (part : List ℕ) × IsTextBeforeOverflow script.now part × W.took out.old part 0 out.new) }
+    ensures beginning { IfErr result (TookBeginning W.took out.old out.new (text script.now)) }
+    ensures overflow { IfErr result (TookTextBeforeOverflow W.took out.old out.new script.now) }
     ensures known { IfErr result (IsRunEnd (IsLargeScript script.now)) }
 {
     plain_script_watched(alloc, script, out, &mut Unwatched)
@@ -56,10 +52,8 @@ pub fn plain_script_watched<W: Out, V: Watch>(
     watch: &mut V,
 ) -> Result<(), RunFault>
     ensures written { OnOk result (W.took out.old (text script.now) 0 out.new) }
-    ensures beginning { IfErr result (λ fault. (part : List ℕ) × IsBeginning part (text script.now)
-        × W.took out.old part (failures fault) out.new) }
-    ensures overflow { IfErr result (λ fault. fault ≡ Refused 10
-        → (part : List ℕ) × IsTextBeforeOverflow script.now part × W.took out.old part 0 out.new) }
+    ensures beginning { IfErr result (TookBeginning W.took out.old out.new (text script.now)) }
+    ensures overflow { IfErr result (TookTextBeforeOverflow W.took out.old out.new script.now) }
     ensures known { IfErr result (IsRunEnd (IsLargeScript script.now)) }
 {
     let mut engine = OracleEngine::open(alloc, script.plan())?;

@@ -2,15 +2,15 @@
 //!
 //! A crew's loop is the same with one thing more: before a question its workers run ahead. It is a
 //! function of its own, since threads need a runtime whose bounds stand at the function.
-ghost use Rattle.std.specs.Prelude.{◌≡◌, ◌⊎◌, ◌↔◌, ◌++◌, ℕ, List, [], IfErr, OnOk, IsErrOf};
+ghost use Rattle.std.specs.Prelude.{◌≡◌, ◌⊎◌, ◌↔◌, [], IfErr, OnOk, IsErrOf};
 ghost use Rattle.lattice.specs.Bitimes.{bitime_times};
 ghost use Rattle.update.specs.declared.refusal.Refusal.TheVariants.{Overflow};
 ghost use Rattle.grammar.specs.Commands.{IsAbout, IsQuestion};
 ghost use Rattle.shared_board.specs.Found.{dataflow_of};
 ghost use Rattle.session.specs.Openings.{AreCounts};
-ghost use Rattle.script.specs.Ends.{IsTextBefore, IsTextBeforeOverflow};
+ghost use Rattle.script.specs.Ends.{TookBeginning, TookTextBefore, TookTextBeforeOverflow};
 ghost use Rattle.script.specs.RunEnds.{IsCrewEnd, IsEnd, IsRunEnd, failures};
-ghost use Rattle.output.specs.Outs.{IsBeginning, Wrote, Broke};
+ghost use Rattle.output.specs.Outs.{Wrote, Broke};
 ghost use Rattle.crews.specs.BoardStates.{StandsAs};
 ghost use Rattle.engines.specs.Bitemporal.{BitemporalSession};
 ghost use Rattle.script.specs.Text.{HoldsAlong, after_command, lines_text, piece, text};
@@ -49,10 +49,8 @@ fn run_lines<E: CatchUp, W: Out, V: Watch>(
         (λ fault. Broke W.took out.old buffer.old (lines_text script.now s script.now.commands)
         (failures fault) out.new) }
     ensures overflow { (s : BitemporalSession) → E.stands engine.old s
-        → IfErr result (λ fault. fault ≡ Refused 10 → (part : List ℕ)
-        × IsTextBefore
-        (λ now. E.ends script.now.plan now Overflow) script.now s script.now.commands part
-        × W.took out.old (buffer.old ++ part) 0 out.new) }
+        → IfErr result (TookTextBefore W.took out.old out.new
+        (λ now. E.ends script.now.plan now Overflow) script.now s buffer.old) }
     ensures known { (s : BitemporalSession) → E.stands engine.old s
         → IfErr result
         (IsEnd (λ refusal. HoldsAlong
@@ -82,10 +80,8 @@ pub(crate) fn run<E: CatchUp, W: Out, V: Watch>(
         (λ fault. Broke W.took out.old [] (lines_text script.now s script.now.commands)
         (failures fault) out.new) }
     ensures overflow { (s : BitemporalSession) → E.stands engine.old s
-        → IfErr result (λ fault. fault ≡ Refused 10 → (part : List ℕ)
-        × IsTextBefore
-        (λ now. E.ends script.now.plan now Overflow) script.now s script.now.commands part
-        × W.took out.old part 0 out.new) }
+        → IfErr result (TookTextBefore W.took out.old out.new
+        (λ now. E.ends script.now.plan now Overflow) script.now s []) }
     ensures known { (s : BitemporalSession) → E.stands engine.old s
         → IfErr result
         (IsEnd (λ refusal. HoldsAlong
@@ -149,9 +145,8 @@ fn run_crew_lines<R: Threads + Wait + Sync, G: Gate + Sync, W: Out, V: Watch>(
         → IfErr result (λ fault. Broke W.took out.old buffer.old
         (lines_text script.now s script.now.commands) (failures fault) out.new) }
     ensures overflow { (s : BitemporalSession) → StandsAs bitime_times crew.old s
-        → IfErr result (λ fault. fault ≡ Refused 10 → (part : List ℕ)
-        × IsTextBefore (λ now. EndsByBound script.now.plan now Overflow) script.now s
-        script.now.commands part × W.took out.old (buffer.old ++ part) 0 out.new) }
+        → IfErr result (TookTextBefore W.took out.old out.new
+        (λ now. EndsByBound script.now.plan now Overflow) script.now s buffer.old) }
     ensures known { (s : BitemporalSession) → StandsAs bitime_times crew.old s
         → IfErr result (IsCrewEnd (λ refusal. HoldsAlong
         (λ now. EndsByBound script.now.plan now refusal) script.now.plan s script.now.commands)) }
@@ -179,9 +174,8 @@ fn run_crew<R: Threads + Wait + Sync, G: Gate + Sync, W: Out, V: Watch>(
         → IfErr result (λ fault. Broke W.took out.old []
         (lines_text script.now s script.now.commands) (failures fault) out.new) }
     ensures overflow { (s : BitemporalSession) → StandsAs bitime_times crew.old s
-        → IfErr result (λ fault. fault ≡ Refused 10 → (part : List ℕ)
-        × IsTextBefore (λ now. EndsByBound script.now.plan now Overflow) script.now s
-        script.now.commands part × W.took out.old part 0 out.new) }
+        → IfErr result (TookTextBefore W.took out.old out.new
+        (λ now. EndsByBound script.now.plan now Overflow) script.now s []) }
     ensures known { (s : BitemporalSession) → StandsAs bitime_times crew.old s
         → IfErr result (IsCrewEnd (λ refusal. HoldsAlong
         (λ now. EndsByBound script.now.plan now refusal) script.now.plan s script.now.commands)) }
@@ -227,10 +221,8 @@ pub fn run_script<R: Threads + Wait + Sync, G: Gate + Sync, W: Out>(
     gate: &G,
 ) -> Result<(), RunFault>
     ensures written { OnOk result (W.took out.old (text script.now) 0 out.new) }
-    ensures beginning { IfErr result (λ fault. (part : List ℕ) × IsBeginning part (text script.now)
-        × W.took out.old part (failures fault) out.new) }
-    ensures overflow { IfErr result (λ fault. fault ≡ Refused 10
-        → (part : List ℕ) × IsTextBeforeOverflow script.now part × W.took out.old part 0 out.new) }
+    ensures beginning { IfErr result (TookBeginning W.took out.old out.new (text script.now)) }
+    ensures overflow { IfErr result (TookTextBeforeOverflow W.took out.old out.new script.now) }
     ensures workers { IsErrOf result (Refused 23) ↔ (AreCounts workers 1 → ⊥) }
     ensures known { IfErr result (λ fault. IsRunEnd (IsLargeScript script.now) fault
         ⊎ ((fault ≡ Refused 23) ⊎ (fault ≡ Refused 24))) }
@@ -249,10 +241,8 @@ pub fn run_script_watched<R: Threads + Wait + Sync, G: Gate + Sync, W: Out, V: W
     watch: &mut V,
 ) -> Result<(), RunFault>
     ensures written { OnOk result (W.took out.old (text script.now) 0 out.new) }
-    ensures beginning { IfErr result (λ fault. (part : List ℕ) × IsBeginning part (text script.now)
-        × W.took out.old part (failures fault) out.new) }
-    ensures overflow { IfErr result (λ fault. fault ≡ Refused 10
-        → (part : List ℕ) × IsTextBeforeOverflow script.now part × W.took out.old part 0 out.new) }
+    ensures beginning { IfErr result (TookBeginning W.took out.old out.new (text script.now)) }
+    ensures overflow { IfErr result (TookTextBeforeOverflow W.took out.old out.new script.now) }
     ensures workers { IsErrOf result (Refused 23) ↔ (AreCounts workers 1 → ⊥) }
     ensures known { IfErr result (λ fault. IsRunEnd (IsLargeScript script.now) fault
         ⊎ ((fault ≡ Refused 23) ⊎ (fault ≡ Refused 24))) }

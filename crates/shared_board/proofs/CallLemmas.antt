@@ -20,10 +20,10 @@ use Rattle.histories.specs.Histories.Outstanding.{frontier}
 use Rattle.histories.specs.Histories.Promises.{changes_in}
 use Rattle.histories.specs.Histories.States.{State}
 use Rattle.shared_board.specs.declared.event.BoardEvent.{BoardEvent}
-use Rattle.shared_board.specs.Calls.{AreListed, IsAnswered, IsAnsweredInTurn, IsDone, IsDoneInTurn, IsRead}
+use Rattle.shared_board.specs.Calls.{AreListed, IsAnswered, IsDone, IsRead}
 use Rattle.shared_board.specs.Found.{IsChangesRefusalFound, IsReadRefusalFound}
 use Rattle.shared_board.specs.Large.{HasNoSmallBound}
-use Rattle.shared_board.specs.Tenures.{IsActor, Opening, SharedState, StandsFor, IsReadRefusalIn, IsChangesRefusalIn, changes_refusal_in, doing, left_by, opening_in, opening_of_board, read_refusal_in, state_found, state_left}
+use Rattle.shared_board.specs.Tenures.{InEachState, IsActor, Opening, SharedState, StandsFor, IsReadRefusalIn, IsChangesRefusalIn, changes_refusal_in, doing, left_by, opening_in, opening_of_board, read_refusal_in, state_found, state_left}
 use Rattle.shared_board.proofs.ActorLemmas.{IsIn, IsAfter, adds_as, looked, of_found, opening_found}
 use Rattle.lattice.specs.Times.{Times}
 
@@ -58,38 +58,38 @@ module _ {T S : Type 0} {times : Times T} {cmp : T → T → Ordering} {hub : Ta
       (λ n e. ap (λ (x : Opening). length (left_by times x.dataflow k.seen).fed) (opening_found t) ∙ counted n e)
       (subst (λ (x : Opening). HasNoSmallBound times cmp x.dataflow.nodes (changes_in (left_by times x.dataflow k.seen))) (sym (opening_found t)) cause)
 
--- how a call in the actor's turn ends
+-- how a call ends that found the board at home
 module _ {T S : Type 0} {times : Times T} {cmp : T → T → Ordering} {hub : TableId} {own : ℕ} {k n : Known (BoardEvent T)} {h : Tenure S (BoardEvent T)} {b : SharedState T} {event : Event T} {accepted : Option ℕ}
     (t : IsIn times cmp hub own k h b) (a : IsAfter times hub own k h.found event accepted n) where
   -- what a clause of the board's call says of all entries that the board may stand for
   abbrev pub Says : (Dataflow → State T → Type 0) → Type 0
-  Says F = (es : List (Entry (BoardEvent T))) → StandsFor times cmp b es → F b.board.dataflow (left_by times b.board.dataflow es)
+  Says F = InEachState times cmp b F
 
   found_so : (F : Dataflow → State T → Type 0) → Says F → F (opening_in k.seen).dataflow (state_found times n)
   found_so F says = of_found t F says n a
 
   -- the same, where the board was first asked and then called
-  pub found_at : (F : Dataflow → State T → Type 0) (x : SharedState T) → x ≡ b → ((es : List (Entry (BoardEvent T))) → StandsFor times cmp x es → F x.board.dataflow (left_by times x.board.dataflow es))
+  pub found_at : (F : Dataflow → State T → Type 0) (x : SharedState T) → x ≡ b → InEachState times cmp x F
       → F (opening_in k.seen).dataflow (state_found times n)
-  found_at F x same says = found_so F (subst (λ (y : SharedState T). (es : List (Entry (BoardEvent T))) → StandsFor times cmp y es → F y.board.dataflow (left_by times y.board.dataflow es)) same says)
+  found_at F x same says = found_so F (subst (λ (y : SharedState T). InEachState times cmp y F) same says)
 
-  pub done_in_turn : (at : ℕ → Event T) (fault : Dataflow → State T → Option Refusal) (r : Result (Unit {0}) Refusal) → OnOk r (event ≡ at own) → OnErr r (event ≡ Look own)
+  pub done : (Tries : Type 0) (at : ℕ → Event T) (fault : Dataflow → State T → Option Refusal) (r : Result (Unit {0}) Refusal) → OnOk r (event ≡ at own) → OnErr r (event ≡ Look own)
       → Says (λ p w. OnOk r (fault p w ≡ None)) → Says (λ p w. IfErr r (IsRefusalBy (fault p w)))
-      → IsDoneInTurn k n (at k.number) (fault (opening_in k.seen).dataflow (state_found times n)) (IsRefusalBy (fault (opening_in k.seen).dataflow (state_found times n))) r
-  done_in_turn at fault (Ok x) did looks accepts refuses = (adds_as a at did, found_so (λ p w. fault p w ≡ None) accepts)
-  done_in_turn at fault (Err x) did looks accepts refuses = (looked a looks, found_so (λ p w. IsRefusalBy (fault p w) x) refuses)
+      → IsDone Tries k n (at k.number) (fault (opening_in k.seen).dataflow (state_found times n)) (IsRefusalBy (fault (opening_in k.seen).dataflow (state_found times n))) r
+  done Tries at fault (Ok x) did looks accepts refuses = (adds_as a at did, found_so (λ p w. fault p w ≡ None) accepts)
+  done Tries at fault (Err x) did looks accepts refuses = inr (looked a looks, found_so (λ p w. IsRefusalBy (fault p w) x) refuses)
 
-  pub answered_in_turn : {A : Type 0} (Found : Dataflow → State T → A → Type 0) (Refused : Refusal → Type 0) (r : Result A Refusal) → event ≡ Look own
+  pub answered : (Tries : Type 0) {A : Type 0} (Found : Dataflow → State T → A → Type 0) (Refused : Refusal → Type 0) (r : Result A Refusal) → event ≡ Look own
       → Says (λ p w. IfOk r (Found p w)) → IfErr r Refused
-      → IsAnsweredInTurn k n (Found (opening_in k.seen).dataflow (state_found times n)) Refused r
-  answered_in_turn Found Refused (Ok x) looks finds refuses = (looked a looks, found_so (λ p w. Found p w x) finds)
-  answered_in_turn Found Refused (Err x) looks finds refuses = (looked a looks, refuses)
+      → IsAnswered Tries k n (Found (opening_in k.seen).dataflow (state_found times n)) Refused r
+  answered Tries Found Refused (Ok x) looks finds refuses = (looked a looks, found_so (λ p w. Found p w x) finds)
+  answered Tries Found Refused (Err x) looks finds refuses = inr (looked a looks, refuses)
 
-  pub read_in_turn : (v : ℕ) (x : T) (r : Result (List BagEntry) Refusal) → event ≡ Look own
+  pub read : (Tries : Type 0) (v : ℕ) (x : T) (r : Result (List BagEntry) Refusal) → event ≡ Look own
       → Says (λ p w. OnOk r (read_refusal_in times p w v x ≡ None)) → IfOk r IsBag → Says (λ p w. IfOk r (λ bag. Alike bag (query_at times p.nodes (changes_in w) v x)))
       → Says (λ p w. IfErr r (IsReadRefusalIn times p w v x))
-      → IsAnsweredInTurn k n (λ bag. IsRead times k n v x bag) (IsReadRefusalFound times k n v x) r
-  read_in_turn v x (Ok bag) looks accepts is_bag query refuses = (
+      → IsAnswered Tries k n (λ bag. IsRead times k n v x bag) (IsReadRefusalFound times k n v x) r
+  read Tries v x (Ok bag) looks accepts is_bag query refuses = (
     looked a looks,
     record {
       accepted = found_so (λ p w. read_refusal_in times p w v x ≡ None) accepts;
@@ -97,27 +97,17 @@ module _ {T S : Type 0} {times : Times T} {cmp : T → T → Ordering} {hub : Ta
       query = found_so (λ p w. Alike bag (query_at times p.nodes (changes_in w) v x)) query;
     },
   )
-  read_in_turn v x (Err e) looks accepts is_bag query refuses = (looked a looks, found_so (λ p w. IsReadRefusalIn times p w v x e) refuses)
+  read Tries v x (Err e) looks accepts is_bag query refuses = inr (looked a looks, found_so (λ p w. IsReadRefusalIn times p w v x e) refuses)
 
-  pub listed_in_turn : {V : Type 0} (items : V → List (Update T)) (v : ℕ) (r : Result V Refusal) → event ≡ Look own
+  pub listed : (Tries : Type 0) {V : Type 0} (items : V → List (Update T)) (v : ℕ) (r : Result V Refusal) → event ≡ Look own
       → Says (λ p w. OnOk r (changes_refusal_in times w v ≡ None)) → Says (λ p w. IfOk r (λ us. AreDifferences times cmp p.nodes (changes_in w) (frontier times p w v) v (items us)))
       → Says (λ p w. IfErr r (IsChangesRefusalIn times p w v))
-      → IsAnsweredInTurn k n (λ us. AreListed times k n cmp v (items us)) (IsChangesRefusalFound times k n v) r
-  listed_in_turn items v (Ok us) looks accepts differences refuses = (
+      → IsAnswered Tries k n (λ us. AreListed times k n cmp v (items us)) (IsChangesRefusalFound times k n v) r
+  listed Tries items v (Ok us) looks accepts differences refuses = (
     looked a looks,
     record {
       accepted = found_so (λ p w. changes_refusal_in times w v ≡ None) accepts;
       differences = found_so (λ p w. AreDifferences times cmp p.nodes (changes_in w) (frontier times p w v) v (items us)) differences;
     },
   )
-  listed_in_turn items v (Err e) looks accepts differences refuses = (looked a looks, found_so (λ p w. IsChangesRefusalIn times p w v e) refuses)
-
--- a call that found the board at home ends as in the actor's turn
-module _ {T : Type 0} (old new : Known (BoardEvent T)) where
-  pub done : (event : Event T) (fault : Option Refusal) (Refused : Refusal → Type 0) (r : Result (Unit {0}) Refusal) → IsDoneInTurn old new event fault Refused r → IsDone old new event fault Refused r
-  done event fault Refused (Ok x) ends = ends
-  done event fault Refused (Err x) ends = inr ends
-
-  pub answered : {A : Type 0} (Found : A → Type 0) (Refused : Refusal → Type 0) (r : Result A Refusal) → IsAnsweredInTurn old new Found Refused r → IsAnswered old new Found Refused r
-  answered Found Refused (Ok x) ends = ends
-  answered Found Refused (Err x) ends = inr ends
+  listed Tries items v (Err e) looks accepts differences refuses = inr (looked a looks, found_so (λ p w. IsChangesRefusalIn times p w v e) refuses)

@@ -113,6 +113,11 @@ module _ {T : Type 0} where
       pub counted : (n : ℕ) → b.accepted ≡ Some n → length (left_by b.board.dataflow es).fed ≡ n
       pub large : IsTrue b.too_large → HasNoSmallBound times cmp b.board.dataflow.nodes (changes_in (left_by b.board.dataflow es))
 
+    -- whatever entries the board stands for, this is so of its dataflow and of the state that they
+    -- left
+    abbrev pub InEachState : (T → T → Ordering) → SharedState T → (Dataflow → State T → Type 0) → Type 0
+    InEachState cmp b F = (es : List (Entry (BoardEvent T))) → StandsFor cmp b es → F b.board.dataflow (left_by b.board.dataflow es)
+
     -- a call on the board is one event of this actor, whatever its answer
     pub record IsOneEvent (cmp : T → T → Ordering) (old new : SharedState T) (actor : ℕ) : Type 0 where
       -- the board is on the same terms

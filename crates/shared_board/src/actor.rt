@@ -1,8 +1,9 @@
 //! An actor at a hub: it enters, does one thing with the board, and leaves.
 //!
 //! Each call is one tenure, and so one event of this actor. What others did since its last tenure
-//! lies below that event, and the answers are right for all that was done by then. Each call waits
-//! until the board is at home, but those that say `try`.
+//! lies below that event, and the answers are right for all that was done by then. A call of a
+//! client takes its [`Access`](crate::Access): it waits until the board is at home, or tries once.
+//! A worker's calls try.
 ghost use Rattle.std.specs.Prelude.{◌≡◌, ◌<◌, ◌+◌, [], ℕ, Some, IfOk, length};
 ghost use Rattle.std.specs.Arc.{arc_value};
 ghost use Rattle.update.specs.Refusals.{OnlyMemory};
@@ -15,10 +16,8 @@ ghost use Rattle.shared_board.specs.Tenures.{IsNextTenure, IsActor, IsFirst, ope
 
 mod attempt;
 mod client;
-mod entry;
-mod in_turn;
 
-use crate::actor::entry::enter;
+use crate::access::{InTurn, enter};
 use crate::event::BoardEvent;
 use crate::protocol::BoardProtocol;
 use hub::{Hub, Pass, Protocol};
@@ -112,7 +111,10 @@ impl<T: Minimum, P: BoardProtocol<T>> Actor<T, P> {
             (changes_in (state_left T.times self.old)) }
         ensures looked { IsNextTenure self.old (Look self.old.number) self.new }
     {
-        let mut tenure = enter(rt, &self.hub, &mut self.pass);
+        let Ok(home) = enter(&InTurn(rt), &self.hub, &mut self.pass) else {
+            unreachable!()
+        };
+        let mut tenure = home;
         let board = tenure.state();
         board.tell_too_large(self.number, self.accepted);
         self.accepted = board.accepted();

@@ -25,7 +25,7 @@ ghost use Rattle.histories.specs.Histories.Readings.{IsQuiet};
 ghost use Rattle.histories.specs.Histories.States.{change_to};
 ghost use Rattle.shared_board.specs.declared.event.BoardEvent.{BoardEvent};
 ghost use Rattle.shared_board.specs.Large.{HasNoSmallBound};
-ghost use Rattle.shared_board.specs.Tenures.{IsKeptBeside, IsOneEvent, StandsFor, WaitsOrNot, doing, left_by, opening_for, opening_of_board, feed_refusal_in, advance_refusal_in, allow_refusal_in, read_refusal_in, changes_refusal_in, IsReadRefusalIn, IsChangesRefusalIn};
+ghost use Rattle.shared_board.specs.Tenures.{InEachState, IsKeptBeside, IsOneEvent, StandsFor, WaitsOrNot, doing, left_by, opening_for, opening_of_board, feed_refusal_in, advance_refusal_in, allow_refusal_in, read_refusal_in, changes_refusal_in, IsReadRefusalIn, IsChangesRefusalIn};
 ghost use Rattle.shared_board.specs.Widths.{are_wide_for};
 
 mod pieces;
@@ -142,14 +142,10 @@ impl<T: Minimum> SharedBoard<T> {
         ensures beside { OnErr result (IsKeptBeside self.old self.new) }
         ensures fed { OnOk result (self.new.board.last ≡ Feed client (change_to input update)) }
         ensures unchanged { OnErr result (self.new.board.last ≡ Look client) }
-        ensures accepted { (es : List (Entry (BoardEvent T)))
-            → StandsFor T.times T.cmp self.old es
-            → OnOk result (feed_refusal_in T.times self.old.board.dataflow
-            (left_by T.times self.old.board.dataflow es) (change_to input update) ≡ None) }
-        ensures refused { (es : List (Entry (BoardEvent T)))
-            → StandsFor T.times T.cmp self.old es
-            → IfErr result (IsRefusalBy (feed_refusal_in T.times self.old.board.dataflow
-            (left_by T.times self.old.board.dataflow es) (change_to input update))) }
+        ensures accepted { InEachState T.times T.cmp self.old (λ p w.
+            OnOk result (feed_refusal_in T.times p w (change_to input update) ≡ None)) }
+        ensures refused { InEachState T.times T.cmp self.old (λ p w.
+            IfErr result (IsRefusalBy (feed_refusal_in T.times p w (change_to input update)))) }
         ensures counted { OnOk result ((n : ℕ) → self.old.accepted ≡ Some n → n + 1 < 2 ^ 64
             → self.new.accepted ≡ Some (n + 1)) }
     {
@@ -169,14 +165,10 @@ impl<T: Minimum> SharedBoard<T> {
         ensures beside { IsKeptBeside self.old self.new }
         ensures advanced { OnOk result (self.new.board.last ≡ Advance client input times.now) }
         ensures unchanged { OnErr result (self.new.board.last ≡ Look client) }
-        ensures accepted { (es : List (Entry (BoardEvent T)))
-            → StandsFor T.times T.cmp self.old es
-            → OnOk result (advance_refusal_in T.times
-            (left_by T.times self.old.board.dataflow es) input times.now ≡ None) }
-        ensures refused { (es : List (Entry (BoardEvent T)))
-            → StandsFor T.times T.cmp self.old es
-            → IfErr result (IsRefusalBy (advance_refusal_in T.times
-            (left_by T.times self.old.board.dataflow es) input times.now)) }
+        ensures accepted { InEachState T.times T.cmp self.old (λ p w.
+            OnOk result (advance_refusal_in T.times w input times.now ≡ None)) }
+        ensures refused { InEachState T.times T.cmp self.old (λ p w.
+            IfErr result (IsRefusalBy (advance_refusal_in T.times w input times.now))) }
     {
         self.board.advance(client, input, times)
     }
@@ -204,14 +196,10 @@ impl<T: Minimum> SharedBoard<T> {
         ensures beside { IsKeptBeside self.old self.new }
         ensures allowed { OnOk result (self.new.board.last ≡ Allow client view times.now) }
         ensures unchanged { OnErr result (self.new.board.last ≡ Look client) }
-        ensures accepted { (es : List (Entry (BoardEvent T)))
-            → StandsFor T.times T.cmp self.old es
-            → OnOk result (allow_refusal_in T.times
-            (left_by T.times self.old.board.dataflow es) view times.now ≡ None) }
-        ensures refused { (es : List (Entry (BoardEvent T)))
-            → StandsFor T.times T.cmp self.old es
-            → IfErr result (IsRefusalBy (allow_refusal_in T.times
-            (left_by T.times self.old.board.dataflow es) view times.now)) }
+        ensures accepted { InEachState T.times T.cmp self.old (λ p w.
+            OnOk result (allow_refusal_in T.times w view times.now ≡ None)) }
+        ensures refused { InEachState T.times T.cmp self.old (λ p w.
+            IfErr result (IsRefusalBy (allow_refusal_in T.times w view times.now))) }
     {
         self.board.allow(client, view, times)
     }
@@ -222,10 +210,8 @@ impl<T: Minimum> SharedBoard<T> {
         ensures event { IsOneEvent T.times T.cmp self.old self.new client }
         ensures beside { IsKeptBeside self.old self.new }
         ensures looked { self.new.board.last ≡ Look client }
-        ensures frontier { (es : List (Entry (BoardEvent T)))
-            → StandsFor T.times T.cmp self.old es
-            → IfOk result (λ found. SameElements found (frontier T.times self.old.board.dataflow
-            (left_by T.times self.old.board.dataflow es) view)) }
+        ensures frontier { InEachState T.times T.cmp self.old (λ p w.
+            IfOk result (λ found. SameElements found (frontier T.times p w view))) }
         ensures refused { OnlyMemory result }
     {
         let found = self.board.frontier(view);
@@ -240,18 +226,13 @@ impl<T: Minimum> SharedBoard<T> {
         ensures event { IsOneEvent T.times T.cmp self.old self.new client }
         ensures beside { IsKeptBeside self.old self.new }
         ensures looked { self.new.board.last ≡ Look client }
-        ensures accepted { (es : List (Entry (BoardEvent T)))
-            → StandsFor T.times T.cmp self.old es
-            → OnOk result (read_refusal_in T.times self.old.board.dataflow
-            (left_by T.times self.old.board.dataflow es) view t ≡ None) }
-        ensures refused { (es : List (Entry (BoardEvent T)))
-            → StandsFor T.times T.cmp self.old es
-            → IfErr result (IsReadRefusalIn T.times self.old.board.dataflow
-            (left_by T.times self.old.board.dataflow es) view t) }
+        ensures accepted { InEachState T.times T.cmp self.old (λ p w.
+            OnOk result (read_refusal_in T.times p w view t ≡ None)) }
+        ensures refused { InEachState T.times T.cmp self.old (λ p w.
+            IfErr result (IsReadRefusalIn T.times p w view t)) }
         ensures bag { IfOk result IsBag }
-        ensures query { (es : List (Entry (BoardEvent T))) → StandsFor T.times T.cmp self.old es
-            → IfOk result (λ bag. Alike bag (query_at T.times self.old.board.dataflow.nodes
-            (changes_in (left_by T.times self.old.board.dataflow es)) view t)) }
+        ensures query { InEachState T.times T.cmp self.old (λ p w.
+            IfOk result (λ bag. Alike bag (query_at T.times p.nodes (changes_in w) view t))) }
     {
         self.board.known();
         let found = self.board.read(view, t);
@@ -267,20 +248,13 @@ impl<T: Minimum> SharedBoard<T> {
         ensures event { IsOneEvent T.times T.cmp self.old self.new client }
         ensures beside { IsKeptBeside self.old self.new }
         ensures looked { self.new.board.last ≡ Look client }
-        ensures accepted { (es : List (Entry (BoardEvent T)))
-            → StandsFor T.times T.cmp self.old es
-            → OnOk result (changes_refusal_in T.times
-            (left_by T.times self.old.board.dataflow es) view ≡ None) }
-        ensures refused { (es : List (Entry (BoardEvent T)))
-            → StandsFor T.times T.cmp self.old es
-            → IfErr result (IsChangesRefusalIn T.times self.old.board.dataflow
-            (left_by T.times self.old.board.dataflow es) view) }
-        ensures differences { (es : List (Entry (BoardEvent T)))
-            → StandsFor T.times T.cmp self.old es
-            → IfOk result (λ us. AreDifferences T.times T.cmp self.old.board.dataflow.nodes
-            (changes_in (left_by T.times self.old.board.dataflow es))
-            (frontier T.times self.old.board.dataflow
-            (left_by T.times self.old.board.dataflow es) view) view us.items) }
+        ensures accepted { InEachState T.times T.cmp self.old (λ p w.
+            OnOk result (changes_refusal_in T.times w view ≡ None)) }
+        ensures refused { InEachState T.times T.cmp self.old (λ p w.
+            IfErr result (IsChangesRefusalIn T.times p w view)) }
+        ensures differences { InEachState T.times T.cmp self.old (λ p w.
+            IfOk result (λ us. AreDifferences T.times T.cmp p.nodes (changes_in w)
+            (frontier T.times p w view) view us.items)) }
     {
         self.board.known();
         let found = self.board.changes(view);
@@ -294,9 +268,8 @@ impl<T: Minimum> SharedBoard<T> {
         ensures event { IsOneEvent T.times T.cmp self.old self.new actor }
         ensures beside { IsKeptBeside self.old self.new }
         ensures looked { self.new.board.last ≡ Look actor }
-        ensures quiet { (es : List (Entry (BoardEvent T))) → StandsFor T.times T.cmp self.old es
-            → (IsTrue result ↔ IsQuiet T.times self.old.board.dataflow
-            (left_by T.times self.old.board.dataflow es)) }
+        ensures quiet { InEachState T.times T.cmp self.old
+            (λ p w. IsTrue result ↔ IsQuiet T.times p w) }
     {
         let quiet = self.board.is_quiet();
         self.board.look(actor);
@@ -365,9 +338,8 @@ impl<T: Minimum> SharedBoard<T> {
     /// Whether a worker told that with the changes accepted so far a number is too large.
     pub fn is_too_large(&self) -> bool
         ensures value { result ≡ self.now.too_large }
-        ensures cause { (es : List (Entry (BoardEvent T))) → StandsFor T.times T.cmp self.now es
-            → IsTrue result → HasNoSmallBound T.times T.cmp self.now.board.dataflow.nodes
-            (changes_in (left_by T.times self.now.board.dataflow es)) }
+        ensures cause { InEachState T.times T.cmp self.now (λ p w.
+            IsTrue result → HasNoSmallBound T.times T.cmp p.nodes (changes_in w)) }
     {
         self.too_large
     }

@@ -13,9 +13,11 @@
 //! A worker calls `try_take_piece`, `try_give` and `try_port_frontiers`. They do not wait: if
 //! another actor has the board, then they answer that it is busy, and nothing has happened. A
 //! client calls `feed`, `advance`, `close` and `allow`, and reads by `frontier`, `read` and
-//! `changes`. These wait for their turn.
+//! `changes`. Each of these takes an [`Access`]: [`InTurn`] waits for the board, and [`AtOnce`]
+//! tries once.
 #![tactic(auto)]
 
+mod access;
 mod actor;
 mod board;
 mod event;
@@ -23,6 +25,7 @@ mod laws;
 mod opening;
 mod protocol;
 
+pub use access::{Access, AtOnce, InTurn};
 pub use actor::Actor;
 pub use board::{SharedBoard, Taken};
 pub use event::BoardEvent;

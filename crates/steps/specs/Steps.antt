@@ -1,6 +1,6 @@
 -- What a step of a worker adds to what it has seen, and what it then has in hand. Each step is one
 -- event, or none.
-use Rattle.std.specs.Prelude.{◌≡◌, ℕ, ◌+◌, ◌<◌, ◌↔◌, ◌⊎◌, Bool, true, false, List, [], Some, IsTrue, slice_get}
+use Rattle.std.specs.Prelude.{◌≡◌, ℕ, ◌+◌, ◌<◌, ◌↔◌, ◌⊎◌, Bool, true, false, List, [], Some, Result, IfErr, IfOk, OnOk, IsTrue, slice_get}
 use Rattle.std.specs.declared.cmp.Ordering.{Ordering}
 use Rattle.update.specs.declared.change.Update.{Update}
 use Rattle.update.specs.declared.refusal.Refusal.{Refusal}
@@ -192,3 +192,7 @@ module _ {T : Type 0} (times : Times T) (pick : ℕ) where
   IsStepRefusal cmp old new Overflow = IsTrue new.failed × HasSeenTooLarge times cmp new.known
   IsStepRefusal cmp old new Failed = IsTrue old.failed × (new ≡ old)
   IsStepRefusal cmp old new other = ⊥
+
+  -- how a step ends: what its answer means, and that the worker goes on; or what its refusal means
+  abbrev pub HasStepped : (T → T → Ordering) → WorkerView T → WorkerView T → Result Step Refusal → Type 0
+  HasStepped cmp old new r = IfOk r (IsStep old new) × OnOk r (new.failed ≡ false) × IfErr r (IsStepRefusal cmp old new)

@@ -3,11 +3,11 @@
 //! A piece costs two steps. The first takes it and computes what its node makes of it, the second
 //! gives that. What was computed already is not computed again: the hand says how far the worker
 //! has come, and a step goes on from there.
-ghost use Rattle.std.specs.Prelude.{◌≡◌, Err, Some, false, IfErr, IfOk, IsTrue};
+ghost use Rattle.std.specs.Prelude.{◌≡◌, Err, Some, false, IsTrue};
 ghost use Rattle.update.specs.declared.refusal.Refusal.TheVariants.{Failed};
 ghost use Rattle.desk_laws.specs.Own.{hand_node};
 ghost use Rattle.desk_laws.specs.declared.hand.Hand.TheVariants.{Free};
-ghost use Rattle.steps.specs.Steps.{IsStep, IsStepRefusal};
+ghost use Rattle.steps.specs.Steps.{HasStepped};
 
 use crate::worker::Worker;
 use lattice::Minimum;
@@ -35,10 +35,7 @@ pub enum Step {
 impl<T: Minimum, P: BoardProtocol<T>> Worker<T, P> {
     /// Makes one step: that of [`step_at`](Worker::step_at) with the first piece.
     pub fn step(&mut self, alloc: Global) -> Result<Step, Refusal>
-        ensures step { IfOk result (IsStep T.times 0 self.old self.new) }
-        ensures going { IfOk result (λ step. self.new.failed ≡ false) }
-        ensures refused { IfErr result
-            (IsStepRefusal T.times 0 T.cmp self.old self.new) }
+        ensures stepped { HasStepped T.times 0 T.cmp self.old self.new result }
         ensures failed { IsTrue self.old.failed → (result ≡ Err Failed) }
     {
         self.step_at(alloc, 0)
@@ -61,10 +58,7 @@ impl<T: Minimum, P: BoardProtocol<T>> Worker<T, P> {
     /// [`desk::Desk::compute`]. A give costs that of [`machine::Routing::cut`], and of a batch a
     /// copy.
     pub fn step_at(&mut self, alloc: Global, pick: usize) -> Result<Step, Refusal>
-        ensures step { IfOk result (IsStep T.times pick self.old self.new) }
-        ensures going { IfOk result (λ step. self.new.failed ≡ false) }
-        ensures refused { IfErr result
-            (IsStepRefusal T.times pick T.cmp self.old self.new) }
+        ensures stepped { HasStepped T.times pick T.cmp self.old self.new result }
         ensures failed { IsTrue self.old.failed → (result ≡ Err Failed) }
     {
         if self.has_failed() {
@@ -80,10 +74,7 @@ impl<T: Minimum, P: BoardProtocol<T>> Worker<T, P> {
     fn begin(&mut self, alloc: Global, pick: usize) -> Result<Step, Refusal>
         requires going { self.old.failed ≡ false }
         requires free { self.old.hand ≡ Free }
-        ensures step { IfOk result (IsStep T.times pick self.old self.new) }
-        ensures going { IfOk result (λ step. self.new.failed ≡ false) }
-        ensures refused { IfErr result
-            (IsStepRefusal T.times pick T.cmp self.old self.new) }
+        ensures { HasStepped T.times pick T.cmp self.old self.new result }
     {
         let step = self.take(pick)?;
         let Step::Took = step else {
@@ -97,10 +88,7 @@ impl<T: Minimum, P: BoardProtocol<T>> Worker<T, P> {
     fn go_on(&mut self, alloc: Global, pick: usize, node: NodeId) -> Result<Step, Refusal>
         requires going { self.old.failed ≡ false }
         requires node { hand_node self.old.hand ≡ Some node }
-        ensures step { IfOk result (IsStep T.times pick self.old self.new) }
-        ensures going { IfOk result (λ step. self.new.failed ≡ false) }
-        ensures refused { IfErr result
-            (IsStepRefusal T.times pick T.cmp self.old self.new) }
+        ensures { HasStepped T.times pick T.cmp self.old self.new result }
     {
         self.compute(alloc)?;
         self.give(alloc, node)

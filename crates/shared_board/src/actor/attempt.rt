@@ -14,8 +14,8 @@ ghost use Rattle.shared_board.specs.Ports.{AreWithin};
 ghost use Rattle.shared_board.specs.Tenures.{IsNextTenure, opening_in, state_left};
 ghost use Rattle.shared_board.specs.Widths.{are_wide_for};
 
+use crate::access::{AtOnce, enter};
 use crate::actor::Actor;
-use crate::actor::entry::try_enter;
 use crate::board::Taken;
 use crate::protocol::BoardProtocol;
 use antichain::Antichain;
@@ -37,7 +37,7 @@ impl<T: Minimum, P: BoardProtocol<T>> Actor<T, P> {
             × IsNextTenure self.old (Look self.old.number) self.new)) }
         ensures busy { result ≡ None → self.new ≡ self.old }
     {
-        match try_enter(&self.hub, &mut self.pass) {
+        match enter(&AtOnce, &self.hub, &mut self.pass) {
             Ok(home) => {
                 let mut tenure = home;
                 let board = tenure.state();
@@ -68,7 +68,7 @@ impl<T: Minimum, P: BoardProtocol<T>> Actor<T, P> {
         ensures refused { IfSome result (λ r. OnlyMemory r) }
         ensures busy { result ≡ None → self.new ≡ self.old }
     {
-        match try_enter(&self.hub, &mut self.pass) {
+        match enter(&AtOnce, &self.hub, &mut self.pass) {
             Ok(home) => {
                 let mut tenure = home;
                 let board = tenure.state();
@@ -106,7 +106,7 @@ impl<T: Minimum, P: BoardProtocol<T>> Actor<T, P> {
         ensures busy { IfErr result (λ u. (self.new ≡ self.old)
             × (u ≡ record { cut = cut; held = held })) }
     {
-        match try_enter(&self.hub, &mut self.pass) {
+        match enter(&AtOnce, &self.hub, &mut self.pass) {
             Ok(home) => {
                 let mut tenure = home;
                 let board = tenure.state();

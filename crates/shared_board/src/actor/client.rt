@@ -1,23 +1,19 @@
-//! What a client does without waiting: each call is one try to enter the board.
+//! What a client does: it changes inputs and asks views.
 //!
-//! If another actor has the board just then, the call is refused with `Busy`, and the client has
-//! seen nothing. Else the call is one event of the client, and its answer is right for the state
-//! that its tenure found. So a caller that may not wait can try again later, and loses nothing.
-ghost use Rattle.std.specs.Prelude.{◌≡◌, ◌≤◌, ◌<◌, ◌↔◌, [], None, IsTrue, length, ⊤};
-ghost use Rattle.antichain.specs.Antichains.{SameElements};
-ghost use Rattle.update.specs.Refusals.{IsRefusalBy};
-ghost use Rattle.update.specs.declared.refusal.Refusal.TheVariants.{OutOfMemory};
+//! Each call is one tenure, and so one event of the client. Its answer is right for the state that
+//! its tenure found. Each takes its access. If that only tries and another actor has the board just
+//! then, the call is refused with `Busy`, and the client has seen nothing.
+ghost use Rattle.std.specs.Prelude.{◌≤◌, ◌<◌, IsTrue, length, ⊤};
 ghost use Rattle.plan.specs.Nodes.{is_output};
-ghost use Rattle.histories.specs.declared.event.Event.TheVariants.{Advance, Allow, Feed};
 ghost use Rattle.histories.specs.Histories.{IsInput};
 ghost use Rattle.histories.specs.Histories.Dataflows.{node_of};
 ghost use Rattle.histories.specs.Histories.States.{change_to};
-ghost use Rattle.shared_board.specs.Calls.{AreListed, IsAnswered, IsDone, IsRead};
-ghost use Rattle.shared_board.specs.Found.{IsChangesRefusalFound, IsReadRefusalFound, WasQuiet, WasTooLarge, feed_refusal_found, frontier_found};
-ghost use Rattle.shared_board.specs.Tenures.{advance_refusal_in, allow_refusal_in, state_found, opening_in};
+ghost use Rattle.shared_board.specs.Calls.{AreListed, HasAskedLarge, HasAskedQuiet, HasRead, IsAdvanced, IsAnswered, IsClosed, IsFed, IsGivenUp, IsProbed};
+ghost use Rattle.shared_board.specs.Found.{IsChangesRefusalFound};
+ghost use Rattle.shared_board.specs.Tenures.{opening_in};
 
+use crate::access::{Access, enter};
 use crate::actor::Actor;
-use crate::actor::entry::try_enter;
 use crate::protocol::BoardProtocol;
 use antichain::Antichain;
 use lattice::Minimum;
@@ -26,10 +22,10 @@ use update::{Bag, Refusal, Update};
 
 impl<T: Minimum, P: BoardProtocol<T>> Actor<T, P> {
     /// The actor looks. Refused only with `Busy`. Takes no memory.
-    pub fn try_look(&mut self) -> Result<(), Refusal>
-        ensures { IsAnswered self.old self.new (λ done. ⊤) (λ refusal. ⊥) result }
+    pub fn look<A: Access>(&mut self, access: &A) -> Result<(), Refusal>
+        ensures { IsAnswered A.tries self.old self.new (λ done. ⊤) (λ refusal. ⊥) result }
     {
-        let mut tenure = try_enter(&self.hub, &mut self.pass)?;
+        let mut tenure = enter(access, &self.hub, &mut self.pass)?;
         let board = tenure.state();
         board.look(self.number);
         self.accepted = board.accepted();
@@ -38,17 +34,17 @@ impl<T: Minimum, P: BoardProtocol<T>> Actor<T, P> {
     }
 
     /// A client changes an input's table. Refused as `Board::feed` says, and then it looks.
-    pub fn try_feed(&mut self, input: NodeId, update: Update<T>) -> Result<(), Refusal>
+    pub fn feed<A: Access>(
+        &mut self,
+        access: &A,
+        input: NodeId,
+        update: Update<T>,
+    ) -> Result<(), Refusal>
         requires client { (opening_in self.old.seen).dataflow.workers ≤ self.old.number }
         requires input { IsInput (opening_in self.old.seen).dataflow input }
-        ensures { IsDone self.old self.new
-            (Feed self.old.number (change_to input update))
-            (feed_refusal_found T.times self.old self.new (change_to input update))
-            (IsRefusalBy (feed_refusal_found T.times self.old self.new
-            (change_to input update)))
-            result }
+        ensures { IsFed T.times A.tries self.old self.new (change_to input update) result }
     {
-        let mut tenure = try_enter(&self.hub, &mut self.pass)?;
+        let mut tenure = enter(access, &self.hub, &mut self.pass)?;
         let board = tenure.state();
         let told = board.feed(self.number, input, update);
         self.accepted = board.accepted();
@@ -58,16 +54,17 @@ impl<T: Minimum, P: BoardProtocol<T>> Actor<T, P> {
 
     /// A client moves an input's frontier forward. Refused as `Board::advance` says, and then it
     /// looks.
-    pub fn try_advance(&mut self, input: NodeId, times: &[T]) -> Result<(), Refusal>
+    pub fn advance<A: Access>(
+        &mut self,
+        access: &A,
+        input: NodeId,
+        times: &[T],
+    ) -> Result<(), Refusal>
         requires client { (opening_in self.old.seen).dataflow.workers ≤ self.old.number }
         requires input { IsInput (opening_in self.old.seen).dataflow input }
-        ensures { IsDone self.old self.new (Advance self.old.number input times.now)
-            (advance_refusal_in T.times (state_found T.times self.new) input times.now)
-            (IsRefusalBy (advance_refusal_in T.times (state_found T.times self.new)
-            input times.now))
-            result }
+        ensures { IsAdvanced T.times A.tries self.old self.new input times.now result }
     {
-        let mut tenure = try_enter(&self.hub, &mut self.pass)?;
+        let mut tenure = enter(access, &self.hub, &mut self.pass)?;
         let board = tenure.state();
         let told = board.advance(self.number, input, times);
         self.accepted = board.accepted();
@@ -76,13 +73,12 @@ impl<T: Minimum, P: BoardProtocol<T>> Actor<T, P> {
     }
 
     /// A client closes an input. Refused only with `Busy`. Takes no memory.
-    pub fn try_close(&mut self, input: NodeId) -> Result<(), Refusal>
+    pub fn close<A: Access>(&mut self, access: &A, input: NodeId) -> Result<(), Refusal>
         requires client { (opening_in self.old.seen).dataflow.workers ≤ self.old.number }
         requires input { IsInput (opening_in self.old.seen).dataflow input }
-        ensures { IsDone self.old self.new (Advance self.old.number input []) None (λ refusal. ⊥)
-            result }
+        ensures { IsClosed T.times A.tries self.old self.new input result }
     {
-        let mut tenure = try_enter(&self.hub, &mut self.pass)?;
+        let mut tenure = enter(access, &self.hub, &mut self.pass)?;
         let board = tenure.state();
         board.close(self.number, input);
         self.accepted = board.accepted();
@@ -92,17 +88,13 @@ impl<T: Minimum, P: BoardProtocol<T>> Actor<T, P> {
 
     /// Readers of a view give up its past: from then on it may be read only at times beyond these.
     /// Refused as `Board::allow` says, and then it looks.
-    pub fn try_allow(&mut self, view: NodeId, times: &[T]) -> Result<(), Refusal>
+    pub fn allow<A: Access>(&mut self, access: &A, view: NodeId, times: &[T]) -> Result<(), Refusal>
         requires client { (opening_in self.old.seen).dataflow.workers ≤ self.old.number }
         requires within { view < length (opening_in self.old.seen).dataflow.nodes }
         requires view { IsTrue (is_output (node_of (opening_in self.old.seen).dataflow view)) }
-        ensures { IsDone self.old self.new (Allow self.old.number view times.now)
-            (allow_refusal_in T.times (state_found T.times self.new) view times.now)
-            (IsRefusalBy (allow_refusal_in T.times (state_found T.times self.new)
-            view times.now))
-            result }
+        ensures { IsGivenUp T.times A.tries self.old self.new view times.now result }
     {
-        let mut tenure = try_enter(&self.hub, &mut self.pass)?;
+        let mut tenure = enter(access, &self.hub, &mut self.pass)?;
         let board = tenure.state();
         let told = board.allow(self.number, view, times);
         self.accepted = board.accepted();
@@ -111,13 +103,11 @@ impl<T: Minimum, P: BoardProtocol<T>> Actor<T, P> {
     }
 
     /// The frontier of a view. Refused only with `Busy` and `OutOfMemory`.
-    pub fn try_frontier(&mut self, view: NodeId) -> Result<Antichain<T>, Refusal>
+    pub fn frontier<A: Access>(&mut self, access: &A, view: NodeId) -> Result<Antichain<T>, Refusal>
         requires within { view < length (opening_in self.old.seen).dataflow.nodes }
-        ensures { IsAnswered self.old self.new
-            (λ found. SameElements found (frontier_found T.times self.old self.new view))
-            (λ refusal. refusal ≡ OutOfMemory) result }
+        ensures { IsProbed T.times A.tries self.old self.new view result }
     {
-        let mut tenure = try_enter(&self.hub, &mut self.pass)?;
+        let mut tenure = enter(access, &self.hub, &mut self.pass)?;
         let board = tenure.state();
         let found = board.frontier(self.number, view);
         self.accepted = board.accepted();
@@ -127,14 +117,12 @@ impl<T: Minimum, P: BoardProtocol<T>> Actor<T, P> {
 
     /// A view's rows at a time: the query, computed from scratch, on the changes fed up to that
     /// time. Refused as `Board::read` says.
-    pub fn try_read(&mut self, view: NodeId, t: T) -> Result<Bag, Refusal>
+    pub fn read<A: Access>(&mut self, access: &A, view: NodeId, t: T) -> Result<Bag, Refusal>
         requires within { view < length (opening_in self.old.seen).dataflow.nodes }
         requires view { IsTrue (is_output (node_of (opening_in self.old.seen).dataflow view)) }
-        ensures { IsAnswered self.old self.new
-            (λ bag. IsRead T.times self.old self.new view t bag)
-            (IsReadRefusalFound T.times self.old self.new view t) result }
+        ensures { HasRead T.times A.tries self.old self.new view t result }
     {
-        let mut tenure = try_enter(&self.hub, &mut self.pass)?;
+        let mut tenure = enter(access, &self.hub, &mut self.pass)?;
         let board = tenure.state();
         let rows = board.read(self.number, view, t);
         self.accepted = board.accepted();
@@ -144,14 +132,18 @@ impl<T: Minimum, P: BoardProtocol<T>> Actor<T, P> {
 
     /// A view's changes at the times that its frontier has passed. Refused as `Board::changes`
     /// says.
-    pub fn try_changes(&mut self, view: NodeId) -> Result<Vec<Update<T>>, Refusal>
+    pub fn changes<A: Access>(
+        &mut self,
+        access: &A,
+        view: NodeId,
+    ) -> Result<Vec<Update<T>>, Refusal>
         requires within { view < length (opening_in self.old.seen).dataflow.nodes }
         requires view { IsTrue (is_output (node_of (opening_in self.old.seen).dataflow view)) }
-        ensures { IsAnswered self.old self.new
+        ensures { IsAnswered A.tries self.old self.new
             (λ us. AreListed T.times self.old self.new T.cmp view us.items)
             (IsChangesRefusalFound T.times self.old self.new view) result }
     {
-        let mut tenure = try_enter(&self.hub, &mut self.pass)?;
+        let mut tenure = enter(access, &self.hub, &mut self.pass)?;
         let board = tenure.state();
         let changes = board.changes(self.number, view);
         self.accepted = board.accepted();
@@ -163,12 +155,10 @@ impl<T: Minimum, P: BoardProtocol<T>> Actor<T, P> {
     ///
     /// Cost: linear in the nodes times the workers, and that of `Board::input_has_passed` for each
     /// held time.
-    pub fn try_is_quiet(&mut self) -> Result<bool, Refusal>
-        ensures { IsAnswered self.old self.new
-            (λ quiet. IsTrue quiet ↔ WasQuiet T.times self.old self.new)
-            (λ refusal. ⊥) result }
+    pub fn is_quiet<A: Access>(&mut self, access: &A) -> Result<bool, Refusal>
+        ensures { HasAskedQuiet T.times A.tries self.old self.new result }
     {
-        let mut tenure = try_enter(&self.hub, &mut self.pass)?;
+        let mut tenure = enter(access, &self.hub, &mut self.pass)?;
         let board = tenure.state();
         let quiet = board.is_quiet(self.number);
         self.accepted = board.accepted();
@@ -178,12 +168,10 @@ impl<T: Minimum, P: BoardProtocol<T>> Actor<T, P> {
 
     /// Whether a worker told that a number is too large with the changes accepted so far. Refused
     /// only with `Busy`. Takes no memory.
-    pub fn try_is_too_large(&mut self) -> Result<bool, Refusal>
-        ensures { IsAnswered self.old self.new
-            (λ large. IsTrue large → WasTooLarge T.times self.old self.new T.cmp)
-            (λ refusal. ⊥) result }
+    pub fn is_too_large<A: Access>(&mut self, access: &A) -> Result<bool, Refusal>
+        ensures { HasAskedLarge T.times A.tries self.old self.new T.cmp result }
     {
-        let mut tenure = try_enter(&self.hub, &mut self.pass)?;
+        let mut tenure = enter(access, &self.hub, &mut self.pass)?;
         let board = tenure.state();
         let large = board.is_too_large();
         board.look(self.number);

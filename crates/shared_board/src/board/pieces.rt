@@ -5,8 +5,7 @@
 //! since that would be two tenures for a piece. So the search and the take are one call, and one
 //! event. If there is no piece, then the event is a look, and the answer says whether the board is
 //! quiet.
-ghost use Rattle.std.specs.Prelude.{◌≡◌, ◌<◌, ℕ, List, None, Some, IfOk, IfErr, IfSome, IsTrue, length, get_or};
-ghost use Rattle.hub.specs.declared.view.Entry.{Entry};
+ghost use Rattle.std.specs.Prelude.{◌≡◌, ◌<◌, ℕ, None, Some, IfOk, IfErr, IfSome, IsTrue, length, get_or};
 ghost use Rattle.update.specs.declared.refusal.Refusal.TheVariants.{OutOfMemory};
 ghost use Rattle.plan.specs.Nodes.{arranged_by};
 ghost use Rattle.histories.specs.declared.event.Event.TheVariants.{Look};
@@ -16,9 +15,8 @@ ghost use Rattle.outstanding.specs.Loads.{queue_of};
 ghost use Rattle.machine.specs.Boards.Pieces.{IsPiece, HasNoPiece};
 ghost use Rattle.machine.specs.declared.board.pieces.Piece.TheVariants.{Waiting, Held};
 ghost use Rattle.machine.specs.Boards.Reads.{is_ready};
-ghost use Rattle.shared_board.specs.declared.event.BoardEvent.{BoardEvent};
 ghost use Rattle.shared_board.specs.Pieces.{IsTaken, TellsMore, piece_of};
-ghost use Rattle.shared_board.specs.Tenures.{IsKeptBeside, IsOneEvent, StandsFor, WaitsOrNot, left_by};
+ghost use Rattle.shared_board.specs.Tenures.{InEachState, IsKeptBeside, IsOneEvent, WaitsOrNot};
 
 use crate::board::SharedBoard;
 use lattice::Minimum;
@@ -63,11 +61,8 @@ impl<T: Minimum> SharedBoard<T> {
         requires free { get_or self.old.board.hand worker None ≡ None }
         ensures event { IsOneEvent T.times T.cmp self.old self.new worker }
         ensures beside { IsKeptBeside self.old self.new }
-        ensures taken { IfOk result (λ taken.
-            (es : List (Entry (BoardEvent T))) → StandsFor T.times T.cmp self.old es
-            → IsTaken T.times self.old.board.dataflow
-            (left_by T.times self.old.board.dataflow es) worker pick
-            self.new.board.last taken) }
+        ensures taken { IfOk result (λ taken. InEachState T.times T.cmp self.old (λ p w.
+            IsTaken T.times p w worker pick self.new.board.last taken)) }
         ensures more { IfOk result
             (TellsMore (λ more n. WaitsOrNot more n worker self.new.board.stations)) }
         ensures refused { IfErr result (λ refusal. (refusal ≡ OutOfMemory)
@@ -86,13 +81,9 @@ impl<T: Minimum> SharedBoard<T> {
         requires piece { IsPiece T.times self.old.board worker piece.now }
         ensures event { IsOneEvent T.times T.cmp self.old self.new worker }
         ensures beside { IsKeptBeside self.old self.new }
-        ensures taken { IfOk result (λ taken.
-            (es : List (Entry (BoardEvent T))) → StandsFor T.times T.cmp self.old es
-            → (pick : ℕ) → piece_of T.times self.old.board.dataflow
-            (left_by T.times self.old.board.dataflow es) worker pick ≡ Some piece.now
-            → IsTaken T.times self.old.board.dataflow
-            (left_by T.times self.old.board.dataflow es) worker pick
-            self.new.board.last taken) }
+        ensures taken { IfOk result (λ taken. InEachState T.times T.cmp self.old (λ p w.
+            (pick : ℕ) → piece_of T.times p w worker pick ≡ Some piece.now
+            → IsTaken T.times p w worker pick self.new.board.last taken)) }
         ensures more { IfOk result
             (TellsMore (λ more n. WaitsOrNot more n worker self.new.board.stations)) }
         ensures refused { IfErr result (λ refusal. (refusal ≡ OutOfMemory)
@@ -109,14 +100,10 @@ impl<T: Minimum> SharedBoard<T> {
         requires { worker < self.old.board.dataflow.workers }
         ensures kept { self.new ≡ self.old }
         ensures piece { IfSome result (IsPiece T.times self.old.board worker) }
-        ensures numbered { (es : List (Entry (BoardEvent T)))
-            → StandsFor T.times T.cmp self.old es
-            → result ≡ piece_of T.times self.old.board.dataflow
-            (left_by T.times self.old.board.dataflow es) worker pick }
-        ensures idle { (es : List (Entry (BoardEvent T)))
-            → StandsFor T.times T.cmp self.old es → result ≡ None
-            → HasNoPiece T.times self.old.board.dataflow
-            (left_by T.times self.old.board.dataflow es) worker }
+        ensures numbered { InEachState T.times T.cmp self.old
+            (λ p w. result ≡ piece_of T.times p w worker pick) }
+        ensures idle { InEachState T.times T.cmp self.old
+            (λ p w. result ≡ None → HasNoPiece T.times p w worker) }
     {
         self.board.piece_at(worker, pick)
     }
@@ -155,14 +142,9 @@ impl<T: Minimum> SharedBoard<T> {
         requires ready { IsTrue (is_ready T.times self.old.board worker node) }
         ensures event { IsOneEvent T.times T.cmp self.old self.new worker }
         ensures beside { IsKeptBeside self.old self.new }
-        ensures taken { IfOk result (λ taken.
-            (es : List (Entry (BoardEvent T))) → StandsFor T.times T.cmp self.old es
-            → (pick : ℕ) → piece_of T.times self.old.board.dataflow
-            (left_by T.times self.old.board.dataflow es) worker pick
-            ≡ Some (Held node)
-            → IsTaken T.times self.old.board.dataflow
-            (left_by T.times self.old.board.dataflow es) worker pick
-            self.new.board.last taken) }
+        ensures taken { IfOk result (λ taken. InEachState T.times T.cmp self.old (λ p w.
+            (pick : ℕ) → piece_of T.times p w worker pick ≡ Some (Held node)
+            → IsTaken T.times p w worker pick self.new.board.last taken)) }
         ensures more { IfOk result
             (TellsMore (λ more n. WaitsOrNot more n worker self.new.board.stations)) }
         ensures refused { IfErr result (λ refusal. (refusal ≡ OutOfMemory)
@@ -182,17 +164,12 @@ impl<T: Minimum> SharedBoard<T> {
 
     // A worker for which there is no piece looks, and asks whether the board is quiet.
     fn find_nothing(&mut self, worker: usize) -> Result<Taken<T>, Refusal>
-        requires none { (es : List (Entry (BoardEvent T)))
-            → StandsFor T.times T.cmp self.old es
-            → HasNoPiece T.times self.old.board.dataflow
-            (left_by T.times self.old.board.dataflow es) worker }
+        requires none { InEachState T.times T.cmp self.old
+            (λ p w. HasNoPiece T.times p w worker) }
         ensures event { IsOneEvent T.times T.cmp self.old self.new worker }
         ensures beside { IsKeptBeside self.old self.new }
-        ensures taken { IfOk result (λ taken.
-            (es : List (Entry (BoardEvent T))) → StandsFor T.times T.cmp self.old es
-            → (pick : ℕ) → IsTaken T.times self.old.board.dataflow
-            (left_by T.times self.old.board.dataflow es) worker pick
-            self.new.board.last taken) }
+        ensures taken { IfOk result (λ taken. InEachState T.times T.cmp self.old (λ p w.
+            (pick : ℕ) → IsTaken T.times p w worker pick self.new.board.last taken)) }
         ensures more { IfOk result
             (TellsMore (λ more n. WaitsOrNot more n worker self.new.board.stations)) }
         ensures refused { IfErr result (λ refusal. (refusal ≡ OutOfMemory)

@@ -2,14 +2,12 @@
 //!
 //! A worker asks for those of all its joins and reductions at once. One event moves no frontier
 //! between two of the answers, so all of them hold of one state.
-ghost use Rattle.std.specs.Prelude.{◌≡◌, List, IfOk, length};
+ghost use Rattle.std.specs.Prelude.{◌≡◌, IfOk, length};
 ghost use Rattle.update.specs.Refusals.{OnlyMemory};
-ghost use Rattle.hub.specs.declared.view.Entry.{Entry};
 ghost use Rattle.histories.specs.declared.event.Event.TheVariants.{Look};
 ghost use Rattle.machine.specs.Boards.Reads.{on_board};
-ghost use Rattle.shared_board.specs.declared.event.BoardEvent.{BoardEvent};
 ghost use Rattle.shared_board.specs.Ports.{AreFrontsOf, AreWithin};
-ghost use Rattle.shared_board.specs.Tenures.{IsKeptBeside, IsOneEvent, StandsFor, left_by};
+ghost use Rattle.shared_board.specs.Tenures.{InEachState, IsKeptBeside, IsOneEvent};
 
 use crate::board::SharedBoard;
 use antichain::Antichain;
@@ -32,9 +30,8 @@ impl<T: Minimum> SharedBoard<T> {
         ensures beside { IsKeptBeside self.old self.new }
         ensures looked { self.new.board.last ≡ Look actor }
         ensures len { IfOk result (λ fronts. length fronts.items ≡ length ports.now) }
-        ensures found { (es : List (Entry (BoardEvent T))) → StandsFor T.times T.cmp self.old es
-            → IfOk result (λ fronts. AreFrontsOf T.times self.old.board.dataflow
-            (left_by T.times self.old.board.dataflow es) ports.now fronts.items) }
+        ensures found { InEachState T.times T.cmp self.old (λ p w.
+            IfOk result (λ fronts. AreFrontsOf T.times p w ports.now fronts.items)) }
         ensures refused { OnlyMemory result }
     {
         self.board.known();

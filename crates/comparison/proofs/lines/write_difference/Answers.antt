@@ -18,7 +18,7 @@ returns-in_err-print_difference-clause-beginning g c =
       rows_of_either xs ys c.known.ensures.bag c.known-2.ensures.bag,
       broke_as g.W.Out.took c.args.out.now c.print_difference.new.out [] _ _ _
           (ap changes_text (merged_changes xs ys c.known.ensures.bag c.known-2.ensures.bag))
-          (subst (λ (waiting : List ℕ). Broke g.W.Out.took c.args.out.now waiting (changes_text (merged xs ys)) (failures c.in_err-print_difference.field-0.0) c.print_difference.new.out) c.new-buffer.ensures c.in_err-print_difference.ensures.broke),
+          (subst (λ (waiting : List ℕ). Broke g.W.Out.took c.args.out.now waiting (changes_text (merged xs ys)) (failures c.in_err-print_difference.field-0.0) c.print_difference.new.out) c.new-buffer.ensures c.in_err-print_difference.ensures),
     )
 
 pub returns-in_err-flush-clause-beginning : goal.returns-in_err-flush-clause-beginning
@@ -32,7 +32,7 @@ returns-in_err-flush-clause-beginning g c =
       broke_as g.W.Out.took c.args.out.now c.flush.new.out [] _ _ _
           (ap changes_text (merged_changes xs ys c.known.ensures.bag c.known-2.ensures.bag))
           (broke_last g.W.Out.took g.met.W.Out.in_turn c.args.out.now c.print_difference.new.out c.flush.new.out (changes_text (merged xs ys)) c.print_difference.new.buffer
-          (subst (λ (waiting : List ℕ). Wrote g.W.Out.took c.args.out.now waiting (changes_text (merged xs ys)) c.print_difference.new.out c.print_difference.new.buffer) c.new-buffer.ensures c.in_ok-print_difference.ensures.wrote)
+          (subst (λ (waiting : List ℕ). Wrote g.W.Out.took c.args.out.now waiting (changes_text (merged xs ys)) c.print_difference.new.out c.print_difference.new.buffer) c.new-buffer.ensures c.in_ok-print_difference.ensures)
           c.in_err-flush.ensures.beginning),
     )
 
@@ -45,6 +45,6 @@ returns-clause-wrote g c =
       subst (λ (text : List ℕ). g.W.Out.took c.args.out.now text 0 c.flush.new.out)
           (ap changes_text (merged_changes xs ys c.known.ensures.bag c.known-2.ensures.bag))
           (wrote_all g.W.Out.took g.met.W.Out.in_turn c.args.out.now c.print_difference.new.out c.flush.new.out [] (changes_text (merged xs ys)) c.print_difference.new.buffer
-          (subst (λ (waiting : List ℕ). Wrote g.W.Out.took c.args.out.now waiting (changes_text (merged xs ys)) c.print_difference.new.out c.print_difference.new.buffer) c.new-buffer.ensures c.in_ok-print_difference.ensures.wrote)
+          (subst (λ (waiting : List ℕ). Wrote g.W.Out.took c.args.out.now waiting (changes_text (merged xs ys)) c.print_difference.new.out c.print_difference.new.buffer) c.new-buffer.ensures c.in_ok-print_difference.ensures)
           c.in_ok-flush.ensures.all),
     )

@@ -12,11 +12,11 @@ loop-rest-init g c = record {
 pub loop-rest-preserved : goal.loop-rest-preserved
 loop-rest-preserved g c = record {
   numbered = omega arith;
-  wrote = some_more g.W.Out.took g.met.W.Out.in_turn c.args.out.now c.loop-rest.out c.print_line.new.out c.args.buffer.now c.loop-rest.buffer c.print_line.new.buffer c.loop-rest.invariant.wrote c.in_ok-print_line.ensures.wrote;
+  wrote = some_more g.W.Out.took g.met.W.Out.in_turn c.args.out.now c.loop-rest.out c.print_line.new.out c.args.buffer.now c.loop-rest.buffer c.print_line.new.buffer c.loop-rest.invariant.wrote c.in_ok-print_line.ensures;
 }
 
-pub returns-in_err-print_line-clause-broke : goal.returns-in_err-print_line-clause-broke
-returns-in_err-print_line-clause-broke g c =
+pub returns-in_err-print_line : goal.returns-in_err-print_line
+returns-in_err-print_line g c =
     let p = err_from_is_err_and c.from_residual.result c.from_residual.ensures.1 in
     rw (p.1, p.2)
-    (took_behind g.W.Out.took g.met.W.Out.in_turn c.args.out.now c.loop-rest.out c.print_line.new.out c.args.buffer.now c.loop-rest.buffer _ c.loop-rest.invariant.wrote c.in_err-print_line.ensures.broke)
+    (took_behind g.W.Out.took g.met.W.Out.in_turn c.args.out.now c.loop-rest.out c.print_line.new.out c.args.buffer.now c.loop-rest.buffer _ c.loop-rest.invariant.wrote c.in_err-print_line.ensures)

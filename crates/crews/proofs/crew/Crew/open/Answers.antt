@@ -1,9 +1,8 @@
 use Rattle.std.proofs.Common.{rules, arith, ◌≡◌, ◌+◌, ℕ, Some, sym, ap, subst, ◌∙◌}
 use Rattle.std.specs.Prelude.{slice_get}
 use Rattle.lattice.specs.Bitimes.{bitime_times}
-use Rattle.lattice.specs.Naturals.{nat_order}
-use Rattle.lattice.specs.Pairs.{pair_order}
 use Rattle.shared_board.specs.Tenures.{IsFirst, Opening, opening_for, opening_in}
+use Rattle.engines.proofs.BitimeLemmas.{bitime_order}
 use Rattle.crews.proofs.BoardStateLemmas.{first_stands}
 use Rattle.crews.proofs.crew.Crew.open.Goals as goal
 
@@ -32,4 +31,4 @@ returns-clause-stands g c =
     let there : slice_get c.in_ok-seats.seats.items 0 ≡ Some c.unwrap-client.result = search rules in
     let client = c.in_ok-seats.ensures.opened.each_client 0 c.unwrap-client.result there in
     let first = subst (λ (n : ℕ). IsFirst (opening_for c.args.plan.now c.args.workers 1) n c.unwrap-client.result) (no_more c.args.workers) client in
-    first_stands bitime_times (pair_order nat_order nat_order) c.args.plan.now c.args.workers c.unwrap-client.result c.known.ensures first
+    first_stands bitime_times bitime_order c.args.plan.now c.args.workers c.unwrap-client.result c.known.ensures first

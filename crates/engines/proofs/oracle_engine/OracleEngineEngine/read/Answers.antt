@@ -1,10 +1,7 @@
 use Rattle.std.proofs.Common.{rules, ◌≡◌, ◌<◌, ◌∙◌, ℕ, List, map, length, IsTrue, Vec, Global, ltb-true, inl, ap, sym, subst}
 use Rattle.std.specs.Prelude.{IfOk}
 use Rattle.std.proofs.lemmas.Bool.{and_parts}
-use Rattle.std.proofs.lemmas.Cmp.{nat_cmp_total, then_total, on_total}
 use Rattle.lattice.specs.Bitimes.{bitime_times}
-use Rattle.lattice.specs.Naturals.{nat_order, nat_bounds, nat_extends}
-use Rattle.lattice.specs.Pairs.{pair_order, pair_bounds, pair_extends}
 use Rattle.lattice.specs.declared.product.Pair.{Pair}
 use Rattle.update.specs.Bags.{Alike}
 use Rattle.update.specs.declared.change.Update.{Update}
@@ -16,6 +13,7 @@ use Rattle.engines.specs.Answers.{FindsRows}
 use Rattle.engines.specs.OracleStates.{Register, Records}
 use Rattle.engines.specs.Sessions.{read_refusal}
 use Rattle.engines.specs.Bounds.{IsLarge, EndsByBound}
+use Rattle.engines.proofs.BitimeLemmas.{bitime_bounds, bitime_extends, bitime_order, bitime_total}
 use Rattle.engines.proofs.OracleEngineLemmas.{same_passed, open_refuses, given_up_refuses, large_query, rows_answered}
 use Rattle.engines.proofs.oracle_engine.OracleEngineEngine.read.Goals as goal
 
@@ -31,8 +29,8 @@ returns-then-is_beyond-clause-answered c s a =
     let within : v < length p = ltb-true v (length p) (and_parts _ _ there).0 in
     let found : c.deref.result.now ≡ open_for bitime_times p (λ i. front_at i c.self.inside.inputs) v =
     c.deref.ensures.value ∙ c.in_ok-open.ensures.open in
-    let late = same_passed (pair_order nat_order nat_order) r s own v c.deref.result.now t found ∙ (sym c.is_beyond.ensures ∙ c.if-is_beyond.true) in
-    inl (ap (λ (r : Register (Pair ℕ ℕ)). read_refusal bitime_times r.plan s v t) (sym c.self.view_is) ∙ open_refuses (pair_order nat_order nat_order) r s own v t late)
+    let late = same_passed bitime_order r s own v c.deref.result.now t found ∙ (sym c.is_beyond.ensures ∙ c.if-is_beyond.true) in
+    inl (ap (λ (r : Register (Pair ℕ ℕ)). read_refusal bitime_times r.plan s v t) (sym c.self.view_is) ∙ open_refuses bitime_order r s own v t late)
 
 pub returns-then-not-is_beyond-clause-answered : goal.returns-then-not-is_beyond-clause-answered
 returns-then-not-is_beyond-clause-answered c s a =
@@ -46,8 +44,8 @@ returns-then-not-is_beyond-clause-answered c s a =
     let within : v < length p = ltb-true v (length p) (and_parts _ _ there).0 in
     let found : c.deref.result.now ≡ open_for bitime_times p (λ i. front_at i c.self.inside.inputs) v =
     c.deref.ensures.value ∙ c.in_ok-open.ensures.open in
-    let passed = same_passed (pair_order nat_order nat_order) r s own v c.deref.result.now t found ∙ (sym c.is_beyond.ensures ∙ c.if-is_beyond.false) in
-    inl (ap (λ (r : Register (Pair ℕ ℕ)). read_refusal bitime_times r.plan s v t) (sym c.self.view_is) ∙ given_up_refuses (pair_order nat_order nat_order) r s own v within t passed (search rules))
+    let passed = same_passed bitime_order r s own v c.deref.result.now t found ∙ (sym c.is_beyond.ensures ∙ c.if-is_beyond.false) in
+    inl (ap (λ (r : Register (Pair ℕ ℕ)). read_refusal bitime_times r.plan s v t) (sym c.self.view_is) ∙ given_up_refuses bitime_order r s own v within t passed (search rules))
 
 pub returns-clause-answered : goal.returns-clause-answered
 returns-clause-answered c s a =
@@ -61,11 +59,11 @@ returns-clause-answered c s a =
     let within : v < length p = ltb-true v (length p) (and_parts _ _ there).0 in
     let found : c.deref.result.now ≡ open_for bitime_times p (λ i. front_at i c.self.inside.inputs) v =
     c.deref.ensures.value ∙ c.in_ok-open.ensures.open in
-    let passed = same_passed (pair_order nat_order nat_order) r s own v c.deref.result.now t found ∙ (sym c.is_beyond.ensures ∙ c.if-is_beyond.false) in
+    let passed = same_passed bitime_order r s own v c.deref.result.now t found ∙ (sym c.is_beyond.ensures ∙ c.if-is_beyond.false) in
     let query = subst (λ (ls : List (Vec (Update (Pair ℕ ℕ)) Global)). IfOk c.evaluate.result (λ bag. Alike bag (query_at bitime_times p (list_of p (map items ls)) v t))) c.deref-2.ensures.value c.evaluate.ensures.query in
     subst
     (λ (r : Register (Pair ℕ ℕ)). FindsRows (EndsByBound r.plan s) r.plan s v t c.evaluate.result)
     c.self.view_is
-    (rows_answered (pair_order nat_order nat_order) r s own v c.known.ensures.plan within (HasLargeAbove p (sums_at bitime_times p (map items c.deref-2.result.now) t) v) (IsLarge p s)
-    (λ large. large_query (pair_order nat_order nat_order) r s own v c.known.ensures.plan within (pair_bounds nat_bounds nat_bounds) (pair_extends nat_extends nat_extends) (then_total (on_total (λ (t : Pair ℕ ℕ). t.first) nat_cmp_total) (on_total (λ (t : Pair ℕ ℕ). t.second) nat_cmp_total)) t (subst (λ (ls : List (Vec (Update (Pair ℕ ℕ)) Global)). HasLargeAbove p (sums_at bitime_times p (map items ls) t) v) c.deref-2.ensures.value large)) t c.evaluate.result
+    (rows_answered bitime_order r s own v c.known.ensures.plan within (HasLargeAbove p (sums_at bitime_times p (map items c.deref-2.result.now) t) v) (IsLarge p s)
+    (λ large. large_query bitime_order r s own v c.known.ensures.plan within bitime_bounds bitime_extends bitime_total t (subst (λ (ls : List (Vec (Update (Pair ℕ ℕ)) Global)). HasLargeAbove p (sums_at bitime_times p (map items ls) t) v) c.deref-2.ensures.value large)) t c.evaluate.result
     passed (search rules) query c.evaluate.ensures.bag c.evaluate.ensures.refused)

@@ -6,5 +6,5 @@ use Rattle.session.proofs.client.Client.changes.Goals as goal
 pub returns : goal.returns
 returns g c =
     let times = g.T.PartialOrder.times in
-    let new = c.try_changes.new.self in
-    subst (λ k. IsAnswered k new (λ us. AreListed times k new g.T.Ord.cmp c.args.view us.items) (IsChangesRefusalFound times k new c.args.view) c.try_changes.result) c.self.view_is c.try_changes.ensures
+    let new = c.changes.new.self in
+    subst (λ k. IsAnswered g.A.Access.tries k new (λ us. AreListed times k new g.T.Ord.cmp c.args.view us.items) (IsChangesRefusalFound times k new c.args.view) c.changes.result) c.self.view_is c.changes.ensures

@@ -11,6 +11,6 @@ pub returns-in_default : goal.returns-in_default
 returns-in_default g c =
     let k = c.args.self.now in
     let known : IsActor g.T.PartialOrder.times k = subst (λ k. IsActor g.T.PartialOrder.times k) c.self.view_is c.known.ensures in
-    let looked : HasLooked k c.try_look.new.self = subst (λ k. HasLooked k c.try_look.new.self) c.self.view_is c.in_ok-try_look.ensures.0 in
+    let looked : HasLooked k c.look.new.self = subst (λ k. HasLooked k c.look.new.self) c.self.view_is c.in_ok-look.ensures.0 in
     let width = no_width (dataflow_of k).nodes known.dataflow.plan c.args.input c.requires.input.0 c.args.columns.now (λ h. true≢false (sym (subst IsOk c.in_default.is (c.new.ensures.width.1 h)))) in
     inr (looked, rw (width) refl)

@@ -6,15 +6,15 @@ use Rattle.histories.specs.declared.event.Event.TheVariants.{Allow}
 use Rattle.histories.specs.Histories.Dataflows.{node_of}
 use Rattle.shared_board.specs.Tenures.{allow_refusal_in}
 use Rattle.shared_board.proofs.ActorLemmas.{IsIn, after_one, is_actor, kept, on_board, one_leaves}
-use Rattle.shared_board.proofs.CallLemmas.{done_in_turn, entered}
+use Rattle.shared_board.proofs.CallLemmas.{done, entered}
 use Rattle.shared_board.proofs.actor.Actor.allow.Given.{Over}
 use Rattle.shared_board.proofs.actor.Actor.allow.Goals.{After-deref_mut}
 use Rattle.shared_board.proofs.actor.Actor.allow.Goals as goal
 
 -- the call is made in a tenure
-tenure : (g : Over) (c : After-deref_mut g) → IsIn g.T.PartialOrder.times g.T.Ord.cmp (hub_id (arc_value c.self.inside.hub)) c.self.inside.number c.args.self.now c.enter-tenure.result c.deref_mut.result.now
+tenure : (g : Over) (c : After-deref_mut g) → IsIn g.T.PartialOrder.times g.T.Ord.cmp (hub_id (arc_value c.self.inside.hub)) c.self.inside.number c.args.self.now c.in_ok-tenure.tenure c.deref_mut.result.now
 tenure g c =
-    entered g.T.PartialOrder.times g.T.Ord.cmp c.self.inside.pass _ c.args.self.now _ _ _ c.self.invariant c.self.view_is c.enter-tenure.result c.enter-tenure.ensures.found c.deref_mut.result.now c.enter-tenure.result.state.value (g.met.P.BoardProtocol.stands_for c.enter-tenure.result.state c.enter-tenure.result.found c.enter-tenure.ensures.stands) (search rules)
+    entered g.T.PartialOrder.times g.T.Ord.cmp c.self.inside.pass _ c.args.self.now _ _ _ c.self.invariant c.self.view_is c.in_ok-tenure.tenure c.in_ok-tenure.ensures.found c.deref_mut.result.now c.in_ok-tenure.tenure.state.value (g.met.P.BoardProtocol.stands_for c.in_ok-tenure.tenure.state c.in_ok-tenure.tenure.found c.in_ok-tenure.ensures.stands) (search rules)
 
 pub allow-told-requires-clause-client : goal.allow-told-requires-clause-client
 allow-told-requires-clause-client g c =
@@ -35,13 +35,13 @@ pub leave-requires : goal.leave-requires
 leave-requires g c =
     g.met.P.BoardProtocol.may_stand _ _ (one_leaves (tenure g (goal.at.leave-requires g c).After-deref_mut) c.allow-told.ensures.event _ (g.met.P.BoardProtocol.last_is _))
 
-pub invariant_of-self : goal.invariant_of-self
-invariant_of-self g c =
-    let a = after_one (tenure g (goal.at.invariant_of-self g c).After-deref_mut) c.allow-told.ensures.event _ (g.met.P.BoardProtocol.last_is _) c.leave.result c.leave.ensures in
+pub invariant_of-self-2 : goal.invariant_of-self-2
+invariant_of-self-2 g c =
+    let a = after_one (tenure g (goal.at.invariant_of-self-2 g c).After-deref_mut) c.allow-told.ensures.event _ (g.met.P.BoardProtocol.last_is _) c.leave.result c.leave.ensures in
     kept a _ (c.accepted-self-inside.ensures ∙ search rules)
 
 pub returns : goal.returns
 returns g c =
     let t = tenure g (goal.at.returns g c).After-deref_mut in
     let a = after_one t c.allow-told.ensures.event _ (g.met.P.BoardProtocol.last_is _) c.leave.result c.leave.ensures in
-    done_in_turn t a (λ n. Allow n c.args.view c.args.times.now) (λ p w. allow_refusal_in g.T.PartialOrder.times w c.args.view c.args.times.now) c.allow-told.result c.allow-told.ensures.allowed c.allow-told.ensures.unchanged c.allow-told.ensures.accepted c.allow-told.ensures.refused
+    done t a g.A.Access.tries (λ n. Allow n c.args.view c.args.times.now) (λ p w. allow_refusal_in g.T.PartialOrder.times w c.args.view c.args.times.now) c.allow-told.result c.allow-told.ensures.allowed c.allow-told.ensures.unchanged c.allow-told.ensures.accepted c.allow-told.ensures.refused

@@ -8,9 +8,9 @@ use Rattle.shared_board.proofs.actor.Actor.tell_too_large.Goals.{After-deref_mut
 use Rattle.shared_board.proofs.actor.Actor.tell_too_large.Goals as goal
 
 -- the call is made in a tenure
-tenure : (g : Over) (c : After-deref_mut g) → IsIn g.T.PartialOrder.times g.T.Ord.cmp (hub_id (arc_value c.self.inside.hub)) c.self.inside.number c.args.self.now c.enter-tenure.result c.deref_mut.result.now
+tenure : (g : Over) (c : After-deref_mut g) → IsIn g.T.PartialOrder.times g.T.Ord.cmp (hub_id (arc_value c.self.inside.hub)) c.self.inside.number c.args.self.now c.in-Ok.home c.deref_mut.result.now
 tenure g c =
-    entered g.T.PartialOrder.times g.T.Ord.cmp c.self.inside.pass _ c.args.self.now _ _ _ c.self.invariant c.self.view_is c.enter-tenure.result c.enter-tenure.ensures.found c.deref_mut.result.now c.enter-tenure.result.state.value (g.met.P.BoardProtocol.stands_for c.enter-tenure.result.state c.enter-tenure.result.found c.enter-tenure.ensures.stands) (search rules)
+    entered g.T.PartialOrder.times g.T.Ord.cmp c.self.inside.pass _ c.args.self.now _ _ _ c.self.invariant c.self.view_is c.in-Ok.home c.in-Ok.ensures.found c.deref_mut.result.now c.in-Ok.home.state.value (g.met.P.BoardProtocol.stands_for c.in-Ok.home.state c.in-Ok.home.found c.in-Ok.ensures.stands) (search rules)
 
 pub leave-requires : goal.leave-requires
 leave-requires g c =
