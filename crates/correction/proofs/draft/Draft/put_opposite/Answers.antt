@@ -3,16 +3,16 @@ use Rattle.std.proofs.lemmas.Int.{to_z-of_z}
 use Rattle.update.specs.Bags.{entry_of}
 use Rattle.correction.proofs.ResultLemmas.{on_ok}
 use Rattle.correction.proofs.DraftLemmas.{appends_alike, appends_put, put_then, two_parts}
-use Rattle.correction.proofs.draft.put_opposite.Goals as goal
+use Rattle.correction.proofs.draft.Draft.put_opposite.Goals as goal
 
 pub returns-in_default-clause-put : goal.returns-in_default-clause-put
 returns-in_default-clause-put g c =
     let t = c.args.time in
     let row = c.args.row.now in
     let n = c.args.count in
-    let old = c.args.out.now.items in
-    let mid = c.put_row.new.out.items in
-    let new = c.put_row-in_default.new.out.items in
+    let old = c.args.self.now in
+    let mid = c.put_row.new.self in
+    let new = c.put_row-in_default.new.self in
     let fits : FitsSigned w64 n = search rules in
     let most = entry_of row (pos (2 ^ 63 - 1)) in
     let one = entry_of row (pos 1) in
@@ -30,5 +30,5 @@ returns-clause-put g c =
     let here : FitsSigned w64 m = search rules in
     let is : m ≡ neg_ℤ n = c.in-Some.ensures.1 ∙ ap neg_ℤ (to_z-of_z w64 n fits) in
     on_ok c.put_row-2.result
-    (λ h. appends_put c.args.time c.args.out.now.items c.put_row-2.new.out.items (entry_of c.args.row.now (neg_ℤ n) ∷ []) (rw (to_z-of_z w64 m here, is) at h))
+    (λ h. appends_put c.args.time c.args.self.now c.put_row-2.new.self (entry_of c.args.row.now (neg_ℤ n) ∷ []) (rw (to_z-of_z w64 m here, is) at h))
     c.put_row-2.ensures.put

@@ -2,13 +2,13 @@ use Rattle.std.proofs.Common.{◌≡◌, ◌++◌, ◌+◌, ◌-◌, ◌≤◌, 
 use Rattle.update.specs.Bags.{Entry}
 use Rattle.correction.specs.Corrections.{put}
 use Rattle.correction.specs.Evaluations.{Moves}
-use Rattle.correction.proofs.draft.put_both.Given as goal
+use Rattle.correction.proofs.draft.Draft.put_both.Given as goal
 
 abbrev pub invariant-loop-at : goal.invariant-loop-at
 invariant-loop-at g l = record {
   want : l.at.want ≤ length l.want;
   had : l.at.had ≤ length l.had;
-  moves : (entries : List Entry) × (l.out.items ≡ l.fn.out.items ++ put l.time entries) × Moves l.want l.had entries (drop l.at.want l.want) (drop l.at.had l.had);
+  moves : (entries : List Entry) × (l.self ≡ l.fn.self ++ put l.time entries) × Moves l.want l.had entries (drop l.at.want l.want) (drop l.at.had l.had);
 }
 
 -- the number of entries that are still to be read decreases

@@ -1,7 +1,7 @@
 use Rattle.std.proofs.Common.{[], ◌∷◌, ◌+◌, drop, sym, ◌∙◌}
 use Rattle.plan.specs.Operators.{negated_entry}
 use Rattle.correction.proofs.DraftLemmas.{entry_at, moves_alike, moves_want, moves_had, same_rows}
-use Rattle.correction.proofs.draft.put_next.Goals as goal
+use Rattle.correction.proofs.draft.Draft.put_next.Goals as goal
 
 pub returns-in_ok-put_entry-in-Less-clause-moves : goal.returns-in_ok-put_entry-in-Less-clause-moves
 returns-in_ok-put_entry-in-Less-clause-moves g c =
