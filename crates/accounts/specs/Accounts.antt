@@ -6,6 +6,8 @@ use Rattle.plan.specs.Rules.{IsPlan}
 use Rattle.plan.specs.declared.node.Node.{Node}
 use Rattle.progress.specs.declared.place.Place.TheVariants.{Held}
 use Rattle.progress.specs.declared.counted.Counted.{Counted}
+use Rattle.progress.specs.declared.scope.Scope.{Scope}
+use Rattle.progress.specs.Scopes.{scope_frontier}
 use Rattle.progress.specs.Several.{items_at}
 use Rattle.progress.specs.Tallies
 use Rattle.progress.specs.Tallies.{SameCounts}
@@ -82,6 +84,9 @@ module _ {T : Type 0} (times : Times T) where
   abbrev pub input_front_of : AccountState T → ℕ → List T
   input_front_of a n = Tallies.input_frontier times a.nodes (items_on a) n
 
-  -- the input frontier of one port, found in the same way
+  -- the frontier of a scope, and the input frontier of one port, found in the same way
+  abbrev pub scope_front_of : AccountState T → Scope → List T
+  scope_front_of a scope = scope_frontier times a.nodes (items_on a) scope
+
   abbrev pub port_front_of : AccountState T → ℕ → ℕ → List T
   port_front_of a n port = Tallies.port_frontier times a.nodes (items_on a) n port

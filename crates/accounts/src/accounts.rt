@@ -6,16 +6,17 @@ ghost use Rattle.antichain.specs.Antichains.{SameElements};
 ghost use Rattle.plan.specs.Changes.{has_passed};
 ghost use Rattle.plan.specs.Rules.{IsPlan};
 ghost use Rattle.progress.specs.Tallies.{SameCounts};
+ghost use Rattle.progress.specs.Scopes.{scope_node};
 ghost use Rattle.outstanding.specs.Inputs.{first_inputs};
 ghost use Rattle.outstanding.specs.Loads.{first_stations};
 ghost use Rattle.outstanding.specs.Stations.{lots};
-ghost use Rattle.accounts.specs.Accounts.{AccountState, items_left, front_of, input_front_of, port_front_of};
+ghost use Rattle.accounts.specs.Accounts.{AccountState, items_left, input_front_of, scope_front_of};
 
 use antichain::Antichain;
 use lattice::Minimum;
 use outstanding::{InputFrontiers, Stations};
 use plan::{NodeId, Plan};
-use progress::{Place, Tally};
+use progress::{Place, Scope, Tally};
 use std::alloc::Global;
 use std::marker::Model;
 use update::{Refusal, Times};
@@ -108,35 +109,20 @@ impl<T: Minimum> Accounts<T> {
         &self.inputs
     }
 
-    /// The frontier of a node: the least of what is outstanding at it or above it. Refused only
-    /// with `OutOfMemory`.
+    /// One of the frontiers of a node: the least of what counts for it. Refused only with
+    /// `OutOfMemory`.
     ///
     /// Cost: that of [`Tally::frontier`].
-    pub fn frontier(&mut self, node: NodeId) -> Result<Antichain<T>, Refusal>
-        requires { node < length self.old.nodes }
-        ensures kept { self.new ≡ self.old }
-        ensures least { IfOk result (λ found. SameElements found (front_of T.times self.old node)) }
-        ensures beyond { IfOk result (λ found. (t : T)
-            → is_beyond T.times found t ≡ is_beyond T.times (front_of T.times self.old node) t) }
-        ensures refused { OnlyMemory result }
-    {
-        self.tally.frontier(node)
-    }
-
-    /// The input frontier of a node: the same, without what is held at the node itself. Refused
-    /// only with `OutOfMemory`.
-    ///
-    /// Cost: that of [`Tally::input_frontier_of`].
-    pub fn input_frontier(&mut self, node: NodeId) -> Result<Antichain<T>, Refusal>
-        requires { node < length self.old.nodes }
+    pub fn frontier(&mut self, scope: &Scope) -> Result<Antichain<T>, Refusal>
+        requires { scope_node scope.now < length self.old.nodes }
         ensures kept { self.new ≡ self.old }
         ensures least { IfOk result (λ found.
-            SameElements found (input_front_of T.times self.old node)) }
+            SameElements found (scope_front_of T.times self.old scope.now)) }
         ensures beyond { IfOk result (λ found. (t : T) → is_beyond T.times found t
-            ≡ is_beyond T.times (input_front_of T.times self.old node) t) }
+            ≡ is_beyond T.times (scope_front_of T.times self.old scope.now) t) }
         ensures refused { OnlyMemory result }
     {
-        self.tally.input_frontier_of(node)
+        self.tally.frontier(scope)
     }
 
     /// Times that tell the input frontier of a node: a time is beyond them if and only if it is
@@ -154,22 +140,6 @@ impl<T: Minimum> Accounts<T> {
         self.tally.input_times_of(node)
     }
 
-    /// The input frontier of one port of a node: the least of what is in flight to it, and of what
-    /// is outstanding at its source or above. Refused only with `OutOfMemory`.
-    ///
-    /// Cost: that of [`Tally::input_frontier`].
-    pub fn port_frontier(&mut self, node: NodeId, port: usize) -> Result<Antichain<T>, Refusal>
-        requires { node < length self.old.nodes }
-        ensures kept { self.new ≡ self.old }
-        ensures least { IfOk result (λ found.
-            SameElements found (port_front_of T.times self.old node port)) }
-        ensures beyond { IfOk result (λ found. (t : T) → is_beyond T.times found t
-            ≡ is_beyond T.times (port_front_of T.times self.old node port) t) }
-        ensures refused { OnlyMemory result }
-    {
-        self.tally.input_frontier(node, port)
-    }
-
     /// Finds anew what the tally keeps of a node, if something moved it. A caller that asks about
     /// many times calls this first. Refused only with `OutOfMemory`.
     ///
@@ -182,26 +152,16 @@ impl<T: Minimum> Accounts<T> {
         self.tally.refresh(node)
     }
 
-    /// Whether the frontier of a node has passed a time. Takes no memory.
+    /// Whether one of the frontiers of a node has passed a time. Takes no memory.
     ///
     /// Cost: that of [`Tally::has_passed`].
-    pub fn has_passed(&mut self, node: NodeId, t: &T) -> bool
-        requires { node < length self.old.nodes }
+    pub fn has_passed(&mut self, scope: &Scope, t: &T) -> bool
+        requires { scope_node scope.now < length self.old.nodes }
         ensures kept { self.new ≡ self.old }
-        ensures value { result ≡ has_passed T.times (front_of T.times self.old node) t.now }
+        ensures value { result
+            ≡ has_passed T.times (scope_front_of T.times self.old scope.now) t.now }
     {
-        self.tally.has_passed(node, t)
-    }
-
-    /// Whether the input frontier of a node has passed a time. Takes no memory.
-    ///
-    /// Cost: that of [`Tally::input_has_passed`].
-    pub fn input_has_passed(&mut self, node: NodeId, t: &T) -> bool
-        requires { node < length self.old.nodes }
-        ensures kept { self.new ≡ self.old }
-        ensures value { result ≡ has_passed T.times (input_front_of T.times self.old node) t.now }
-    {
-        self.tally.input_has_passed(node, t)
+        self.tally.has_passed(scope, t)
     }
 }
 

@@ -24,9 +24,8 @@
 //!
 //! A board makes [`Accounts::first`]. For a client it calls `put`, `advance` and `close`, for a
 //! worker `take`, and `give` or, at a view, `give_to`. To know how far a node has come, ask
-//! `frontier`, `input_frontier`, `has_passed` or `input_has_passed`, and call `refresh` before many
-//! such questions about one node. `port_frontier` tells the same of one of its ports. `stations`,
-//! `inputs` and `plan` show what lies there.
+//! `frontier` or `has_passed` with a `Scope`, and call `refresh` before many such questions about
+//! one node. `stations`, `inputs` and `plan` show what lies there.
 //!
 //! The crate knows no hands, no rights and no history. The board of `machine` is built on it.
 #![tactic(auto)]

@@ -2,12 +2,12 @@
 //! time makes superfluous are removed. If there are none, room is made for one more. Then the time
 //! is inserted at its place in `Ord` order. Only making room can be refused, and then nothing has
 //! changed.
-ghost use Rattle.std.specs.Prelude.{◌≡◌, ◌≤◌, length, OnOk, OnErr};
-ghost use Rattle.std.specs.List.{insert};
+ghost use Rattle.std.specs.Prelude.{◌≡◌, ◌≤◌, OnOk, OnErr};
 ghost use Rattle.smallvec.specs.SmallVec.{small_vec_len, HasRoomFor};
 ghost use Rattle.antichain.specs.Insertion.{insertion, not_above};
 
 use crate::NoMemory;
+use crate::plain::place_of;
 use lattice::Lattice;
 use smallvec::SmallVec;
 
@@ -53,18 +53,4 @@ fn remove_above<T: Lattice>(elements: &mut SmallVec<T, 4>, t: T)
     ensures capacity { elements.new.capacity ≡ elements.old.capacity }
 {
     elements.retain(|e| !t.less_equal(e));
-}
-
-// The index of the first element that is greater than `t` in `Ord` order, or the length if there is
-// none.
-fn place_of<T: Lattice>(elements: &[T], t: T) -> usize
-    ensures within { result ≤ length elements.now }
-    ensures place { insert elements.now result t ≡ insertion T.cmp t elements.now }
-{
-    for (i, e) in elements.iter().enumerate() {
-        if t < *e {
-            return i;
-        }
-    }
-    elements.len()
 }

@@ -20,9 +20,11 @@ mod beyond;
 mod edits;
 mod frontier;
 mod laws;
+mod plain;
 mod refusal;
 
 pub use beyond::{all_beyond, is_beyond};
 pub use frontier::Antichain;
 pub use laws::{frontiers_are_determined, least_elements_stand_for_all};
+pub use plain::{place_of, remove_above};
 pub use refusal::NoMemory;

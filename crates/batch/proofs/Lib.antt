@@ -15,3 +15,4 @@ pub mod HandLemmas
 pub mod UnderwayLemmas
 pub mod IntervalLemmas
 pub mod DeterminedLemmas
+pub mod SizeLemmas

@@ -14,7 +14,8 @@ use Rattle.update.specs.Bags.{same_row}
 use Rattle.update.specs.Updates.{HasLargeTotal}
 use Rattle.batch.specs.Batches.{by_row_then_time, IsSealed}
 use Rattle.batch.specs.Compaction.{compacted, StandFor}
-use Rattle.batch.specs.Merges.{MergingState, IsMerging, IsUnderway, IsRead, is_left_next}
+use Rattle.batch.specs.Descriptions.{BatchState}
+use Rattle.batch.specs.Merges.{MergingState, IsMerging, IsUnderway, IsRead, is_left_next, updates_at}
 use Rattle.batch.proofs.IntervalLemmas.{none_left}
 use Rattle.batch.proofs.MergeLemmas.{rows, rows_total, upto_then_upto, rows_behind, merging_turned, compacted_swapped, merging_ends, merging_fits, large_last}
 use Rattle.lattice.specs.Times.{Times}
@@ -53,6 +54,18 @@ pub read_is : {X : Type 0} (xs : List X) (i : ℕ) (x : X) → IsSomeAnd (slice_
 read_is [] i x h = absurd h
 read_is (y ∷ xs) zero x h = h
 read_is (y ∷ xs) (suc i) x h = read_is xs i x h
+
+module _ {T : Type 0} where
+  -- the updates of a batch that a merge reads, and that there are none behind its batches
+  pub updates_there : (bs : List (BatchState T)) (n : ℕ) (b : BatchState T) → n < length bs → b ≡ get_or bs n b → updates_at n bs ≡ b.updates
+  updates_there [] n b h e = absurd (omega (arith, h))
+  updates_there (x ∷ bs) zero b h e = ap (λ (z : BatchState T). z.updates) (sym e)
+  updates_there (x ∷ bs) (suc n) b h e = updates_there bs n b (omega (arith, h)) e
+
+  pub updates_past : (bs : List (BatchState T)) (n : ℕ) → length bs ≤ n → updates_at n bs ≡ []
+  updates_past [] n h = refl
+  updates_past (x ∷ bs) zero h = absurd (omega (arith, h))
+  updates_past (x ∷ bs) (suc n) h = updates_past bs n (omega (arith, h))
 
 module _ {T : Type 0} (cmp : T → T → Ordering) where
   -- if only the left list has an update at its place, then that is next

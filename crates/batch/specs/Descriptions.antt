@@ -1,5 +1,5 @@
 -- Descriptions of batches, and what contracts see of a description, a batch and a builder.
-use Rattle.std.specs.Prelude.{◌≡◌, ℕ, List, [], IsTrue}
+use Rattle.std.specs.Prelude.{◌≡◌, ℕ, List, [], ◌∷◌, IsTrue}
 use Rattle.std.specs.declared.cmp.Ordering.{Ordering}
 use Rattle.lattice.specs.Times.{Times}
 use Rattle.lattice.specs.Frontiers.{all_beyond}
@@ -19,6 +19,20 @@ pub record DescriptionState (T : Type 0) : Type 0 where
 pub record BatchState (T : Type 0) : Type 0 where
   pub description : DescriptionState T
   pub updates : List (Update T)
+
+-- the description of updates that stand at their own times
+abbrev pub unmoved : {T : Type 0} → Times T → ℕ → ℕ → List T → List T → DescriptionState T
+unmoved times worker node lower upper = record {
+  worker = worker;
+  node = node;
+  lower = lower;
+  upper = upper;
+  since = times.least ∷ [];
+}
+
+-- the description of a merge of two neighbours as of a frontier
+abbrev pub merged_as_of : {T : Type 0} → List T → DescriptionState T → DescriptionState T → DescriptionState T
+merged_as_of since a b = record a { upper = b.upper; since = since }
 
 -- if the interval of the batch is empty, then the batch has no updates
 abbrev pub IsEmptyIfStill : {T : Type 0} → BatchState T → Type 0

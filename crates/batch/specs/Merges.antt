@@ -1,6 +1,6 @@
 -- The state of a merge: some rows of two sealed lists are finished, the updates of one row are in
 -- hand, and the rest of both lists is still to come.
-use Rattle.std.specs.Prelude.{◌≡◌, ◌≢◌, ℕ, Bool, true, false, List, [], ◌∷◌, ◌++◌, ℤ, drop, length, ◌≤◌}
+use Rattle.std.specs.Prelude.{◌≡◌, ◌≢◌, ℕ, zero, suc, Bool, true, false, List, [], ◌∷◌, ◌++◌, ℤ, drop, length, ◌≤◌}
 use Rattle.std.specs.List.{AllByRecursion}
 use Rattle.std.specs.List.Sorted.{IsStrictlySortedBy}
 use Rattle.std.specs.Cmp.Lexicographic.{slice_cmp}
@@ -11,7 +11,7 @@ use Rattle.update.specs.declared.change.Update.{Update}
 use Rattle.update.specs.Updates.{HasLargeTotal}
 use Rattle.batch.specs.Batches.{by_row_then_time, IsSealed}
 use Rattle.batch.specs.Compaction.{compacted, StandFor}
-use Rattle.batch.specs.Descriptions.{DescriptionState}
+use Rattle.batch.specs.Descriptions.{DescriptionState, BatchState}
 use Rattle.lattice.specs.Times.{Times}
 
 -- what is to be described, the updates of finished rows, those in hand, and how many updates of
@@ -61,3 +61,10 @@ abbrev pub is_left_next : {T : Type 0} → (T → T → Ordering) → List (Upda
 is_left_next cmp [] ys = false
 is_left_next cmp (x ∷ xs) [] = true
 is_left_next cmp (x ∷ xs) (y ∷ ys) = is_le (by_row_then_time cmp x y)
+
+-- A merge reads two neighbouring batches, or one that is rewritten. These are the updates of the
+-- batch with this number among them, and none if there are no more batches.
+abbrev pub updates_at : {T : Type 0} → ℕ → List (BatchState T) → List (Update T)
+updates_at n [] = []
+updates_at zero (b ∷ bs) = b.updates
+updates_at (suc n) (b ∷ bs) = updates_at n bs

@@ -12,6 +12,7 @@ ghost use Rattle.update.specs.Bags.{Alike};
 ghost use Rattle.update.specs.Updates.{as_of, total_where, HasLargeTotal, size};
 ghost use Rattle.update.specs.declared.refusal.Refusal.{Refusal};
 ghost use Rattle.batch.specs.Batches.{IsSealed};
+ghost use Rattle.batch.specs.Descriptions.{unmoved};
 ghost use Rattle.batch.specs.Intervals.{all_between, is_interval_of, passed_updates, open_updates};
 
 use crate::passed::{drop_passed, is_interval_of_passed, passed_copies};
@@ -95,13 +96,8 @@ impl<T: Minimum> Builder<T> {
     /// each update with each element of the frontiers, and a count of the rows and a copy of what
     /// is left.
     pub fn seal(self, lower: &Antichain<T>, upper: &Antichain<T>) -> Result<Batch<T>, Refusal>
-        ensures described { IfOk result (λ batch. batch.description ≡ record {
-          worker = self.worker;
-          node = self.node;
-          lower = lower.now;
-          upper = upper.now;
-          since = T.times.least ∷ [];
-        }) }
+        ensures described { IfOk result (λ batch. batch.description
+            ≡ unmoved T.times self.worker self.node lower.now upper.now) }
         ensures sealed { IfOk result (λ batch. IsSealed T.cmp batch.updates) }
         ensures between { IfOk result
             (λ batch. IsTrue (all_between T.times lower.now upper.now batch.updates)) }
@@ -158,13 +154,8 @@ impl<T: Minimum> Builder<T> {
         lower: &Antichain<T>,
         upper: &Antichain<T>,
     ) -> Result<Batch<T>, Refusal>
-        ensures described { IfOk result (λ batch. batch.description ≡ record {
-          worker = self.old.worker;
-          node = self.old.node;
-          lower = lower.now;
-          upper = upper.now;
-          since = T.times.least ∷ [];
-        }) }
+        ensures described { IfOk result (λ batch. batch.description
+            ≡ unmoved T.times self.old.worker self.old.node lower.now upper.now) }
         ensures sealed { IfOk result (λ batch. IsSealed T.cmp batch.updates) }
         ensures between { IfOk result
             (λ batch. IsTrue (all_between T.times lower.now upper.now batch.updates)) }
@@ -212,13 +203,8 @@ pub(crate) fn unmoved<T: Minimum>(
     upper: &Antichain<T>,
 ) -> Result<Description<T>, Refusal>
     requires { IsTrue (all_beyond T.times lower.now upper.now) }
-    ensures made { IfOk result (λ made. made ≡ record {
-      worker = worker;
-      node = node;
-      lower = lower.now;
-      upper = upper.now;
-      since = T.times.least ∷ [];
-    }) }
+    ensures made { IfOk result (λ made.
+        made ≡ unmoved T.times worker node lower.now upper.now) }
     ensures only { OnlyMemory result }
 {
     let since = Antichain::from_elem(alloc, T::minimum());

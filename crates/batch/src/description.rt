@@ -9,7 +9,7 @@ ghost use Rattle.std.specs.Prelude.{◌≡◌, ◌↔◌, ◌⊎◌, Err, IfOk, 
 ghost use Rattle.update.specs.Refusals.{OnlyMemory};
 ghost use Rattle.lattice.specs.Frontiers.{all_beyond};
 ghost use Rattle.antichain.specs.Antichains.{IsFrontier};
-ghost use Rattle.batch.specs.Descriptions.{IsInterval, Follows};
+ghost use Rattle.batch.specs.Descriptions.{IsInterval, Follows, merged_as_of};
 ghost use Rattle.update.specs.declared.refusal.Refusal.{Refusal};
 
 use lattice::Lattice;
@@ -84,13 +84,8 @@ impl<T: Lattice> Description<T> {
         since: &[T],
     ) -> Result<Description<T>, Refusal>
         requires { IsFrontier T.times T.cmp since.now }
-        ensures made { IfOk result (λ made. made ≡ record {
-          worker = self.now.worker;
-          node = self.now.node;
-          lower = self.now.lower;
-          upper = next.now.upper;
-          since = since.now;
-        }) }
+        ensures made { IfOk result (λ made.
+            made ≡ merged_as_of since.now self.now next.now) }
         ensures forward { OnOk result (IsTrue (all_beyond T.times self.now.lower self.now.upper)) }
         ensures next_forward { OnOk result
             (IsTrue (all_beyond T.times next.now.lower next.now.upper)) }

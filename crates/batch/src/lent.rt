@@ -4,7 +4,7 @@
 //! that. Its columns are then copied as they stand: nothing is sorted, and no second list is made.
 //! A short list comes one by one, and is written column by column. Any other list is copied, and
 //! the copy is sealed as a builder does it.
-ghost use Rattle.std.specs.Prelude.{◌≡◌, ◌≢◌, ◌≤◌, ◌<◌, ◌-◌, ◌↔◌, ◌⊎◌, ◌∷◌, [], List, ℤ, Bool, Err, pos, length, slice_index_or, FitsSigned, IfOk, IfErr, OnOk, IsTrue};
+ghost use Rattle.std.specs.Prelude.{◌≡◌, ◌≢◌, ◌≤◌, ◌<◌, ◌-◌, ◌↔◌, ◌⊎◌, List, ℤ, Bool, Err, pos, length, slice_index_or, FitsSigned, IfOk, IfErr, OnOk, IsTrue};
 ghost use Rattle.std.specs.Int.{w64};
 ghost use Rattle.std.specs.List.{list_all};
 ghost use Rattle.std.specs.declared.cmp.Ordering.TheVariants.{Less};
@@ -13,6 +13,7 @@ ghost use Rattle.update.specs.Bags.{Alike};
 ghost use Rattle.update.specs.Updates.{as_of, total_where, HasLargeTotal, size};
 ghost use Rattle.update.specs.declared.refusal.Refusal.{Refusal};
 ghost use Rattle.batch.specs.Batches.{IsSealed, by_row_then_time};
+ghost use Rattle.batch.specs.Descriptions.{unmoved};
 ghost use Rattle.batch.specs.Intervals.{all_between, is_between, is_interval_of};
 
 use crate::Batch;
@@ -204,13 +205,8 @@ pub fn seal_list<T: Minimum>(
     lower: &Antichain<T>,
     upper: &Antichain<T>,
 ) -> Result<Batch<T>, Refusal>
-    ensures described { IfOk result (λ batch. batch.description ≡ record {
-      worker = worker;
-      node = node;
-      lower = lower.now;
-      upper = upper.now;
-      since = T.times.least ∷ [];
-    }) }
+    ensures described { IfOk result (λ batch.
+        batch.description ≡ unmoved T.times worker node lower.now upper.now) }
     ensures sealed { IfOk result (λ batch. IsSealed T.cmp batch.updates) }
     ensures between { IfOk result
         (λ batch. IsTrue (all_between T.times lower.now upper.now batch.updates)) }

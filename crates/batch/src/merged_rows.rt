@@ -70,27 +70,8 @@ fn put_in_hand<T: Lattice>(
     Ok(())
 }
 
-// Sorts and adds up the updates of a row, and puts what is left behind the finished rows.
-fn put_sorted<T: Lattice>(
-    alloc: Global,
-    finished: &mut Columns<T>,
-    row: &Row,
-    in_hand: &[Change<T>],
-) -> Result<(), Refusal>
-    ensures written { OnOk result ((added : List (Update T))
-        × (finished.new ≡ finished.old ++ added)
-        × IsSealed T.cmp added × StandFor added (with_row row.now in_hand.now)) }
-    ensures fits { OnOk result (HasLargeTotal T.times (with_row row.now in_hand.now) → ⊥) }
-    ensures refused { IfErr result
-        (IsMemoryOrOverflow (HasLargeTotal T.times (with_row row.now in_hand.now))) }
-{
-    let updates = spread(alloc, row, in_hand)?;
-    let sealed = sealed_list(updates)?;
-    push_all(finished, sealed.as_slice())?;
-    Ok(())
-}
-
-// Puts a row behind the finished ones. Where no time moved, its updates are sealed as they came.
+// Puts a row behind the finished ones. If no time moved, its updates are sealed as they came.
+// Otherwise they are sorted and added up first.
 fn put_row<T: Lattice>(
     alloc: Global,
     finished: &mut Columns<T>,
@@ -105,10 +86,12 @@ fn put_row<T: Lattice>(
         (IsMemoryOrOverflow (HasLargeTotal T.times (with_row row.now in_hand.now))) }
 {
     if are_settled(in_hand) {
-        push_run(finished, row, in_hand)
-    } else {
-        put_sorted(alloc, finished, row, in_hand)
+        return push_run(finished, row, in_hand);
     }
+    let updates = spread(alloc, row, in_hand)?;
+    let sealed = sealed_list(updates)?;
+    push_all(finished, sealed.as_slice())?;
+    Ok(())
 }
 
 impl<T: Lattice> MergedRows<T> {

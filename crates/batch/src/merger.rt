@@ -14,8 +14,8 @@ ghost use Rattle.update.specs.Refusals.{OnlyMemory, IsMemoryOrOverflow};
 ghost use Rattle.update.specs.declared.refusal.Refusal.{Refusal};
 ghost use Rattle.batch.specs.Batches.{IsSealed};
 ghost use Rattle.batch.specs.Compaction.{compacted, StandFor};
-ghost use Rattle.batch.specs.Descriptions.{Follows};
-ghost use Rattle.batch.specs.Merges.{IsUnderway, IsRead, is_left_next};
+ghost use Rattle.batch.specs.Descriptions.{Follows, merged_as_of};
+ghost use Rattle.batch.specs.Merges.{IsUnderway, IsRead, is_left_next, updates_at};
 
 use crate::merged_rows::MergedRows;
 use crate::plain::known_length;
@@ -67,6 +67,22 @@ fn run_of_next<T: Lattice>(columns: &Columns<T>, place: usize, near: usize) -> u
     }
 }
 
+// The columns of the batch with this number among those that a merge reads, or none if there are no
+// more batches.
+fn columns_at<'a, T: Lattice>(
+    sources: &'a [Batch<T>],
+    number: usize,
+    none: &'a Columns<T>,
+) -> &'a Columns<T>
+    requires { none.now ≡ [] }
+    ensures { result.now ≡ updates_at number sources.now }
+{
+    if number >= sources.len() {
+        return none;
+    }
+    sources[number].columns()
+}
+
 // Begins a merge of two lists. Nothing is read yet.
 fn begun<T: Lattice>(
     alloc: Global,
@@ -107,13 +123,8 @@ impl<T: Lattice> Merging<T> {
     /// Cost: one comparison of frontiers.
     pub fn of_two(a: &Batch<T>, b: &Batch<T>, since: &[T]) -> Result<Merging<T>, Refusal>
         requires { IsFrontier T.times T.cmp since.now }
-        ensures described { IfOk result (λ made. made.description ≡ record {
-          worker = a.now.description.worker;
-          node = a.now.description.node;
-          lower = a.now.description.lower;
-          upper = b.now.description.upper;
-          since = since.now;
-        }) }
+        ensures described { IfOk result (λ made. made.description
+            ≡ merged_as_of since.now a.now.description b.now.description) }
         ensures underway { IfOk result (λ made.
             IsUnderway T.times T.cmp a.now.updates b.now.updates made) }
         ensures begun { IfOk result (λ made. made.left + made.right ≡ 0) }
@@ -146,8 +157,9 @@ impl<T: Lattice> Merging<T> {
 
     /// Reads as many more updates as the fuel says, or all that are left, and answers what is left
     /// of the fuel. Each update that is read costs one unit, and is copied at the representative of
-    /// its time. The batches must be those with which the merge was begun. If a step is refused,
-    /// then the merge is given up, and the batches stay as they were.
+    /// its time. The sources must be the batches with which the merge was begun: both, or the one
+    /// that is rewritten. If a step is refused, then the merge is given up, and the batches stay as
+    /// they were.
     ///
     /// - [`Refusal::Overflow`] only if the total of some row at some moved time is no 64-bit
     ///   number.
@@ -156,40 +168,26 @@ impl<T: Lattice> Merging<T> {
     /// Cost: for each update one comparison of rows, and a join and a meet for each element of the
     /// frontier; for each row that is finished n log n comparisons of times, or n if they are still
     /// in order.
-    pub fn step(self, a: &Batch<T>, b: &Batch<T>, fuel: u64) -> Result<(Merging<T>, u64), Refusal>
-        requires { IsUnderway T.times T.cmp a.now.updates b.now.updates self }
-        ensures kept { IfOk result (λ new.
-            IsUnderway T.times T.cmp a.now.updates b.now.updates new.0) }
+    pub fn step(self, sources: &[Batch<T>], fuel: u64) -> Result<(Merging<T>, u64), Refusal>
+        requires { IsUnderway T.times T.cmp
+            (updates_at 0 sources.now) (updates_at 1 sources.now) self }
+        ensures kept { IfOk result (λ new. IsUnderway T.times T.cmp
+            (updates_at 0 sources.now) (updates_at 1 sources.now) new.0) }
         ensures described { IfOk result (λ new. new.0.description ≡ self.description) }
         ensures spent { IfOk result
             (λ new. (new.0.left + new.0.right) + new.1 ≡ (self.left + self.right) + fuel) }
         ensures less { IfOk result (λ new. new.1 ≤ fuel) }
-        ensures on { IfOk result
-            (λ new. (new.1 ≡ 0) ⊎ IsRead a.now.updates b.now.updates new.0) }
+        ensures on { IfOk result (λ new. (new.1 ≡ 0)
+            ⊎ IsRead (updates_at 0 sources.now) (updates_at 1 sources.now) new.0) }
         ensures refused { IfErr result (IsMemoryOrOverflow (HasLargeTotal T.times
-            (compacted T.times self.description.since (a.now.updates ++ b.now.updates)))) }
+            (compacted T.times self.description.since
+            (updates_at 0 sources.now ++ updates_at 1 sources.now)))) }
     {
+        let none = Columns::new(self.allocator());
         let mut merging = self;
-        let left = merging.go_on(a.columns(), b.columns(), fuel)?;
-        Ok((merging, left))
-    }
-
-    /// As [`step`](Merging::step), for the rewriting of one batch.
-    pub fn step_of_one(self, a: &Batch<T>, fuel: u64) -> Result<(Merging<T>, u64), Refusal>
-        requires { IsUnderway T.times T.cmp a.now.updates [] self }
-        ensures kept { IfOk result (λ new.
-            IsUnderway T.times T.cmp a.now.updates [] new.0) }
-        ensures described { IfOk result (λ new. new.0.description ≡ self.description) }
-        ensures spent { IfOk result
-            (λ new. (new.0.left + new.0.right) + new.1 ≡ (self.left + self.right) + fuel) }
-        ensures less { IfOk result (λ new. new.1 ≤ fuel) }
-        ensures on { IfOk result (λ new. (new.1 ≡ 0) ⊎ IsRead a.now.updates [] new.0) }
-        ensures refused { IfErr result (IsMemoryOrOverflow (HasLargeTotal T.times
-            (compacted T.times self.description.since (a.now.updates ++ [])))) }
-    {
-        let mut merging = self;
-        let none = Columns::new(a.allocator());
-        let left = merging.go_on(a.columns(), &none, fuel)?;
+        let first = columns_at(sources, 0, &none);
+        let second = columns_at(sources, 1, &none);
+        let left = merging.go_on(first, second, fuel)?;
         Ok((merging, left))
     }
 
@@ -201,23 +199,18 @@ impl<T: Lattice> Merging<T> {
         &self.description
     }
 
-    /// Whether all of both batches was read. Takes no memory.
-    pub fn is_read(&self, a: &Batch<T>, b: &Batch<T>) -> bool
-        ensures { IsTrue result ↔ IsRead a.now.updates b.now.updates self.now }
+    /// Whether all of the sources was read. Takes no memory.
+    pub fn is_read(&self, sources: &[Batch<T>]) -> bool
+        ensures { IsTrue result
+            ↔ IsRead (updates_at 0 sources.now) (updates_at 1 sources.now) self.now }
     {
-        self.has_read(a.columns(), b.columns())
+        let none = Columns::new(self.allocator());
+        self.has_read(columns_at(sources, 0, &none), columns_at(sources, 1, &none))
     }
 
-    /// Whether all of the batch was read that is rewritten. Takes no memory.
-    pub fn is_one_read(&self, a: &Batch<T>) -> bool
-        ensures { IsTrue result ↔ IsRead a.now.updates [] self.now }
-    {
-        self.has_read(a.columns(), &Columns::new(a.allocator()))
-    }
-
-    /// The merged batch, once all of both batches was read: the only sealed list with the totals of
-    /// both, each update at the representative of its time. So at each time beyond the since, it
-    /// sums to the sum of both. If this is refused, then the merge is given up.
+    /// The merged batch, or the rewritten one, once all of the sources was read: the only sealed
+    /// list with their totals, each update at the representative of its time. So at each time
+    /// beyond the since, it sums to their sum. If this is refused, then the merge is given up.
     ///
     /// - [`Refusal::Overflow`] only if the total of some row at some moved time is no 64-bit
     ///   number, and no batch is given in that case.
@@ -225,34 +218,28 @@ impl<T: Lattice> Merging<T> {
     ///
     /// Cost: sorts the last row. A list that is no more than a quarter full is moved to a smaller
     /// place.
-    pub fn finish(self, a: &Batch<T>, b: &Batch<T>) -> Result<Batch<T>, Refusal>
+    pub fn finish(self, sources: &[Batch<T>]) -> Result<Batch<T>, Refusal>
         requires underway { IsUnderway T.times T.cmp
-            a.now.updates b.now.updates self }
-        requires read { IsRead a.now.updates b.now.updates self }
+            (updates_at 0 sources.now) (updates_at 1 sources.now) self }
+        requires read { IsRead (updates_at 0 sources.now) (updates_at 1 sources.now) self }
         ensures described { IfOk result (λ batch. batch.description ≡ self.description) }
         ensures stand { IfOk result (λ batch. StandFor batch.updates
-            (compacted T.times self.description.since (a.now.updates ++ b.now.updates))) }
-        ensures fits { OnOk result (HasLargeTotal T.times (compacted T.times
-            self.description.since (a.now.updates ++ b.now.updates)) → ⊥) }
+            (compacted T.times self.description.since
+            (updates_at 0 sources.now ++ updates_at 1 sources.now))) }
+        ensures fits { OnOk result (HasLargeTotal T.times
+            (compacted T.times self.description.since
+            (updates_at 0 sources.now ++ updates_at 1 sources.now)) → ⊥) }
         ensures refused { IfErr result (IsMemoryOrOverflow (HasLargeTotal T.times
-            (compacted T.times self.description.since (a.now.updates ++ b.now.updates)))) }
+            (compacted T.times self.description.since
+            (updates_at 0 sources.now ++ updates_at 1 sources.now)))) }
     {
-        self.whole(a.columns(), b.columns())
+        let none = Columns::new(self.allocator());
+        self.whole(columns_at(sources, 0, &none), columns_at(sources, 1, &none))
     }
 
-    /// The rewritten batch, as [`finish`](Merging::finish).
-    pub fn finish_one(self, a: &Batch<T>) -> Result<Batch<T>, Refusal>
-        requires underway { IsUnderway T.times T.cmp a.now.updates [] self }
-        requires read { IsRead a.now.updates [] self }
-        ensures described { IfOk result (λ batch. batch.description ≡ self.description) }
-        ensures stand { IfOk result (λ batch. StandFor batch.updates
-            (compacted T.times self.description.since (a.now.updates ++ []))) }
-        ensures fits { OnOk result (HasLargeTotal T.times (compacted T.times
-            self.description.since (a.now.updates ++ [])) → ⊥) }
-        ensures refused { IfErr result (IsMemoryOrOverflow (HasLargeTotal T.times
-            (compacted T.times self.description.since (a.now.updates ++ [])))) }
-    {
-        self.whole(a.columns(), &Columns::new(a.allocator()))
+    // The allocator of the merge.
+    fn allocator(&self) -> Global {
+        self.description.allocator()
     }
 
     // Whether all of both lists was read.
@@ -279,50 +266,6 @@ impl<T: Lattice> Merging<T> {
         rows.then(times).is_le()
     }
 
-    // Takes in the next update of the left list.
-    fn take_left(&mut self, us: &Columns<T>, vs: &Columns<T>) -> Result<(), Refusal>
-        requires underway { IsUnderway T.times T.cmp us.now vs.now self.old }
-        requires within { self.old.left < length us.now }
-        requires next { is_left_next T.cmp (drop self.old.left us.now)
-            (drop self.old.right vs.now) ≡ true }
-        ensures kept { OnOk result
-            (IsUnderway T.times T.cmp us.now vs.now self.new) }
-        ensures described { self.new.description ≡ self.old.description }
-        ensures forward { OnOk result
-            (self.new.left + self.new.right ≡ suc (self.old.left + self.old.right)) }
-        ensures refused { IfErr result (IsMemoryOrOverflow (HasLargeTotal T.times
-            (compacted T.times self.old.description.since (us.now ++ vs.now)))) }
-    {
-        self.rows
-            .take_in(us, self.left, self.left_run, self.description.since())?;
-        known_length(us);
-        self.left += 1;
-        self.left_run = run_of_next(us, self.left, self.left_run);
-        Ok(())
-    }
-
-    // Takes in the next update of the right list.
-    fn take_right(&mut self, us: &Columns<T>, vs: &Columns<T>) -> Result<(), Refusal>
-        requires underway { IsUnderway T.times T.cmp us.now vs.now self.old }
-        requires within { self.old.right < length vs.now }
-        requires next { is_left_next T.cmp (drop self.old.left us.now)
-            (drop self.old.right vs.now) ≡ false }
-        ensures kept { OnOk result
-            (IsUnderway T.times T.cmp us.now vs.now self.new) }
-        ensures described { self.new.description ≡ self.old.description }
-        ensures forward { OnOk result
-            (self.new.left + self.new.right ≡ suc (self.old.left + self.old.right)) }
-        ensures refused { IfErr result (IsMemoryOrOverflow (HasLargeTotal T.times
-            (compacted T.times self.old.description.since (us.now ++ vs.now)))) }
-    {
-        self.rows
-            .take_in(vs, self.right, self.right_run, self.description.since())?;
-        known_length(vs);
-        self.right += 1;
-        self.right_run = run_of_next(vs, self.right, self.right_run);
-        Ok(())
-    }
-
     // Takes in the next update of the list that has it.
     fn take_next(&mut self, us: &Columns<T>, vs: &Columns<T>) -> Result<(), Refusal>
         requires underway { IsUnderway T.times T.cmp us.now vs.now self.old }
@@ -336,10 +279,19 @@ impl<T: Lattice> Merging<T> {
             (compacted T.times self.old.description.since (us.now ++ vs.now)))) }
     {
         if self.is_left_next(us, vs) {
-            self.take_left(us, vs)
-        } else {
-            self.take_right(us, vs)
+            self.rows
+                .take_in(us, self.left, self.left_run, self.description.since())?;
+            known_length(us);
+            self.left += 1;
+            self.left_run = run_of_next(us, self.left, self.left_run);
+            return Ok(());
         }
+        self.rows
+            .take_in(vs, self.right, self.right_run, self.description.since())?;
+        known_length(vs);
+        self.right += 1;
+        self.right_run = run_of_next(vs, self.right, self.right_run);
+        Ok(())
     }
 
     // Goes on until the fuel is spent or all of both lists was read. Answers what is left of it.
@@ -380,7 +332,7 @@ impl<T: Lattice> Merging<T> {
     }
 
     // The batch of a merge that has read all of both lists.
-    fn whole(self, us: &Columns<T>, vs: &Columns<T>) -> Result<Batch<T>, Refusal>
+    pub(crate) fn whole(self, us: &Columns<T>, vs: &Columns<T>) -> Result<Batch<T>, Refusal>
         requires underway { IsUnderway T.times T.cmp us.now vs.now self }
         requires read { IsRead us.now vs.now self }
         ensures described { IfOk result (λ batch. batch.description ≡ self.description) }

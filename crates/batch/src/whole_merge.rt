@@ -9,7 +9,7 @@ ghost use Rattle.update.specs.Updates.{as_of, HasLargeTotal, size};
 ghost use Rattle.update.specs.declared.refusal.Refusal.{Refusal};
 ghost use Rattle.batch.specs.Batches.{IsSealed};
 ghost use Rattle.batch.specs.Compaction.{compacted, are_compacted, StandFor, IsUpward};
-ghost use Rattle.batch.specs.Descriptions.{Follows};
+ghost use Rattle.batch.specs.Descriptions.{Follows, merged_as_of};
 
 use crate::{Batch, Merging};
 use lattice::Lattice;
@@ -36,13 +36,8 @@ use update::Refusal;
 /// To go on from call to call, use [`Merging`].
 pub fn merge<T: Lattice>(a: &Batch<T>, b: &Batch<T>, since: &[T]) -> Result<Batch<T>, Refusal>
     requires { IsFrontier T.times T.cmp since.now }
-    ensures described { IfOk result (λ both. both.description ≡ record {
-      worker = a.now.description.worker;
-      node = a.now.description.node;
-      lower = a.now.description.lower;
-      upper = b.now.description.upper;
-      since = since.now;
-    }) }
+    ensures described { IfOk result (λ both. both.description
+        ≡ merged_as_of since.now a.now.description b.now.description) }
     ensures sealed { IfOk result (λ both. IsSealed T.cmp both.updates) }
     ensures compacted { IfOk result (λ both.
         IsTrue (are_compacted T.times since.now both.updates)) }
@@ -65,7 +60,9 @@ pub fn merge<T: Lattice>(a: &Batch<T>, b: &Batch<T>, since: &[T]) -> Result<Batc
         (compacted T.times since.now (a.now.updates ++ b.now.updates))))) }
 {
     let mut merging = Merging::of_two(a, b, since)?;
-    merging.read_all(a.columns(), b.columns())?;
-    let both = merging.finish(a, b)?;
+    let us = a.columns();
+    let vs = b.columns();
+    merging.read_all(us, vs)?;
+    let both = merging.whole(us, vs)?;
     Ok(both)
 }

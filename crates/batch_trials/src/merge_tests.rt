@@ -2,7 +2,7 @@
 //! they give is what was worked out by hand. No clause says how many calls a merge takes, and none
 //! that a merge which was refused for memory succeeds later.
 ghost use Rattle.std.specs.Prelude.{IfOk};
-ghost use Rattle.batch.specs.Merges.{IsUnderway};
+ghost use Rattle.batch.specs.Merges.{IsUnderway, updates_at};
 
 use crate::batch_tests::assert_reads;
 use crate::batches::sealed;
@@ -74,17 +74,17 @@ fn a_merge_moves_times(rt: HostRuntime) -> Result<(), Fail> {
 // Goes on with a merge by as many calls, of one unit each.
 fn go_on<T: Lattice>(
     merging: Merging<T>,
-    a: &Batch<T>,
-    b: &Batch<T>,
+    sources: &[Batch<T>],
     calls: u64,
 ) -> Result<Merging<T>, Refusal>
-    requires { IsUnderway T.times T.cmp a.now.updates b.now.updates merging }
-    ensures { IfOk result
-        (λ new. IsUnderway T.times T.cmp a.now.updates b.now.updates new) }
+    requires { IsUnderway T.times T.cmp
+        (updates_at 0 sources.now) (updates_at 1 sources.now) merging }
+    ensures { IfOk result (λ new. IsUnderway T.times T.cmp
+        (updates_at 0 sources.now) (updates_at 1 sources.now) new) }
 {
     let mut merging = merging;
     for _ in 0..calls {
-        let (next, _left) = merging.step(a, b, 1)?;
+        let (next, _left) = merging.step(sources, 1)?;
         merging = next;
     }
     Ok(merging)
@@ -95,11 +95,12 @@ fn go_on<T: Lattice>(
 fn merged_by_calls(alloc: Global, calls: u64) -> Result<Option<usize>, Refusal> {
     let (first, second) = neighbours(alloc)?;
     let merging = Merging::of_two(&first, &second, two_readers(alloc)?.elements())?;
-    let merging = go_on(merging, &first, &second, calls)?;
-    if !merging.is_read(&first, &second) {
+    let sources = [first, second];
+    let merging = go_on(merging, &sources, calls)?;
+    if !merging.is_read(&sources) {
         return Ok(None);
     }
-    Ok(Some(merging.finish(&first, &second)?.len()))
+    Ok(Some(merging.finish(&sources)?.len()))
 }
 
 // The same, and once more if memory was refused.
@@ -122,9 +123,10 @@ fn merging_from_call_to_call_takes_memory(rt: HostRuntime) -> Result<(), Fail> {
 fn rewritten(rt: &impl Abort, alloc: Global) -> Result<Batch<Bitime>, Refusal> {
     let batch = sevens(alloc, (0, 0), (2, 0), &[(0, 0), (0, 3), (1, 1)])?;
     let merging = Merging::of_one(&batch, two_readers(alloc)?.elements())?;
-    let (merging, left) = merging.step_of_one(&batch, 1_000)?;
-    assert!(rt; left == 997 && merging.is_one_read(&batch));
-    merging.finish_one(&batch)
+    let sources = [batch];
+    let (merging, left) = merging.step(&sources, 1_000)?;
+    assert!(rt; left == 997 && merging.is_read(&sources));
+    merging.finish(&sources)
 }
 
 // Its description stays, but for the since.

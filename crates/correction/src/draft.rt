@@ -24,6 +24,7 @@ use lattice::Lattice;
 use row::Row;
 use std::alloc::Global;
 use std::cmp::Ordering;
+use std::marker::Model;
 use update::{Bag, Refusal, Update};
 
 // The number of entries of each of two bags that a pass has read.
@@ -33,111 +34,19 @@ struct Cursors {
     had: usize,
 }
 
-// Appends an entry of a bag at a time.
-fn put_entry<T: Lattice>(
-    out: &mut Vec<Update<T>>,
-    time: T,
-    bag: &Bag,
-    i: usize,
-) -> Result<(), Refusal>
-    requires { i < length bag.now }
-    ensures put { OnOk result (IsSomeAnd (slice_get bag.now i)
-        (λ e. out.new.items ≡ out.old.items ++ put time (e ∷ []))) }
-    ensures only { OnlyMemory result }
-{
-    out.push(Update {
-        time,
-        row: bag.row(i).copy(),
-        diff: bag.count(i),
-    })?;
-    Ok(())
+// What is put down for one key at one time. A contract sees the list of it.
+#[derive(Drop)]
+struct Draft<T: Lattice> {
+    updates: Vec<Update<T>>,
 }
 
-// Appends a row with a count at a time.
-fn put_row<T: Lattice>(
-    out: &mut Vec<Update<T>>,
-    time: T,
-    row: &Row,
-    count: i64,
-) -> Result<(), Refusal>
-    ensures put { OnOk result
-        (out.new.items ≡ out.old.items ++ put time (entry_of row.now count ∷ [])) }
-    ensures only { OnlyMemory result }
-{
-    out.push(Update {
-        time,
-        row: row.copy(),
-        diff: count,
-    })?;
-    Ok(())
-}
+impl<T: Lattice> Model for Draft<T> {
+    ghost use Rattle.std.specs.Prelude.{List};
+    ghost use Rattle.update.specs.declared.change.Update.{Update};
 
-// Takes a row back at a time. A count of -2^63 is taken back in two parts.
-fn put_opposite<T: Lattice>(
-    out: &mut Vec<Update<T>>,
-    time: T,
-    row: &Row,
-    count: i64,
-) -> Result<(), Refusal>
-    ensures put { OnOk result (Appends time out.old.items out.new.items
-        (entry_of row.now (neg_ℤ count) ∷ [])) }
-    ensures only { OnlyMemory result }
-{
-    let Some(opposite) = count.checked_neg() else {
-        put_row(out, time, row, i64::MAX)?;
-        return put_row(out, time, row, 1);
-    };
-    put_row(out, time, row, opposite)
-}
+    ghost Value = { List (Update T) };
 
-// Takes an entry of a bag back at a time.
-fn put_back_entry<T: Lattice>(
-    out: &mut Vec<Update<T>>,
-    time: T,
-    bag: &Bag,
-    i: usize,
-) -> Result<(), Refusal>
-    requires { i < length bag.now }
-    ensures put { OnOk result (IsSomeAnd (slice_get bag.now i)
-        (λ e. Appends time out.old.items out.new.items (negated_entry e ∷ []))) }
-    ensures only { OnlyMemory result }
-{
-    put_opposite(out, time, bag.row(i), bag.count(i))
-}
-
-// Appends the entries of a bag from a place on.
-fn put_rest<T: Lattice>(
-    out: &mut Vec<Update<T>>,
-    time: T,
-    bag: &Bag,
-    start: usize,
-) -> Result<(), Refusal>
-    requires { start ≤ length bag.now }
-    ensures put { OnOk result (out.new.items ≡ out.old.items ++ put time (drop start bag.now)) }
-    ensures only { OnlyMemory result }
-{
-    for i in start..bag.len() {
-        put_entry(out, time, bag, i)?;
-    }
-    Ok(())
-}
-
-// Takes the entries of a bag back from a place on.
-fn put_back_rest<T: Lattice>(
-    out: &mut Vec<Update<T>>,
-    time: T,
-    bag: &Bag,
-    start: usize,
-) -> Result<(), Refusal>
-    requires { start ≤ length bag.now }
-    ensures put { OnOk result (Appends time out.old.items out.new.items
-        (map negated_entry (drop start bag.now))) }
-    ensures only { OnlyMemory result }
-{
-    for i in start..bag.len() {
-        put_back_entry(out, time, bag, i)?;
-    }
-    Ok(())
+    ghost view = { λ d. d.updates.items };
 }
 
 // Whether two entries have the same count.
@@ -150,163 +59,233 @@ fn has_same_count(want: &Bag, i: usize, had: &Bag, j: usize) -> bool
     want.count(i) == had.count(j)
 }
 
-// Appends the change of a row that both bags have, unless its counts are the same.
-fn put_difference<T: Lattice>(
-    out: &mut Vec<Update<T>>,
-    time: T,
-    want: &Bag,
-    i: usize,
-    had: &Bag,
-    j: usize,
-) -> Result<(), Refusal>
-    requires want { i < length want.now }
-    requires had { j < length had.now }
-    requires same { IsSomeAnd (slice_get want.now i) (λ e.
-        IsSomeAnd (slice_get had.now j) (λ f. e.row ≡ f.row)) }
-    ensures moves { OnOk result ((entries : List Entry)
-        × (out.new.items ≡ out.old.items ++ put time entries)
-        × Moves (drop i want.now) (drop j had.now) entries
-        (drop (i + 1) want.now) (drop (j + 1) had.now)) }
-    ensures only { OnlyMemory result }
-{
-    if has_same_count(want, i, had, j) {
-        return Ok(());
-    }
-    put_entry(out, time, want, i)?;
-    put_back_entry(out, time, had, j)
-}
-
-// Reads the lesser of the two rows at the cursors, or the one row that both are. It is put down
-// only if its counts differ.
-fn put_next<T: Lattice>(
-    out: &mut Vec<Update<T>>,
-    time: T,
-    want: &Bag,
-    had: &Bag,
-    at: Cursors,
-) -> Result<Cursors, Refusal>
-    requires want { at.want < length want.now }
-    requires had { at.had < length had.now }
-    requires short_want { length want.now < 2 ^ 64 }
-    requires short_had { length had.now < 2 ^ 64 }
-    ensures want { IfOk result (λ next. next.want ≤ length want.now) }
-    ensures had { IfOk result (λ next. next.had ≤ length had.now) }
-    ensures forward { IfOk result (λ next. at.want + at.had < next.want + next.had) }
-    ensures moves { IfOk result (λ next. (entries : List Entry)
-        × (out.new.items ≡ out.old.items ++ put time entries)
-        × Moves (drop at.want want.now) (drop at.had had.now) entries
-        (drop next.want want.now) (drop next.had had.now)) }
-    ensures only { OnlyMemory result }
-{
-    let Cursors { want: i, had: j } = at;
-    match want.row(i).cmp(had.row(j)) {
-        Ordering::Less => {
-            put_entry(out, time, want, i)?;
-            Ok(Cursors {
-                want: i + 1,
-                had: j,
-            })
-        }
-        Ordering::Greater => {
-            put_back_entry(out, time, had, j)?;
-            Ok(Cursors {
-                want: i,
-                had: j + 1,
-            })
-        }
-        Ordering::Equal => {
-            put_difference(out, time, want, i, had, j)?;
-            Ok(Cursors {
-                want: i + 1,
-                had: j + 1,
-            })
+impl<T: Lattice> Draft<T> {
+    // Nothing is put down yet.
+    fn new(alloc: Global) -> Draft<T>
+        ensures { result ≡ [] }
+    {
+        Draft {
+            updates: Vec::new(alloc),
         }
     }
-}
 
-// Goes through both bags until one of them ends, and returns how far it got in each.
-fn put_both<T: Lattice>(
-    out: &mut Vec<Update<T>>,
-    time: T,
-    want: &Bag,
-    had: &Bag,
-) -> Result<Cursors, Refusal>
-    ensures want { IfOk result (λ at. at.want ≤ length want.now) }
-    ensures had { IfOk result (λ at. at.had ≤ length had.now) }
-    ensures moves { IfOk result (λ at. (entries : List Entry)
-        × (out.new.items ≡ out.old.items ++ put time entries)
-        × Moves want.now had.now entries (drop at.want want.now) (drop at.had had.now)) }
-    ensures only { OnlyMemory result }
-{
-    let mut at = Cursors { want: 0, had: 0 };
-    while at.want < want.len() && at.had < had.len() {
-        at = put_next(out, time, want, had, at)?;
+    // The updates that were put down.
+    fn into_updates(self) -> Vec<Update<T>>
+        ensures { result.items ≡ self }
+    {
+        self.updates
     }
-    Ok(at)
-}
 
-// Appends what is to be added to one bag to make it another.
-fn put_change<T: Lattice>(
-    out: &mut Vec<Update<T>>,
-    time: T,
-    want: &Bag,
-    had: &Bag,
-) -> Result<(), Refusal>
-    ensures changes { OnOk result (Appends time out.old.items out.new.items
-        (want.now ++ map negated_entry had.now)) }
-    ensures only { OnlyMemory result }
-{
-    let at = put_both(out, time, want, had)?;
-    put_rest(out, time, want, at.want)?;
-    put_back_rest(out, time, had, at.had)
-}
-
-// Takes back at a time what an update gave, if that was at or before the time.
-fn put_back_one<T: Lattice>(
-    out: &mut Vec<Update<T>>,
-    time: T,
-    given: &Update<T>,
-) -> Result<(), Refusal>
-    ensures put { OnOk result (Appends time out.old.items out.new.items
-        (map negated_entry (as_of T.times time (given.now ∷ [])))) }
-    ensures only { OnlyMemory result }
-{
-    if !given.time.less_equal(&time) {
-        return Ok(());
+    // Appends a row with a count at a time.
+    fn put_row(&mut self, time: T, row: &Row, count: i64) -> Result<(), Refusal>
+        ensures put { OnOk result (self.new ≡ self.old ++ put time (entry_of row.now count ∷ [])) }
+        ensures only { OnlyMemory result }
+    {
+        self.updates.push(Update {
+            time,
+            row: row.copy(),
+            diff: count,
+        })?;
+        Ok(())
     }
-    put_opposite(out, time, &given.row, given.diff)
-}
 
-// Takes back at a time what was given at or before it.
-fn put_back<T: Lattice>(
-    out: &mut Vec<Update<T>>,
-    time: T,
-    given: &[Update<T>],
-) -> Result<(), Refusal>
-    ensures put { OnOk result (Appends time out.old.items out.new.items
-        (map negated_entry (as_of T.times time given.now))) }
-    ensures only { OnlyMemory result }
-{
-    for update in given {
-        put_back_one(out, time, update)?;
+    // Takes a row back at a time. A count of -2^63 is taken back in two parts.
+    fn put_opposite(&mut self, time: T, row: &Row, count: i64) -> Result<(), Refusal>
+        ensures put { OnOk result
+            (Appends time self.old self.new (entry_of row.now (neg_ℤ count) ∷ [])) }
+        ensures only { OnlyMemory result }
+    {
+        let Some(opposite) = count.checked_neg() else {
+            self.put_row(time, row, i64::MAX)?;
+            return self.put_row(time, row, 1);
+        };
+        self.put_row(time, row, opposite)
     }
-    Ok(())
-}
 
-// Takes back at a time what was given at or before it, but not at or before an earlier one.
-fn put_back_since<T: Lattice>(
-    alloc: Global,
-    out: &mut Vec<Update<T>>,
-    after: T,
-    time: T,
-    given: &[Update<T>],
-) -> Result<(), Refusal>
-    ensures put { OnOk result (Appends time out.old.items out.new.items
-        (map negated_entry (as_of T.times time (between T.times after time given.now)))) }
-    ensures only { OnlyMemory result }
-{
-    let since = between(alloc, given, after, time)?;
-    put_back(out, time, since.as_slice())
+    // Appends an entry of a bag at a time.
+    fn put_entry(&mut self, time: T, bag: &Bag, i: usize) -> Result<(), Refusal>
+        requires { i < length bag.now }
+        ensures put { OnOk result (IsSomeAnd (slice_get bag.now i)
+            (λ e. self.new ≡ self.old ++ put time (e ∷ []))) }
+        ensures only { OnlyMemory result }
+    {
+        self.updates.push(Update {
+            time,
+            row: bag.row(i).copy(),
+            diff: bag.count(i),
+        })?;
+        Ok(())
+    }
+
+    // Takes an entry of a bag back at a time.
+    fn put_back_entry(&mut self, time: T, bag: &Bag, i: usize) -> Result<(), Refusal>
+        requires { i < length bag.now }
+        ensures put { OnOk result (IsSomeAnd (slice_get bag.now i)
+            (λ e. Appends time self.old self.new (negated_entry e ∷ []))) }
+        ensures only { OnlyMemory result }
+    {
+        self.put_opposite(time, bag.row(i), bag.count(i))
+    }
+
+    // Appends the entries of a bag from a place on.
+    fn put_rest(&mut self, time: T, bag: &Bag, start: usize) -> Result<(), Refusal>
+        requires { start ≤ length bag.now }
+        ensures put { OnOk result (self.new ≡ self.old ++ put time (drop start bag.now)) }
+        ensures only { OnlyMemory result }
+    {
+        for i in start..bag.len() {
+            self.put_entry(time, bag, i)?;
+        }
+        Ok(())
+    }
+
+    // Takes the entries of a bag back from a place on.
+    fn put_back_rest(&mut self, time: T, bag: &Bag, start: usize) -> Result<(), Refusal>
+        requires { start ≤ length bag.now }
+        ensures put { OnOk result
+            (Appends time self.old self.new (map negated_entry (drop start bag.now))) }
+        ensures only { OnlyMemory result }
+    {
+        for i in start..bag.len() {
+            self.put_back_entry(time, bag, i)?;
+        }
+        Ok(())
+    }
+
+    // Appends the change of a row that both bags have, unless its counts are the same.
+    fn put_difference(
+        &mut self,
+        time: T,
+        want: &Bag,
+        i: usize,
+        had: &Bag,
+        j: usize,
+    ) -> Result<(), Refusal>
+        requires want { i < length want.now }
+        requires had { j < length had.now }
+        requires same { IsSomeAnd (slice_get want.now i) (λ e.
+            IsSomeAnd (slice_get had.now j) (λ f. e.row ≡ f.row)) }
+        ensures moves { OnOk result ((entries : List Entry)
+            × (self.new ≡ self.old ++ put time entries)
+            × Moves (drop i want.now) (drop j had.now) entries
+            (drop (i + 1) want.now) (drop (j + 1) had.now)) }
+        ensures only { OnlyMemory result }
+    {
+        if has_same_count(want, i, had, j) {
+            return Ok(());
+        }
+        self.put_entry(time, want, i)?;
+        self.put_back_entry(time, had, j)
+    }
+
+    // Reads the lesser of the two rows at the cursors, or the one row that both are. It is put down
+    // only if its counts differ.
+    fn put_next(&mut self, time: T, want: &Bag, had: &Bag, at: Cursors) -> Result<Cursors, Refusal>
+        requires want { at.want < length want.now }
+        requires had { at.had < length had.now }
+        requires short_want { length want.now < 2 ^ 64 }
+        requires short_had { length had.now < 2 ^ 64 }
+        ensures want { IfOk result (λ next. next.want ≤ length want.now) }
+        ensures had { IfOk result (λ next. next.had ≤ length had.now) }
+        ensures forward { IfOk result (λ next. at.want + at.had < next.want + next.had) }
+        ensures moves { IfOk result (λ next. (entries : List Entry)
+            × (self.new ≡ self.old ++ put time entries)
+            × Moves (drop at.want want.now) (drop at.had had.now) entries
+            (drop next.want want.now) (drop next.had had.now)) }
+        ensures only { OnlyMemory result }
+    {
+        let Cursors { want: i, had: j } = at;
+        match want.row(i).cmp(had.row(j)) {
+            Ordering::Less => {
+                self.put_entry(time, want, i)?;
+                Ok(Cursors {
+                    want: i + 1,
+                    had: j,
+                })
+            }
+            Ordering::Greater => {
+                self.put_back_entry(time, had, j)?;
+                Ok(Cursors {
+                    want: i,
+                    had: j + 1,
+                })
+            }
+            Ordering::Equal => {
+                self.put_difference(time, want, i, had, j)?;
+                Ok(Cursors {
+                    want: i + 1,
+                    had: j + 1,
+                })
+            }
+        }
+    }
+
+    // Goes through both bags until one of them ends, and returns how far it got in each.
+    fn put_both(&mut self, time: T, want: &Bag, had: &Bag) -> Result<Cursors, Refusal>
+        ensures want { IfOk result (λ at. at.want ≤ length want.now) }
+        ensures had { IfOk result (λ at. at.had ≤ length had.now) }
+        ensures moves { IfOk result (λ at. (entries : List Entry)
+            × (self.new ≡ self.old ++ put time entries)
+            × Moves want.now had.now entries (drop at.want want.now) (drop at.had had.now)) }
+        ensures only { OnlyMemory result }
+    {
+        let mut at = Cursors { want: 0, had: 0 };
+        while at.want < want.len() && at.had < had.len() {
+            at = self.put_next(time, want, had, at)?;
+        }
+        Ok(at)
+    }
+
+    // Appends what is to be added to one bag to make it another.
+    fn put_change(&mut self, time: T, want: &Bag, had: &Bag) -> Result<(), Refusal>
+        ensures changes { OnOk result
+            (Appends time self.old self.new (want.now ++ map negated_entry had.now)) }
+        ensures only { OnlyMemory result }
+    {
+        let at = self.put_both(time, want, had)?;
+        self.put_rest(time, want, at.want)?;
+        self.put_back_rest(time, had, at.had)
+    }
+
+    // Takes back at a time what an update gave, if that was at or before the time.
+    fn put_back_one(&mut self, time: T, given: &Update<T>) -> Result<(), Refusal>
+        ensures put { OnOk result (Appends time self.old self.new
+            (map negated_entry (as_of T.times time (given.now ∷ [])))) }
+        ensures only { OnlyMemory result }
+    {
+        if !given.time.less_equal(&time) {
+            return Ok(());
+        }
+        self.put_opposite(time, &given.row, given.diff)
+    }
+
+    // Takes back at a time what was given at or before it.
+    fn put_back(&mut self, time: T, given: &[Update<T>]) -> Result<(), Refusal>
+        ensures put { OnOk result (Appends time self.old self.new
+            (map negated_entry (as_of T.times time given.now))) }
+        ensures only { OnlyMemory result }
+    {
+        for update in given {
+            self.put_back_one(time, update)?;
+        }
+        Ok(())
+    }
+
+    // Takes back at a time what was given at or before it, but not at or before an earlier one.
+    fn put_back_since(
+        &mut self,
+        alloc: Global,
+        after: T,
+        time: T,
+        given: &[Update<T>],
+    ) -> Result<(), Refusal>
+        ensures put { OnOk result (Appends time self.old self.new
+            (map negated_entry (as_of T.times time (between T.times after time given.now)))) }
+        ensures only { OnlyMemory result }
+    {
+        let since = between(alloc, given, after, time)?;
+        self.put_back(time, since.as_slice())
+    }
 }
 
 // The draft from all that is wanted and all that was given.
@@ -319,10 +298,10 @@ fn whole_draft<T: Lattice>(
     ensures draft { IfOk result (λ draft. IsDraft T.times time want.now given.now draft.items) }
     ensures only { OnlyMemory result }
 {
-    let mut draft = Vec::new(alloc);
-    put_rest(&mut draft, time, want, 0)?;
-    put_back(&mut draft, time, given)?;
-    Ok(draft)
+    let mut draft = Draft::new(alloc);
+    draft.put_rest(time, want, 0)?;
+    draft.put_back(time, given)?;
+    Ok(draft.into_updates())
 }
 
 // The draft from what was evaluated at an earlier time.
@@ -338,10 +317,10 @@ fn draft_since<T: Lattice>(
     ensures draft { IfOk result (λ draft. IsDraft T.times time want.now given.now draft.items) }
     ensures only { OnlyMemory result }
 {
-    let mut draft = Vec::new(alloc);
-    put_change(&mut draft, time, want, &last.answer)?;
-    put_back_since(alloc, &mut draft, last.time, time, given)?;
-    Ok(draft)
+    let mut draft = Draft::new(alloc);
+    draft.put_change(time, want, &last.answer)?;
+    draft.put_back_since(alloc, last.time, time, given)?;
+    Ok(draft.into_updates())
 }
 
 /// A draft of the correction of a key at a time, if `want` is wanted there and `given` is what was

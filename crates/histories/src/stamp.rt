@@ -1,11 +1,10 @@
 //! Stamps: the frontiers of the times of updates. A sender finds the stamp of a bundle once, and it
 //! travels with the bundle.
-ghost use Rattle.std.specs.Prelude.{◌≡◌, IfOk, OnOk, not};
-ghost use Rattle.std.specs.List.{filter};
+ghost use Rattle.std.specs.Prelude.{◌≡◌, IfOk, OnOk};
 ghost use Rattle.update.specs.Refusals.{OnlyMemory};
 ghost use Rattle.histories.specs.Histories.Outstanding.{stamp, with_time};
 
-use antichain::is_beyond;
+use antichain::{is_beyond, remove_above};
 use columns::UpdateList;
 use lattice::Minimum;
 use std::alloc::Global;
@@ -37,14 +36,7 @@ pub fn insert<T: Minimum>(front: &mut Vec<T>, t: T) -> Result<(), Refusal>
     if is_beyond(front, &t) {
         return Ok(());
     }
-    leave(front, t);
+    remove_above(front, t);
     front.push(t)?;
     Ok(())
-}
-
-// Removes the elements of a frontier that are beyond a new time.
-fn leave<T: Minimum>(front: &mut Vec<T>, t: T)
-    ensures left { front.new.items ≡ filter (λ f. not (T.times.below t f)) front.old.items }
-{
-    front.retain(|f| !t.less_equal(f));
 }

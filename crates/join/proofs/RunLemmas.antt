@@ -531,7 +531,7 @@ module _ {T : Type 0} (side : Side) (times : Times T) (k : ℕ) (us vs : List (U
       (sym (flat_map-append own (take a us) (drop a us)) ∙ ap all (take-append-drop a us))
       (large_so_far times old (all (take a us)) before (all (drop a us)) s large)
 
-  module _ (key : List ℤ) (a b start end : ℕ) (keyed : IsTrue (list_all (is_keyed k key) (slice_range us a b))) (found : slice_range vs start end ≡ filter (is_keyed k key) vs) where
+  module _ {row : List ℤ} {a b start end : ℕ} (f : IsFound k us vs row a b start end) where
     abbrev run : List (Update T)
     run = slice_range us a b
 
@@ -540,7 +540,7 @@ module _ {T : Type 0} (side : Side) (times : Times T) (k : ℕ) (us vs : List (U
 
     -- the pairs of a run are those with what was found
     pub run_is : all run ≡ formed_each side times k run there
-    run_is = all_is_each times k side key run vs keyed ∙ ap (formed_each side times k run) (sym found)
+    run_is = all_is_each times k side (take k row) run vs f.keyed ∙ ap (formed_each side times k run) (sym f.found)
 
     -- they are a part of those that are still to come
     pub run_part : a ≤ b → ArePartOf (formed_each side times k run there) (all (drop a us))
@@ -553,8 +553,8 @@ module _ {T : Type 0} (side : Side) (times : Times T) (k : ℕ) (us vs : List (U
     -- if the rows of all pairs fit, then so do those of the run
     pub run_fits : IsTrue (formed_fit side k us vs) → IsTrue (list_all (λ u. list_all (formed_fits side k u) there) run)
     run_fits h =
-        subst (λ ws. IsTrue (list_all (λ u. list_all (formed_fits side k u) ws) run)) (sym found)
-        (keyed_fit times k side key run vs keyed (part_all (λ u. list_all (formed_fits side k u) (filter (is_keyed k (take k u.row)) vs)) us a b h))
+        subst (λ ws. IsTrue (list_all (λ u. list_all (formed_fits side k u) ws) run)) (sym f.found)
+        (keyed_fit times k side (take k row) run vs f.keyed (part_all (λ u. list_all (formed_fits side k u) (filter (is_keyed k (take k u.row)) vs)) us a b h))
 
     -- there are as many as the product of both lengths
     pub run_looked : (old new : ℕ) → a ≤ b → b ≤ length us → start ≤ end → end ≤ length vs → new ≡ min (old + (b - a) * (end - start)) (2 ^ 64 - 1) → new ≡ min (old + length (all run)) (2 ^ 64 - 1)

@@ -7,7 +7,7 @@ ghost use Rattle.progress.specs.Tallies.{SameCounts};
 
 use lattice::Bitime;
 use plan::NodeId;
-use progress::{Capability, Place, Tally, counts_tell_what_is_there};
+use progress::{Capability, Place, Scope, Tally, counts_tell_what_is_there};
 use std::alloc::Global;
 use std::test::Fail;
 use trials::sketches::{at, join_of_two};
@@ -46,7 +46,7 @@ fn is_passed(tally: &mut Tally<Bitime>, node: usize, time: (u64, u64)) -> bool
     ensures items { tally.new.items ≡ tally.old.items }
     ensures nodes { tally.new.nodes ≡ tally.old.nodes }
 {
-    node < tally.plan().len() && tally.has_passed(NodeId::new(node), &at(time))
+    node < tally.plan().len() && tally.has_passed(&Scope::Output(NodeId::new(node)), &at(time))
 }
 
 // Counts a time at a place, and once more if memory was refused.

@@ -176,7 +176,7 @@ module _ {T : Type 0} {times : Times T} {cmp : T → T → Ordering} (o : Partia
       less None t m = inr m
       less (Some e) t m = inr (inr m)
 
-  module _ (k : ℕ) (reduce : List ℤ → List Entry → List Entry) (key : List ℤ) (time : T) (rest : List T) (rows given : List (Update T)) (s : Sweep T)
+  module _ (k : ℕ) (reduce : List ℤ → List Entry → List Entry) (key : List ℤ) {time : T} {rest : List T} {rows given : List (Update T)} {s : Sweep T}
       (d : IsLed times cmp time (time ∷ rest) rows given s)
       (own_rows : IsTrue (list_all (of_key k key) rows)) (own_given : IsTrue (list_all (of_key k key) given)) where
     abbrev p : IsSweep times cmp (time ∷ rest) rows given s

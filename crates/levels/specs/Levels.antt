@@ -47,13 +47,22 @@ module _ {T : Type 0} where
   abbrev pub read_of : UnderwayState T → ℕ
   read_of u = u.merging.left + u.merging.right
 
+  -- the batches that a merge reads
+  abbrev pub batches_at : List (BatchState T) → UnderwayState T → List (BatchState T)
+  batches_at bs u = take (width_of u.alone) (drop u.number bs)
+
   -- the updates that a merge reads
   abbrev pub sources_of : List (BatchState T) → UnderwayState T → List (Update T)
-  sources_of bs u = all_content updates_of (take (width_of u.alone) (drop u.number bs))
+  sources_of bs u = all_content updates_of (batches_at bs u)
 
   -- how many updates a merge has yet to read
   abbrev pub unread_of : List (BatchState T) → UnderwayState T → ℕ
   unread_of bs u = length (sources_of bs u) - read_of u
+
+  -- the change to this batch, alone or for two, at the place with this number
+  abbrev pub change_to : Bool → ℕ → BatchState T → Change T
+  change_to true i m = Rewritten i m
+  change_to false i m = Merged i m
 
   -- the batches after a change
   abbrev pub changed : Change T → List (BatchState T) → List (BatchState T)
@@ -91,18 +100,24 @@ module _ {T : Type 0} where
     pub read : read_of after ≡ read_of before + fuel
 
 module _ {T : Type 0} (times : Times T) where
+  -- the batch is the rewriting, alone, of the one with this number, or the merge of that one and
+  -- the next one
+  abbrev pub IsMadeAt : Bool → ℕ → BatchState T → List (BatchState T) → Type 0
+  IsMadeAt true i m bs = IsRewriteAt times m.description.since m i bs
+  IsMadeAt false i m bs = IsMergeAt times m.description.since m i bs
+
   -- the change that a merge makes when it is whole
   abbrev pub IsChangeAs : List (BatchState T) → UnderwayState T → Change T → Type 0
   IsChangeAs bs u (Merged i m) =
       (u.alone ≡ false)
       × (i ≡ u.number)
       × (m.description.since ≡ u.merging.description.since)
-      × IsMergeAt times m.description.since m i bs
+      × IsMadeAt false i m bs
   IsChangeAs bs u (Rewritten i m) =
       (u.alone ≡ true)
       × (i ≡ u.number)
       × (m.description.since ≡ u.merging.description.since)
-      × IsRewriteAt times m.description.since m i bs
+      × IsMadeAt true i m bs
 
   -- the newest merge has read all, and its batch is in the place of those that it read: that cost
   -- one unit more than there was to read

@@ -3,14 +3,14 @@
 //! So each call is lent the list, and asks for the one thing that a caller has to keep true: that
 //! the merge is of the batches at its place.
 //!
-//! Which of both kinds it is shows only here. A caller begins the one or the other, and then
-//! [`step`](Underway::step) and [`put`](Underway::put) are the same for both.
-ghost use Rattle.std.specs.Prelude.{◌≡◌, ◌⊎◌, ◌<◌, ◌+◌, suc, Some, true, false, IfErr, IfOk, OnErr, OnOk, length, slice_get};
+//! A caller begins the one or the other kind. Then [`step`](Underway::step) and
+//! [`put`](Underway::put) are the same for both: what is read are the batches at its place.
+ghost use Rattle.std.specs.Prelude.{◌≡◌, ◌⊎◌, ◌<◌, ◌≤◌, ◌+◌, suc, Some, true, false, IfErr, IfOk, OnErr, OnOk, length, take, drop, slice_get};
 ghost use Rattle.antichain.specs.Antichains.{IsFrontier};
 ghost use Rattle.update.specs.Refusals.{OnlyMemory, IsMemoryOrOverflow};
 ghost use Rattle.update.specs.declared.refusal.Refusal.{Refusal};
 ghost use Rattle.batch.specs.Descriptions.{BatchState, Follows};
-ghost use Rattle.levels.specs.Levels.{Change, IsAt, IsBegun, IsChangeAs, IsSameMerge, HasLargeSources, changed, read_of, unread_of, width_of};
+ghost use Rattle.levels.specs.Levels.{Change, IsAt, IsBegun, IsChangeAs, IsMadeAt, IsSameMerge, HasLargeSources, change_to, changed, read_of, unread_of, width_of};
 
 use batch::{Batch, Merging};
 use lattice::Lattice;
@@ -117,11 +117,19 @@ impl<T: Lattice> Underway<T> {
         ensures refused { IfErr result
             (IsMemoryOrOverflow (HasLargeSources T.times batches.now self)) }
     {
-        if self.is_alone {
-            self.step_of_one(batches, fuel)
-        } else {
-            self.step_of_two(batches, fuel)
-        }
+        let Underway {
+            number,
+            is_alone,
+            merging,
+        } = self;
+        let sources = batches_at(batches, Place { number, is_alone });
+        let (merging, left) = merging.step(sources, fuel)?;
+        let on = Underway {
+            number,
+            is_alone,
+            merging,
+        };
+        Ok((on, left))
     }
 
     // Puts the batch that was made in the place of those that were read.
@@ -137,110 +145,42 @@ impl<T: Lattice> Underway<T> {
         ensures refused { IfErr result
             (IsMemoryOrOverflow (HasLargeSources T.times list.old.batches self)) }
     {
-        if self.is_alone {
-            self.put_one(list)
-        } else {
-            self.put_two(list)
-        }
-    }
-
-    // A step of the merge of two batches.
-    fn step_of_two(self, batches: &[Batch<T>], fuel: u64) -> Result<(Underway<T>, u64), Refusal>
-        requires at { IsAt T.times T.cmp batches.now self }
-        requires two { self.alone ≡ false }
-        ensures at { IfOk result (λ new. IsAt T.times T.cmp batches.now new.0) }
-        ensures same { IfOk result (λ new. IsSameMerge self new.0) }
-        ensures spent { IfOk result (λ new. read_of new.0 + new.1 ≡ read_of self + fuel) }
-        ensures on { IfOk result (λ new. (new.1 ≡ 0) ⊎ (unread_of batches.now new.0 ≡ 0)) }
-        ensures refused { IfErr result
-            (IsMemoryOrOverflow (HasLargeSources T.times batches.now self)) }
-    {
         let Underway {
             number,
             is_alone,
             merging,
         } = self;
-        let (merging, left) = merging.step(&batches[number], &batches[number + 1], fuel)?;
-        let on = Underway {
-            number,
-            is_alone,
-            merging,
-        };
-        Ok((on, left))
-    }
-
-    // A step of the rewriting of one batch.
-    fn step_of_one(self, batches: &[Batch<T>], fuel: u64) -> Result<(Underway<T>, u64), Refusal>
-        requires at { IsAt T.times T.cmp batches.now self }
-        requires one { self.alone ≡ true }
-        ensures at { IfOk result (λ new. IsAt T.times T.cmp batches.now new.0) }
-        ensures same { IfOk result (λ new. IsSameMerge self new.0) }
-        ensures spent { IfOk result (λ new. read_of new.0 + new.1 ≡ read_of self + fuel) }
-        ensures on { IfOk result (λ new. (new.1 ≡ 0) ⊎ (unread_of batches.now new.0 ≡ 0)) }
-        ensures refused { IfErr result
-            (IsMemoryOrOverflow (HasLargeSources T.times batches.now self)) }
-    {
-        let Underway {
-            number,
-            is_alone,
-            merging,
-        } = self;
-        let (merging, left) = merging.step_of_one(&batches[number], fuel)?;
-        let on = Underway {
-            number,
-            is_alone,
-            merging,
-        };
-        Ok((on, left))
-    }
-
-    // Puts one batch in the place of two.
-    fn put_two(self, list: &mut BatchList<T>) -> Result<(), Refusal>
-        requires at { IsAt T.times T.cmp list.old.batches self }
-        requires two { self.alone ≡ false }
-        requires read { unread_of list.old.batches self ≡ 0 }
-        ensures changed { OnOk result ((c : Change T)
-            × (list.new ≡ record list.old {
-              batches = changed c list.old.batches;
-              reserved = list.new.reserved;
-            }) × IsChangeAs T.times list.old.batches self c) }
-        ensures same { OnErr result (list.new ≡ list.old) }
-        ensures refused { IfErr result
-            (IsMemoryOrOverflow (HasLargeSources T.times list.old.batches self)) }
-    {
-        let Underway {
-            number,
-            merging,
-            ..
-        } = self;
-        let batches = list.batches();
-        let merged = merging.finish(&batches[number], &batches[number + 1])?;
-        list.put_pair(number, merged);
+        let sources = batches_at(list.batches(), Place { number, is_alone });
+        let made = merging.finish(sources)?;
+        put_made(list, number, is_alone, made);
         Ok(())
     }
+}
 
-    // Puts the rewritten batch in the place of the old one.
-    fn put_one(self, list: &mut BatchList<T>) -> Result<(), Refusal>
-        requires at { IsAt T.times T.cmp list.old.batches self }
-        requires one { self.alone ≡ true }
-        requires read { unread_of list.old.batches self ≡ 0 }
-        ensures changed { OnOk result ((c : Change T)
-            × (list.new ≡ record list.old {
-              batches = changed c list.old.batches;
-              reserved = list.new.reserved;
-            }) × IsChangeAs T.times list.old.batches self c) }
-        ensures same { OnErr result (list.new ≡ list.old) }
-        ensures refused { IfErr result
-            (IsMemoryOrOverflow (HasLargeSources T.times list.old.batches self)) }
-    {
-        let Underway {
-            number,
-            merging,
-            ..
-        } = self;
-        let batches = list.batches();
-        let rewritten = merging.finish_one(&batches[number])?;
-        list.put_one(number, rewritten);
-        Ok(())
+// The batches at a place.
+fn batches_at<T: Lattice>(batches: &[Batch<T>], place: Place) -> &[Batch<T>]
+    requires { place.number + width_of place.is_alone ≤ length batches.now }
+    ensures { result.now
+        ≡ take (width_of place.is_alone) (drop place.number batches.now) }
+{
+    // (the place ends within the batches, and their number is one)
+    let _many = batches.len();
+    let end = place.number + place.width();
+    &batches[place.number..end]
+}
+
+// Puts a batch in the place of those that it was made of.
+fn put_made<T: Lattice>(list: &mut BatchList<T>, number: usize, is_alone: bool, made: Batch<T>)
+    requires within { number + width_of is_alone ≤ length list.old.batches }
+    requires made { IsMadeAt T.times is_alone number made list.old.batches }
+    ensures { list.new ≡ record list.old {
+      batches = changed (change_to is_alone number made) list.old.batches;
+      reserved = list.new.reserved;
+    } }
+{
+    if is_alone {
+        list.put_one(number, made);
+        return;
     }
+    list.put_pair(number, made);
 }

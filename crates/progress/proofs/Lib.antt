@@ -12,6 +12,7 @@ pub mod AskedLemmas
 pub mod MarkLemmas
 pub mod ScopeLemmas
 pub mod CurrentLemmas
+pub mod FoundLemmas
 pub mod CountListLemmas
 pub mod EntryLemmas
 pub mod TieLemmas

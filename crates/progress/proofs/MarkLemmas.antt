@@ -1,6 +1,6 @@
 -- The marks of what is kept, as a contract sees them.
 use Rattle.std.proofs.Common.{◌≡◌, ℕ, zero, suc, ◌+◌, ◌<◌, ◌≤◌, Bool, true, false, not, ◌&&◌, eqb, List, [], ◌∷◌, ◌++◌, length, refl, ap, ap₂, sym, ◌∙◌, subst, arith, ◌⊎◌, inl, inr, ⊎_elim}
-use Rattle.std.specs.Prelude.{slice_index_or, slice_set}
+use Rattle.std.specs.Prelude.{Result, Ok, Err, OnErr, slice_index_or, slice_set}
 use Rattle.std.proofs.lemmas.Bool.{cases_lt, eq-eqb, ne_eqb, false≢true}
 use Rattle.std.proofs.lemmas.List.{get_or-map, get_or_past, get_or_push, get_or_append_left, length-map, map_push}
 use Rattle.plan.specs.Ancestors.{reaches}
@@ -10,6 +10,11 @@ use Rattle.progress.specs.declared.place.Place.{Place}
 use Rattle.progress.specs.Kept.{marks_of}
 use Rattle.progress.specs.Tallies.{AreMarksBelow, is_marked, node_of}
 use Rattle.progress.proofs.ChangeLemmas.{same_or_not, set_here, set_there, set_length}
+
+-- what holds after each refusal
+pub on_err : {A E P : Type 0} (r : Result A E) → P → OnErr r P
+on_err (Ok x) p = tt
+on_err (Err e) p = p
 
 element : {A : Type 0} (xs : List A) (n : ℕ) → n < length xs → A
 element [] n l = absurd (omega (arith, l))

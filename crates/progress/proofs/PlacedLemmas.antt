@@ -216,6 +216,33 @@ module _ {T : Type 0} where
     pub placed_more : (p : PlaceCounts T) → slot p.place ≡ Some (length ps) → IsPlaced (ps ++ p ∷ [])
     placed_more p s = all_pushed (λ n (q : PlaceCounts T). slot q.place ≡ Some n) ps p placed s
 
+  -- the place with this number is this one, as it stands there
+  pub record StandsHere (ps : List (PlaceCounts T)) (os : List (Counted T)) (place : Place) (i : ℕ) (a : PlaceCounts T) : Type 0 where
+    pub placed : IsPlaced ps
+    pub others : AreOthers (length ps) os
+    pub number : slot place ≡ Some i
+    pub within : i < length ps
+    pub is : a ≡ slice_index_or ps i a
+
+  module _ {ps : List (PlaceCounts T)} {os : List (Counted T)} {place : Place} {i : ℕ} {a : PlaceCounts T} (h : StandsHere ps os place i a) where
+    own_here : a.place ≡ place
+    own_here = own_place ps os h.placed place i a h.number h.within h.is
+
+    -- with other times the places stay where they are
+    pub still_here : (ts : List T) → IsPlaced (slice_set ps i (record a { times = ts })) × AreOthers (length (slice_set ps i (record a { times = ts }))) os
+    still_here ts =
+        let b : PlaceCounts T = record a { times = ts } in
+        (still_placed ps os h.placed i b h.within (ap slot own_here ∙ h.number), others_stay ps os h.placed i b h.others)
+
+    -- the items change as the times of the place do
+    pub changed_here : (us vs ts : List T) → CountAlike (us ++ ts) (vs ++ a.times) → SameCounts (items_at place us ++ (items_in (slice_set ps i (record a { times = ts })) ++ os)) (items_at place vs ++ (items_in ps ++ os))
+    changed_here us vs ts alike = changed us vs place ps i a (record a { times = ts }) os h.within h.is own_here own_here alike
+
+    -- an item of the place is counted among its times
+    pub counted_here : (t : T) → Contains (items_in ps ++ os) (item place t) → Contains a.times t
+    counted_here t there =
+        subst (λ (p : PlaceCounts T). Contains p.times t) (sym h.is) (in_its_place ps os h.placed h.others (item place t) i a h.number h.within there)
+
   pub others_more : (len : ℕ) (os : List (Counted T)) (x : Counted T) → AreOthers len os → ((i : ℕ) → slot x.place ≡ Some i → len ≤ i) → AreOthers len (os ++ x ∷ [])
   others_more len os x others far y there =
       ⊎_elim

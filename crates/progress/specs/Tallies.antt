@@ -92,6 +92,10 @@ pub record AreMarksBelow (nodes : List Node) (place : Place) (old new : List Boo
   pub stay : (n : ℕ) → is_marked old n ≡ true → is_marked new n ≡ true
   pub below : (n : ℕ) → is_marked new n ≡ true → (is_marked old n ≡ true) ⊎ (reaches nodes (node_of place) n ≡ true)
 
+-- the node is marked no more, and all other marks are what they were
+abbrev pub IsUnmarked : ℕ → List Bool → List Bool → Type 0
+IsUnmarked node old new = (n : ℕ) → is_marked new n ≡ (is_marked old n && not (eqb n node))
+
 -- the times that are counted at the places that pass a test
 abbrev pub times_where : {T : Type 0} → (Place → Bool) → List (Counted T) → List T
 times_where test items = flat_map (λ i. if test i.place then i.time ∷ [] else []) items

@@ -1,9 +1,7 @@
 //! A kept frontier, as the list of its elements. A time more that counts is inserted. A time less
 //! matters only if it is an element: otherwise some element before it keeps it back as before, and
 //! the frontier stays what it is.
-ghost use Rattle.std.specs.Prelude.{◌≡◌, ◌<◌, ◌≤◌, ◌∷◌, ◌||◌, not, false, IsTrue, OnErr, OnOk, List, Contains, length};
-ghost use Rattle.std.specs.List.{filter};
-ghost use Rattle.std.specs.Vec.{vec_len, vec_capacity};
+ghost use Rattle.std.specs.Prelude.{◌≡◌, ◌<◌, ◌∷◌, ◌||◌, false, IsTrue, OnErr, OnOk, List, Contains, length};
 ghost use Rattle.update.specs.Refusals.{OnlyMemory};
 ghost use Rattle.lattice.specs.Frontiers.{is_beyond};
 ghost use Rattle.plan.specs.declared.node.Node.{Node};
@@ -16,7 +14,7 @@ ghost use Rattle.progress.specs.Scopes.{scope_node, is_in_scope};
 use crate::counts::Counts;
 use crate::graph::Graph;
 use crate::scope::Scope;
-use antichain::is_beyond;
+use antichain::{is_beyond, remove_above};
 use lattice::Lattice;
 use update::Refusal;
 
@@ -92,15 +90,6 @@ pub(crate) fn insert_time<T: Lattice>(elements: &mut Vec<T>, t: T) -> Result<(),
     remove_above(elements, t);
     elements.push_reserved(t);
     Ok(())
-}
-
-// Removes the elements that a new time is at or before.
-fn remove_above<T: Lattice>(elements: &mut Vec<T>, t: T)
-    ensures left { elements.new.items ≡ filter (λ f. not (T.times.below t f)) elements.old.items }
-    ensures room { vec_capacity elements.new ≡ vec_capacity elements.old }
-    ensures len { vec_len elements.new ≤ vec_len elements.old }
-{
-    elements.retain(|f| !t.less_equal(f));
 }
 
 // Whether a time is among these. Times are equal if each is at or before the other.

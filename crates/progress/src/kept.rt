@@ -5,14 +5,14 @@
 ghost use Rattle.std.specs.Prelude.{◌≡◌, ◌<◌, ◌∷◌, ◌⊎◌, true, false, IsTrue, IfOk, IfSome, OnErr, OnOk, List, length};
 ghost use Rattle.update.specs.Refusals.{OnlyMemory};
 ghost use Rattle.lattice.specs.Frontiers.{is_beyond};
-ghost use Rattle.antichain.specs.Antichains.{SameElements, least};
+ghost use Rattle.antichain.specs.Antichains.{SameElements};
 ghost use Rattle.plan.specs.Ancestors.{reaches};
 ghost use Rattle.plan.specs.Changes.{has_passed};
 ghost use Rattle.plan.specs.declared.node.Node.{Node};
 ghost use Rattle.progress.specs.declared.counted.Counted.{Counted};
 ghost use Rattle.progress.specs.Kept.{IsFront, AreFronts, IsCurrent, IsSpared, IsMarked, IsInserted, IsForgotten};
-ghost use Rattle.progress.specs.Tallies.{node_of, times_where};
-ghost use Rattle.progress.specs.Scopes.{scope_node, is_in_scope};
+ghost use Rattle.progress.specs.Tallies.{node_of};
+ghost use Rattle.progress.specs.Scopes.{scope_node, scope_frontier};
 ghost use Rattle.progress.specs.declared.scope.Scope.TheVariants.{Input};
 
 use crate::counts::Counts;
@@ -183,11 +183,10 @@ impl<T: Lattice> Kept<T> {
         ensures current { IsCurrent T.times graph.now items.now (scope_node scope.now) self.new }
         ensures unmarked { OnOk result (self.new.marked ≡ false) }
         ensures unchanged { OnErr result (self.new.marked ≡ self.old.marked) }
-        ensures least { IfOk result (λ found. SameElements found
-            (least T.times (times_where (is_in_scope graph.now scope.now) items.now))) }
+        ensures least { IfOk result (λ found.
+            SameElements found (scope_frontier T.times graph.now items.now scope.now)) }
         ensures beyond { IfOk result (λ found. (t : T) → is_beyond T.times found t
-            ≡ is_beyond T.times
-            (least T.times (times_where (is_in_scope graph.now scope.now) items.now)) t) }
+            ≡ is_beyond T.times (scope_frontier T.times graph.now items.now scope.now) t) }
         ensures refused { OnlyMemory result }
     {
         self.find_all(graph, scope.node(), items)?;
@@ -274,11 +273,10 @@ impl<T: Lattice> Kept<T> {
     ) -> Result<Antichain<T>, Refusal>
         requires node { scope_node scope.now < length graph.now }
         requires fronts { AreFronts T.times graph.now items.now (scope_node scope.now) self.now }
-        ensures least { IfOk result (λ found. SameElements found
-            (least T.times (times_where (is_in_scope graph.now scope.now) items.now))) }
+        ensures least { IfOk result (λ found.
+            SameElements found (scope_frontier T.times graph.now items.now scope.now)) }
         ensures beyond { IfOk result (λ found. (t : T) → is_beyond T.times found t
-            ≡ is_beyond T.times
-            (least T.times (times_where (is_in_scope graph.now scope.now) items.now)) t) }
+            ≡ is_beyond T.times (scope_frontier T.times graph.now items.now scope.now) t) }
         ensures refused { OnlyMemory result }
     {
         let alloc = *self.output.allocator();
@@ -297,8 +295,8 @@ impl<T: Lattice> Kept<T> {
     pub(crate) fn has_passed(&self, graph: &Graph, scope: &Scope, items: &Counts<T>, t: &T) -> bool
         requires node { scope_node scope.now < length graph.now }
         requires current { IsCurrent T.times graph.now items.now (scope_node scope.now) self.now }
-        ensures { result ≡ has_passed T.times (least T.times
-            (times_where (is_in_scope graph.now scope.now) items.now)) t.now }
+        ensures { result
+            ≡ has_passed T.times (scope_frontier T.times graph.now items.now scope.now) t.now }
     {
         if !self.marked
             && let Some(elements) = self.elements(scope)

@@ -8,10 +8,10 @@
 //! times before the tally stops counting it. So at no moment is anything left out.
 //!
 //! The frontier of a node is the least of what is counted at the node or above it. The three kinds
-//! of frontier differ only in which places they count ([`Tally::frontier`],
-//! [`Tally::input_frontier_of`], [`Tally::input_frontier`]). To go over all that is counted at each
-//! question costs more the more is in flight, so the tally keeps the frontiers of each node that
-//! somebody asks about. The one invariant: what is kept of a node is right, or the node is marked.
+//! of frontier differ only in which places they count, and a [`Scope`] says which one is meant. To
+//! go over all that is counted at each question costs more the more is in flight, so the tally
+//! keeps the frontiers of each node that somebody asks about. The one invariant: what is kept of a
+//! node is right, or the node is marked.
 //!
 //! A time more is inserted into what is kept. A time less is harder: whether the frontier moves
 //! depends on all else that is counted. But it can move only if the time is one of its elements.
@@ -62,4 +62,5 @@ pub use laws::{
     what_is_counted_is_not_passed,
 };
 pub use place::Place;
+pub use scope::Scope;
 pub use tally::Tally;

@@ -10,19 +10,20 @@ use crate::graph::Graph;
 use crate::place::Place;
 use plan::NodeId;
 
-/// One of the frontiers of a node.
+/// One of the frontiers of a node. Each is the least of what is counted at some places.
 #[derive(Drop)]
-pub(crate) enum Scope {
-    /// The frontier of the node.
+pub enum Scope {
+    /// The frontier of the node: what is at it or above it.
     Output(NodeId),
-    /// The input frontier of the node.
+    /// The input frontier of the node: the same, without what is held at the node itself.
     Input(NodeId),
-    /// The input frontier of one port.
+    /// The input frontier of one port: what is in flight to it, and what is at its source or above;
+    /// at an input, that input's own frontier.
     Port(NodeId, usize),
 }
 
 impl Scope {
-    /// The node whose frontier it is. Takes no memory.
+    // The node whose frontier it is.
     pub(crate) fn node(&self) -> NodeId
         ensures { result ≡ scope_node self.now }
     {
@@ -33,8 +34,7 @@ impl Scope {
         }
     }
 
-    /// Whether what is outstanding at a place counts for this frontier. Takes no memory, and
-    /// constant time.
+    // Whether what is outstanding at a place counts for this frontier. Takes constant time.
     pub(crate) fn counts(&self, graph: &Graph, place: &Place) -> bool
         requires { scope_node self.now < length graph.now }
         ensures { result ≡ is_in_scope graph.now self.now place.now }

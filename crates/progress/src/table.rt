@@ -7,14 +7,14 @@
 //! the questions are about few: the inputs of what runs, and what is read from outside. A node is
 //! put among them at the first question about it, before it is unmarked. It stays among them, since
 //! who asks once asks again.
-ghost use Rattle.std.specs.Prelude.{◌≡◌, ◌<◌, ◌&&◌, ℕ, true, not, eqb, IfOk, OnErr, OnOk, length};
+ghost use Rattle.std.specs.Prelude.{◌≡◌, ◌<◌, ℕ, true, IfOk, OnErr, OnOk, length};
 ghost use Rattle.update.specs.Refusals.{OnlyMemory};
 ghost use Rattle.lattice.specs.Frontiers.{is_beyond};
-ghost use Rattle.antichain.specs.Antichains.{SameElements, least};
+ghost use Rattle.antichain.specs.Antichains.{SameElements};
 ghost use Rattle.plan.specs.Changes.{has_passed};
-ghost use Rattle.progress.specs.Tallies.{is_marked, times_where};
+ghost use Rattle.progress.specs.Tallies.{IsUnmarked, is_marked};
 ghost use Rattle.progress.specs.Kept.{AreAsked, HaveChanged, HaveChangedAt, IsInserted, IsSpared, IsMarked, IsForgotten, IsTally, IsFront, is_asked, marks_of};
-ghost use Rattle.progress.specs.Scopes.{scope_node, is_in_scope};
+ghost use Rattle.progress.specs.Scopes.{scope_node, scope_frontier};
 ghost use Rattle.progress.specs.declared.scope.Scope.TheVariants.{Input};
 
 use crate::counts::Counts;
@@ -124,14 +124,13 @@ impl<T: Lattice> Table<T> {
         requires node { scope_node scope.now < length graph.now }
         requires tally { IsTally T.times graph.now items.now self.old }
         ensures tally { IsTally T.times graph.now items.now self.new }
-        ensures unmarked { OnOk result ((n : ℕ) → is_marked (marks_of self.new) n
-            ≡ (is_marked (marks_of self.old) n && not (eqb n (scope_node scope.now)))) }
+        ensures unmarked { OnOk result
+            (IsUnmarked (scope_node scope.now) (marks_of self.old) (marks_of self.new)) }
         ensures unanswered { OnErr result (marks_of self.new ≡ marks_of self.old) }
-        ensures least { IfOk result (λ found. SameElements found
-            (least T.times (times_where (is_in_scope graph.now scope.now) items.now))) }
+        ensures least { IfOk result (λ found.
+            SameElements found (scope_frontier T.times graph.now items.now scope.now)) }
         ensures beyond { IfOk result (λ found. (t : T) → is_beyond T.times found t
-            ≡ is_beyond T.times
-            (least T.times (times_where (is_in_scope graph.now scope.now) items.now)) t) }
+            ≡ is_beyond T.times (scope_frontier T.times graph.now items.now scope.now) t) }
         ensures refused { OnlyMemory result }
     {
         remember(&mut self.asked, &self.kept, scope.node())?;
@@ -153,8 +152,8 @@ impl<T: Lattice> Table<T> {
         requires node { node < length graph.now }
         requires tally { IsTally T.times graph.now items.now self.old }
         ensures tally { IsTally T.times graph.now items.now self.new }
-        ensures unmarked { OnOk result ((n : ℕ) → is_marked (marks_of self.new) n
-            ≡ (is_marked (marks_of self.old) n && not (eqb n node))) }
+        ensures unmarked { OnOk result
+            (IsUnmarked node (marks_of self.old) (marks_of self.new)) }
         ensures unanswered { OnErr result (marks_of self.new ≡ marks_of self.old) }
         ensures refused { OnlyMemory result }
     {
@@ -177,8 +176,8 @@ impl<T: Lattice> Table<T> {
         requires node { node < length graph.now }
         requires tally { IsTally T.times graph.now items.now self.old }
         ensures tally { IsTally T.times graph.now items.now self.new }
-        ensures unmarked { OnOk result ((n : ℕ) → is_marked (marks_of self.new) n
-            ≡ (is_marked (marks_of self.old) n && not (eqb n node))) }
+        ensures unmarked { OnOk result
+            (IsUnmarked node (marks_of self.old) (marks_of self.new)) }
         ensures unanswered { OnErr result (marks_of self.new ≡ marks_of self.old) }
         ensures front { IfOk result (λ times.
             IsFront T.times graph.now items.now (Input node) times) }
@@ -195,8 +194,8 @@ impl<T: Lattice> Table<T> {
     pub(crate) fn has_passed(&self, graph: &Graph, scope: &Scope, items: &Counts<T>, t: &T) -> bool
         requires node { scope_node scope.now < length graph.now }
         requires tally { IsTally T.times graph.now items.now self.now }
-        ensures { result ≡ has_passed T.times (least T.times
-            (times_where (is_in_scope graph.now scope.now) items.now)) t.now }
+        ensures { result
+            ≡ has_passed T.times (scope_frontier T.times graph.now items.now scope.now) t.now }
     {
         self.kept[scope.node().number()].has_passed(graph, scope, items, t)
     }

@@ -1,14 +1,14 @@
 //! The tally: counts of what is outstanding, and the frontiers of those nodes that somebody asked
 //! about. What is kept of a node is right, or the node is marked.
-ghost use Rattle.std.specs.Prelude.{◌≡◌, ℕ, ◌<◌, true, not, ◌&&◌, eqb, [], ◌∷◌, IsTrue, IfOk, OnErr, OnOk, Contains, length};
+ghost use Rattle.std.specs.Prelude.{◌≡◌, ℕ, ◌<◌, true, [], ◌∷◌, IsTrue, IfOk, OnErr, OnOk, Contains, length};
 ghost use Rattle.update.specs.Refusals.{OnlyMemory};
 ghost use Rattle.lattice.specs.Frontiers.{is_beyond};
-ghost use Rattle.antichain.specs.Antichains.{SameElements, least};
+ghost use Rattle.antichain.specs.Antichains.{SameElements};
 ghost use Rattle.plan.specs.Changes.{has_passed};
 ghost use Rattle.plan.specs.Rules.{IsPlan};
 ghost use Rattle.progress.specs.Kept.{HaveChanged, IsInserted, IsSpared};
-ghost use Rattle.progress.specs.Tallies.{AreMarksBelow, SameCounts, is_marked, times_where, frontier, input_frontier, node_of, port_frontier, rebuilt_after};
-ghost use Rattle.progress.specs.Scopes.{scope_node, is_in_scope};
+ghost use Rattle.progress.specs.Tallies.{AreMarksBelow, IsUnmarked, SameCounts, is_marked, input_frontier, node_of, rebuilt_after};
+ghost use Rattle.progress.specs.Scopes.{scope_node, scope_frontier};
 
 use crate::capability::Capability;
 use crate::counts::Counts;
@@ -193,79 +193,39 @@ impl<T: Lattice> Tally<T> {
         self.remove(&place, &time);
     }
 
-    /// The frontier of a node: the least of what is outstanding at it or above it. If the node is
-    /// marked, then all that is kept of it is found anew, and it is marked no more. Otherwise the
-    /// answer is a copy of what is kept, and takes memory only for more than four elements. Refused
-    /// only with `OutOfMemory`, and then the mark is what it was.
+    /// One of the frontiers of a node: the least of what counts for it. If the node is marked, then
+    /// all that is kept of it is found anew, and it is marked no more. Otherwise the answer is a
+    /// copy of what is kept, and takes memory only for more than four elements. Refused only with
+    /// `OutOfMemory`, and then the mark is what it was.
     ///
-    /// Cost: the square of the elements. If the node is marked, also linear in the different items
-    /// that are counted, times the most elements that are met on the way.
-    pub fn frontier(&mut self, node: NodeId) -> Result<Antichain<T>, Refusal>
-        requires { node < length self.old.nodes }
+    /// No frontier is kept of a port of 2 or more, which no node has: it is found from what is
+    /// counted at each question, and marks go as at the other ports.
+    ///
+    /// Cost: the square of the elements. If the node is marked, or the port is one of 2 or more,
+    /// also linear in the different items that are counted, times the most elements that are met on
+    /// the way.
+    pub fn frontier(&mut self, scope: &Scope) -> Result<Antichain<T>, Refusal>
+        requires { scope_node scope.now < length self.old.nodes }
         ensures items { self.new.items ≡ self.old.items }
         ensures nodes { self.new.nodes ≡ self.old.nodes }
-        ensures least { IfOk result (λ found.
-            SameElements found (frontier T.times self.old.nodes self.old.items node)) }
+        ensures least { IfOk result (λ found. SameElements found
+            (scope_frontier T.times self.old.nodes self.old.items scope.now)) }
         ensures beyond { IfOk result (λ found. (t : T) → is_beyond T.times found t
-            ≡ is_beyond T.times (frontier T.times self.old.nodes self.old.items node) t) }
+            ≡ is_beyond T.times
+            (scope_frontier T.times self.old.nodes self.old.items scope.now) t) }
         ensures refused { OnlyMemory result }
-        ensures unmarked { OnOk result ((n : ℕ) → is_marked self.new.marked n
-            ≡ (is_marked self.old.marked n && not (eqb n node))) }
+        ensures unmarked { OnOk result
+            (IsUnmarked (scope_node scope.now) self.old.marked self.new.marked) }
         ensures unanswered { OnErr result (self.new.marked ≡ self.old.marked) }
         ensures rebuilt { OnOk result (self.new.rebuilt
-            ≡ rebuilt_after (is_marked self.old.marked node) self.old.rebuilt) }
+            ≡ rebuilt_after (is_marked self.old.marked (scope_node scope.now))
+            self.old.rebuilt) }
         ensures not_rebuilt { OnErr result (self.new.rebuilt ≡ self.old.rebuilt) }
     {
-        self.answer(&Scope::Output(node))
-    }
-
-    /// The input frontier of a node: the same, without what is held at the node itself. It is
-    /// answered, and refused, as `frontier` is.
-    ///
-    /// Cost: that of `frontier`.
-    pub fn input_frontier_of(&mut self, node: NodeId) -> Result<Antichain<T>, Refusal>
-        requires { node < length self.old.nodes }
-        ensures items { self.new.items ≡ self.old.items }
-        ensures nodes { self.new.nodes ≡ self.old.nodes }
-        ensures least { IfOk result (λ found.
-            SameElements found (input_frontier T.times self.old.nodes self.old.items node)) }
-        ensures beyond { IfOk result (λ found. (t : T) → is_beyond T.times found t
-            ≡ is_beyond T.times (input_frontier T.times self.old.nodes self.old.items node) t) }
-        ensures refused { OnlyMemory result }
-        ensures unmarked { OnOk result ((n : ℕ) → is_marked self.new.marked n
-            ≡ (is_marked self.old.marked n && not (eqb n node))) }
-        ensures unanswered { OnErr result (self.new.marked ≡ self.old.marked) }
-        ensures rebuilt { OnOk result (self.new.rebuilt
-            ≡ rebuilt_after (is_marked self.old.marked node) self.old.rebuilt) }
-        ensures not_rebuilt { OnErr result (self.new.rebuilt ≡ self.old.rebuilt) }
-    {
-        self.answer(&Scope::Input(node))
-    }
-
-    /// The input frontier of one port: the least of what is in flight to it, and of what is
-    /// outstanding at its source or above; at an input, of that input's own frontier. It is
-    /// answered, and refused, as `frontier` is. No frontier is kept of a port of 2 or more, which
-    /// no node has: it is found from what is counted at each question, and marks go as at the other
-    /// ports.
-    ///
-    /// Cost: that of `frontier`. For a port of 2 or more always that of a marked node.
-    pub fn input_frontier(&mut self, node: NodeId, port: usize) -> Result<Antichain<T>, Refusal>
-        requires { node < length self.old.nodes }
-        ensures items { self.new.items ≡ self.old.items }
-        ensures nodes { self.new.nodes ≡ self.old.nodes }
-        ensures least { IfOk result (λ found.
-            SameElements found (port_frontier T.times self.old.nodes self.old.items node port)) }
-        ensures beyond { IfOk result (λ found. (t : T) → is_beyond T.times found t
-            ≡ is_beyond T.times (port_frontier T.times self.old.nodes self.old.items node port) t) }
-        ensures refused { OnlyMemory result }
-        ensures unmarked { OnOk result ((n : ℕ) → is_marked self.new.marked n
-            ≡ (is_marked self.old.marked n && not (eqb n node))) }
-        ensures unanswered { OnErr result (self.new.marked ≡ self.old.marked) }
-        ensures rebuilt { OnOk result (self.new.rebuilt
-            ≡ rebuilt_after (is_marked self.old.marked node) self.old.rebuilt) }
-        ensures not_rebuilt { OnErr result (self.new.rebuilt ≡ self.old.rebuilt) }
-    {
-        self.answer(&Scope::Port(node, port))
+        let was_marked = self.table.is_marked(scope.node());
+        let found = self.table.answer(&self.graph, scope, &self.items)?;
+        self.rebuilt = rebuilt_after(was_marked, self.rebuilt);
+        Ok(found)
     }
 
     /// Finds anew what is kept of a node if the node is marked, and unmarks it, as a question for
@@ -279,8 +239,7 @@ impl<T: Lattice> Tally<T> {
         ensures items { self.new.items ≡ self.old.items }
         ensures nodes { self.new.nodes ≡ self.old.nodes }
         ensures refused { OnlyMemory result }
-        ensures unmarked { OnOk result ((n : ℕ) → is_marked self.new.marked n
-            ≡ (is_marked self.old.marked n && not (eqb n node))) }
+        ensures unmarked { OnOk result (IsUnmarked node self.old.marked self.new.marked) }
         ensures unanswered { OnErr result (self.new.marked ≡ self.old.marked) }
         ensures rebuilt { OnOk result (self.new.rebuilt
             ≡ rebuilt_after (is_marked self.old.marked node) self.old.rebuilt) }
@@ -294,7 +253,7 @@ impl<T: Lattice> Tally<T> {
 
     /// Times that tell the input frontier of a node: a time is beyond them if and only if it is
     /// beyond that frontier. This is for who keeps them and has no use for an antichain. It is
-    /// answered, and refused, as `input_frontier_of` is.
+    /// answered, and refused, as `frontier` is.
     ///
     /// Cost: that of `refresh`, and linear in the elements.
     pub fn input_times_of(&mut self, node: NodeId) -> Result<Times<T>, Refusal>
@@ -304,8 +263,7 @@ impl<T: Lattice> Tally<T> {
         ensures beyond { IfOk result (λ found. (t : T) → is_beyond T.times found t
             ≡ is_beyond T.times (input_frontier T.times self.old.nodes self.old.items node) t) }
         ensures refused { OnlyMemory result }
-        ensures unmarked { OnOk result ((n : ℕ) → is_marked self.new.marked n
-            ≡ (is_marked self.old.marked n && not (eqb n node))) }
+        ensures unmarked { OnOk result (IsUnmarked node self.old.marked self.new.marked) }
         ensures unanswered { OnErr result (self.new.marked ≡ self.old.marked) }
         ensures rebuilt { OnOk result (self.new.rebuilt
             ≡ rebuilt_after (is_marked self.old.marked node) self.old.rebuilt) }
@@ -317,67 +275,19 @@ impl<T: Lattice> Tally<T> {
         Ok(times)
     }
 
-    /// Whether the frontier of a node has passed a time. Takes no memory, and leaves a mark.
+    /// Whether one of the frontiers of a node has passed a time. Takes no memory, and leaves the
+    /// mark.
     ///
     /// Cost: linear in the elements. If the node is marked, linear in the different items that are
     /// counted, and less if the time is not passed.
-    pub fn has_passed(&mut self, node: NodeId, t: &T) -> bool
-        requires { node < length self.old.nodes }
-        ensures items { self.new.items ≡ self.old.items }
-        ensures nodes { self.new.nodes ≡ self.old.nodes }
-        ensures value { result
-            ≡ has_passed T.times (frontier T.times self.old.nodes self.old.items node) t.now }
-        ensures marked { self.new.marked ≡ self.old.marked }
-        ensures rebuilt { self.new.rebuilt ≡ self.old.rebuilt }
-    {
-        self.is_passed(&Scope::Output(node), t)
-    }
-
-    /// Whether the input frontier of a node has passed a time. Takes no memory, and leaves a mark.
-    ///
-    /// Cost: that of `has_passed`.
-    pub fn input_has_passed(&mut self, node: NodeId, t: &T) -> bool
-        requires { node < length self.old.nodes }
-        ensures items { self.new.items ≡ self.old.items }
-        ensures nodes { self.new.nodes ≡ self.old.nodes }
-        ensures value { result
-            ≡ has_passed T.times (input_frontier T.times self.old.nodes self.old.items node) t.now }
-        ensures marked { self.new.marked ≡ self.old.marked }
-        ensures rebuilt { self.new.rebuilt ≡ self.old.rebuilt }
-    {
-        self.is_passed(&Scope::Input(node), t)
-    }
-
-    // One of the frontiers of a node, found anew if the node is marked.
-    fn answer(&mut self, scope: &Scope) -> Result<Antichain<T>, Refusal>
+    pub fn has_passed(&mut self, scope: &Scope, t: &T) -> bool
         requires { scope_node scope.now < length self.old.nodes }
         ensures items { self.new.items ≡ self.old.items }
         ensures nodes { self.new.nodes ≡ self.old.nodes }
-        ensures least { IfOk result (λ found. SameElements found
-            (least T.times (times_where (is_in_scope self.old.nodes scope.now) self.old.items))) }
-        ensures beyond { IfOk result (λ found. (t : T) → is_beyond T.times found t
-            ≡ is_beyond T.times
-            (least T.times (times_where (is_in_scope self.old.nodes scope.now) self.old.items)) t) }
-        ensures refused { OnlyMemory result }
-        ensures unmarked { OnOk result ((n : ℕ) → is_marked self.new.marked n
-            ≡ (is_marked self.old.marked n && not (eqb n (scope_node scope.now)))) }
-        ensures unanswered { OnErr result (self.new.marked ≡ self.old.marked) }
-        ensures rebuilt { OnOk result (self.new.rebuilt
-            ≡ rebuilt_after (is_marked self.old.marked (scope_node scope.now))
-            self.old.rebuilt) }
-        ensures not_rebuilt { OnErr result (self.new.rebuilt ≡ self.old.rebuilt) }
-    {
-        let was_marked = self.table.is_marked(scope.node());
-        let found = self.table.answer(&self.graph, scope, &self.items)?;
-        self.rebuilt = rebuilt_after(was_marked, self.rebuilt);
-        Ok(found)
-    }
-
-    // Whether nothing that counts for a frontier is at or before a time.
-    fn is_passed(&self, scope: &Scope, t: &T) -> bool
-        requires { scope_node scope.now < length self.now.nodes }
-        ensures { result ≡ has_passed T.times (least T.times
-            (times_where (is_in_scope self.now.nodes scope.now) self.now.items)) t.now }
+        ensures value { result ≡ has_passed T.times
+            (scope_frontier T.times self.old.nodes self.old.items scope.now) t.now }
+        ensures marked { self.new.marked ≡ self.old.marked }
+        ensures rebuilt { self.new.rebuilt ≡ self.old.rebuilt }
     {
         self.table.has_passed(&self.graph, scope, &self.items, t)
     }

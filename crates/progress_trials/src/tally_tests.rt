@@ -7,7 +7,7 @@ ghost use Rattle.std.specs.Prelude.{◌≡◌};
 use antichain::Antichain;
 use lattice::Bitime;
 use plan::NodeId;
-use progress::{Graph, Place, Tally};
+use progress::{Graph, Place, Scope, Tally};
 use std::alloc::Global;
 use std::test::Fail;
 use trials::sketches::{at, join_of_two};
@@ -94,7 +94,7 @@ fn is_frontier(
     want: &[(u64, u64)],
 ) -> Result<bool, Refusal> {
     if node < tally.plan().len() {
-        let found = tally.frontier(NodeId::new(node))?;
+        let found = tally.frontier(&Scope::Output(NodeId::new(node)))?;
         return Ok(has_times(&found, want));
     }
     Ok(false)
@@ -107,7 +107,7 @@ fn is_input_frontier(
     want: &[(u64, u64)],
 ) -> Result<bool, Refusal> {
     if node < tally.plan().len() {
-        let found = tally.input_frontier_of(NodeId::new(node))?;
+        let found = tally.frontier(&Scope::Input(NodeId::new(node)))?;
         return Ok(has_times(&found, want));
     }
     Ok(false)
@@ -120,7 +120,7 @@ fn is_port_frontier(
     want: &[(u64, u64)],
 ) -> Result<bool, Refusal> {
     if node < tally.plan().len() {
-        let found = tally.input_frontier(NodeId::new(node), port)?;
+        let found = tally.frontier(&Scope::Port(NodeId::new(node), port))?;
         return Ok(has_times(&found, want));
     }
     Ok(false)
@@ -193,7 +193,7 @@ fn is_passed(tally: &mut Tally<Bitime>, node: usize, time: (u64, u64)) -> bool
     ensures items { tally.new.items ≡ tally.old.items }
     ensures nodes { tally.new.nodes ≡ tally.old.nodes }
 {
-    node < tally.plan().len() && tally.has_passed(NodeId::new(node), &at(time))
+    node < tally.plan().len() && tally.has_passed(&Scope::Output(NodeId::new(node)), &at(time))
 }
 
 // The same of the input frontier.
@@ -201,7 +201,7 @@ fn is_input_passed(tally: &mut Tally<Bitime>, node: usize, time: (u64, u64)) -> 
     ensures items { tally.new.items ≡ tally.old.items }
     ensures nodes { tally.new.nodes ≡ tally.old.nodes }
 {
-    node < tally.plan().len() && tally.input_has_passed(NodeId::new(node), &at(time))
+    node < tally.plan().len() && tally.has_passed(&Scope::Input(NodeId::new(node)), &at(time))
 }
 
 // A refused call counts nothing, and succeeds once there is memory. A frontier of five times takes

@@ -19,6 +19,7 @@ use accounts::Accounts;
 use antichain::Antichain;
 use lattice::Minimum;
 use plan::NodeId;
+use progress::Scope;
 use update::{Refusal, Times};
 
 impl<T: Minimum> Board<T> {
@@ -34,13 +35,13 @@ impl<T: Minimum> Board<T> {
             → result ≡ has_passed T.times (frontier_on T.times self.old h node) t.now }
     {
         self.known();
-        self.accounts.has_passed(node, t)
+        self.accounts.has_passed(&Scope::Output(node), t)
     }
 
     /// Whether the input frontier of a node has passed a time. If it has, nothing more comes to the
     /// node at or before that time. Takes no memory.
     ///
-    /// Cost: that of [`Tally::input_has_passed`](progress::Tally::input_has_passed).
+    /// Cost: that of [`Tally::has_passed`](progress::Tally::has_passed).
     pub fn input_has_passed(&mut self, node: NodeId, t: &T) -> bool
         requires { node < length self.old.dataflow.nodes }
         ensures kept { self.new ≡ self.old }
@@ -50,7 +51,7 @@ impl<T: Minimum> Board<T> {
             ≡ has_passed T.times (input_frontier_on T.times self.old h node) t.now }
     {
         self.known();
-        self.accounts.input_has_passed(node, t)
+        self.accounts.has_passed(&Scope::Input(node), t)
     }
 
     /// The frontier of a node: the least of the times that are in flight, held or open at the node
@@ -70,14 +71,14 @@ impl<T: Minimum> Board<T> {
         ensures refused { OnlyMemory result }
     {
         self.known();
-        self.accounts.frontier(node)
+        self.accounts.frontier(&Scope::Output(node))
     }
 
     /// The input frontier of a node: updates may still come to it at times beyond this frontier. It
     /// is the least of the times that are in flight or open at the node or above it, or held above
     /// it. Refused only with `OutOfMemory`.
     ///
-    /// Cost: that of [`Tally::input_frontier_of`](progress::Tally::input_frontier_of).
+    /// Cost: that of [`Tally::frontier`](progress::Tally::frontier).
     pub fn input_frontier(&mut self, node: NodeId) -> Result<Antichain<T>, Refusal>
         requires { node < length self.old.dataflow.nodes }
         ensures kept { self.new ≡ self.old }
@@ -91,7 +92,7 @@ impl<T: Minimum> Board<T> {
         ensures refused { OnlyMemory result }
     {
         self.known();
-        self.accounts.input_frontier(node)
+        self.accounts.frontier(&Scope::Input(node))
     }
 
     /// Times that tell the input frontier of a node: a time is beyond them if and only if it is
@@ -118,7 +119,7 @@ impl<T: Minimum> Board<T> {
     /// those that are in flight, held or open at its source or above. Refused only with
     /// `OutOfMemory`.
     ///
-    /// Cost: that of [`Tally::input_frontier`](progress::Tally::input_frontier).
+    /// Cost: that of [`Tally::frontier`](progress::Tally::frontier).
     pub fn port_frontier(&mut self, node: NodeId, port: usize) -> Result<Antichain<T>, Refusal>
         requires { node < length self.old.dataflow.nodes }
         ensures kept { self.new ≡ self.old }
@@ -132,7 +133,7 @@ impl<T: Minimum> Board<T> {
         ensures refused { OnlyMemory result }
     {
         self.known();
-        self.accounts.port_frontier(node, port)
+        self.accounts.frontier(&Scope::Port(node, port))
     }
 
     /// Whether a worker holds a time at a node that the node's input frontier has passed. If so, it
@@ -165,7 +166,7 @@ fn holds_passed<T: Minimum>(accounts: &mut Accounts<T>, worker: usize, node: Nod
     refresh_for_many(accounts, worker, node);
     for i in 0..accounts.stations().held(node, worker).len() {
         let t = accounts.stations().held(node, worker)[i];
-        if accounts.input_has_passed(node, &t) {
+        if accounts.has_passed(&Scope::Input(node), &t) {
             return true;
         }
     }

@@ -26,6 +26,7 @@ use antichain::is_beyond;
 use columns::Columns;
 use lattice::Minimum;
 use plan::NodeId;
+use progress::Scope;
 use std::alloc::Global;
 use update::{Bag, Refusal, Update, consolidate};
 
@@ -64,7 +65,7 @@ fn passed_by<T: Minimum>(
     let mut passed = Vec::new(alloc);
     let mut run = 0;
     for i in 0..updates.len() {
-        if accounts.has_passed(node, &updates.time(i)) {
+        if accounts.has_passed(&Scope::Output(node), &updates.time(i)) {
             run = updates.run_near(i, run);
             passed.push(updates.copy(i, run))?;
         }

@@ -13,7 +13,7 @@ returns-in_err-read_all-clause-refused g c =
     let all = c.args.a.now.updates ++ c.args.b.now.updates in
     rw p.1 (⊎_elim
     (λ d. inl (p.2 ∙ d))
-    (λ r. inr (inr (p.2 ∙ r.0, subst (λ s. HasLargeTotal g.T.PartialOrder.times (compacted g.T.PartialOrder.times s all)) since (rw (← c.columns.ensures.value, ← c.columns-2.ensures.value) r.1))))
+    (λ r. inr (inr (p.2 ∙ r.0, subst (λ s. HasLargeTotal g.T.PartialOrder.times (compacted g.T.PartialOrder.times s all)) since (rw (← c.columns-us.ensures.value, ← c.columns-vs.ensures.value) r.1))))
     c.in_err-read_all.ensures.refused)
 
 pub returns-in_err-both-clause-refused : goal.returns-in_err-both-clause-refused
@@ -23,18 +23,18 @@ returns-in_err-both-clause-refused g c =
     let all = c.args.a.now.updates ++ c.args.b.now.updates in
     rw p.1 (⊎_elim
     (λ d. inl (p.2 ∙ d))
-    (λ r. inr (inr (p.2 ∙ r.0, subst (λ s. HasLargeTotal g.T.PartialOrder.times (compacted g.T.PartialOrder.times s all)) since r.1)))
+    (λ r. inr (inr (p.2 ∙ r.0, subst (λ s. HasLargeTotal g.T.PartialOrder.times (compacted g.T.PartialOrder.times s all)) since (rw (← c.columns-us.ensures.value, ← c.columns-vs.ensures.value) r.1))))
     c.in_err-both.ensures.refused)
 
 pub returns-clause-stand : goal.returns-clause-stand
 returns-clause-stand g c =
     let since = ap (λ (d : DescriptionState g.row.T.Denot). d.since) (c.in_ok-read_all.ensures.described ∙ c.in_ok-merging.ensures.described) in
-    subst (λ s. StandFor c.in_ok-both.both.updates (compacted g.T.PartialOrder.times s (c.args.a.now.updates ++ c.args.b.now.updates))) since c.in_ok-both.ensures.stand
+    subst (λ s. StandFor c.in_ok-both.both.updates (compacted g.T.PartialOrder.times s (c.args.a.now.updates ++ c.args.b.now.updates))) since (rw (c.columns-us.ensures.value, c.columns-vs.ensures.value) at c.in_ok-both.ensures.stand)
 
 pub returns-clause-fits : goal.returns-clause-fits
 returns-clause-fits g c =
     let since = ap (λ (d : DescriptionState g.row.T.Denot). d.since) (c.in_ok-read_all.ensures.described ∙ c.in_ok-merging.ensures.described) in
-    subst (λ s. HasLargeTotal g.T.PartialOrder.times (compacted g.T.PartialOrder.times s (c.args.a.now.updates ++ c.args.b.now.updates)) → ⊥) since c.in_ok-both.ensures.fits
+    subst (λ s. HasLargeTotal g.T.PartialOrder.times (compacted g.T.PartialOrder.times s (c.args.a.now.updates ++ c.args.b.now.updates)) → ⊥) since (rw (c.columns-us.ensures.value, c.columns-vs.ensures.value) at c.in_ok-both.ensures.fits)
 
 pub returns-clause-sums : goal.returns-clause-sums
 returns-clause-sums g c = stand_sums g.met.T.PartialOrder.order g.met.T.Lattice.bounds c.args.since.now c.in_ok-both.both.updates (c.args.a.now.updates ++ c.args.b.now.updates) (returns-clause-stand g c)

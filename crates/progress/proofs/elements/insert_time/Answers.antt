@@ -12,5 +12,5 @@ returns-then-is_beyond-clause-beyond g c s =
 pub returns-clause-beyond : goal.returns-clause-beyond
 returns-clause-beyond g c s =
     let times = g.T.PartialOrder.times in
-    ap (λ ys. is_beyond times ys s) (c.push_reserved.ensures.items ∙ ap (λ ys. ys ++ c.args.t ∷ []) (c.remove_above.ensures.left ∙ ap (λ ys. filter (λ f. not (times.below c.args.t f)) ys) c.reserve.ensures.items))
+    ap (λ ys. is_beyond times ys s) (c.push_reserved.ensures.items ∙ ap (λ ys. ys ++ c.args.t ∷ []) (c.remove_above.ensures.rest ∙ ap (λ ys. filter (λ f. not (times.below c.args.t f)) ys) c.reserve.ensures.items))
     ∙ inserted times g.met.T.PartialOrder.order c.args.elements.now.items c.args.t s

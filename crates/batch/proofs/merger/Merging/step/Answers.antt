@@ -7,5 +7,5 @@ returns-in_err-left-clause-refused g c =
     let p = err_from_is_err_and c.from_residual.result c.from_residual.ensures.1 in
     rw p.1 (⊎_elim
     (λ d. inl (p.2 ∙ d))
-    (λ r. inr (p.2 ∙ r.0, rw (← c.columns.ensures.value, ← c.columns-2.ensures.value) r.1))
+    (λ r. inr (p.2 ∙ r.0, rw (c.columns_at-first.ensures, c.columns_at-second.ensures) at r.1))
     c.in_err-left.ensures.refused)

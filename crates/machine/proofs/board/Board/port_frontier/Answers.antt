@@ -9,14 +9,14 @@ use Rattle.machine.proofs.board.Board.port_frontier.Goals as goal
 
 pub returns-clause-least : goal.returns-clause-least
 returns-clause-least g c =
-    subst (λ (z : BoardState g.row.T.Denot). IfOk c.port_frontier.result (λ found. SameElements found (port_front g.T.PartialOrder.times z c.args.node c.args.port))) c.self.view_is c.port_frontier.ensures.least
+    subst (λ (z : BoardState g.row.T.Denot). IfOk c.frontier.result (λ found. SameElements found (port_front g.T.PartialOrder.times z c.args.node c.args.port))) c.self.view_is c.frontier.ensures.least
 
 pub returns-clause-beyond : goal.returns-clause-beyond
 returns-clause-beyond g c =
     let times = g.T.PartialOrder.times in
-    subst (λ (z : BoardState g.row.T.Denot). IfOk c.port_frontier.result (λ found. (t : g.row.T.Denot) → is_beyond times found t ≡ is_beyond times (port_front times z c.args.node c.args.port) t)) c.self.view_is c.port_frontier.ensures.beyond
+    subst (λ (z : BoardState g.row.T.Denot). IfOk c.frontier.result (λ found. (t : g.row.T.Denot) → is_beyond times found t ≡ is_beyond times (port_front times z c.args.node c.args.port) t)) c.self.view_is c.frontier.ensures.beyond
 
 pub returns-clause-stands : goal.returns-clause-stands
 returns-clause-stands g c h s =
     let next = port_front_elements g.T.PartialOrder.times g.met.T.PartialOrder.order c.args.self.now c.known.ensures.board h s c.args.node c.args.port in
-    on_ok c.port_frontier.result _ _ (λ found same. record { into = λ t a. next.into t (same.into t a); back = λ t a. same.back t (next.back t a) }) (returns-clause-least g c)
+    on_ok c.frontier.result _ _ (λ found same. record { into = λ t a. next.into t (same.into t a); back = λ t a. same.back t (next.back t a) }) (returns-clause-least g c)

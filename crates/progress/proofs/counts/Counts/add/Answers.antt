@@ -1,4 +1,4 @@
-use Rattle.std.proofs.Common.{◌≡◌, ◌<◌, Result, Ok, Err, OnErr, List, [], ◌∷◌, ◌++◌, length, ap, sym, ◌∙◌, append_assoc, arith}
+use Rattle.std.proofs.Common.{◌≡◌, List, [], ◌∷◌, ◌++◌, length, ap, sym, ◌∙◌, append_assoc, arith}
 use Rattle.std.specs.List.{filter}
 use Rattle.std.specs.Prelude.{slice_set}
 use Rattle.progress.specs.declared.place.Place.{Place}
@@ -6,25 +6,26 @@ use Rattle.progress.specs.declared.counted.Counted.{Counted}
 use Rattle.progress.specs.declared.counts.PlaceCounts.{PlaceCounts}
 use Rattle.progress.specs.PlacedCounts.{items_in}
 use Rattle.progress.proofs.CountLemmas.{pushed}
-use Rattle.progress.proofs.PlacedLemmas.{changed, own_place, set_itself}
+use Rattle.progress.proofs.MarkLemmas.{on_err}
+use Rattle.progress.proofs.PlacedLemmas.{StandsHere, changed_here, set_itself}
+use Rattle.progress.proofs.counts.Counts.add.Given.{Over}
+use Rattle.progress.proofs.counts.Counts.add.Goals.{After-index_mut}
 use Rattle.progress.proofs.counts.Counts.add.Goals as goal
 
-at_err : {X E P : Type 0} (r : Result X E) → P → OnErr r P
-at_err (Ok x) p = tt
-at_err (Err e) p = p
+-- the place stands at its number
+here : (g : Over) (c : After-index_mut g) → StandsHere c.self.inside.places.items c.self.inside.others.items c.args.place.now c.in-Some.number c.index_mut.result.now
+here g c = record {
+  placed = c.self.invariant.0;
+  others = c.self.invariant.1;
+  number = c.in-Some.ensures.found.0;
+  within = omega (arith, c.in-Some.ensures.found.1, c.len.ensures);
+  is = c.index_mut.ensures.value;
+}
 
 pub returns-in-Some-clause-counted : goal.returns-in-Some-clause-counted
 returns-in-Some-clause-counted g c test =
-    let ps = c.self.inside.places.items in
-    let os = c.self.inside.others.items in
-    let i = c.in-Some.number in
-    let a = c.index_mut.result.now in
-    let s = c.in-Some.ensures.found.0 in
-    let within : i < length ps = omega (arith, c.in-Some.ensures.found.1, c.len.ensures) in
-    let b : PlaceCounts g.row.T.Denot = record { place = a.place; times = c.add.new.self } in
     let x : Counted g.row.T.Denot = record { place = c.args.place.now; time = c.args.t } in
-    let same = own_place ps os c.self.invariant.0 c.args.place.now i a s within c.index_mut.ensures.value in
-    changed [] (c.args.t ∷ []) c.args.place.now ps i a b os within c.index_mut.ensures.value same same c.in_ok-add.ensures.counted test
+    changed_here (here g (goal.at.returns-in-Some-clause-counted g c).After-index_mut) [] (c.args.t ∷ []) c.add.new.self c.in_ok-add.ensures.counted test
     ∙ ap (λ xs. length (filter test (x ∷ xs))) c.self.view_is
 
 pub returns-in_err-add-clause-unchanged : goal.returns-in_err-add-clause-unchanged
@@ -33,7 +34,7 @@ returns-in_err-add-clause-unchanged g c =
     let os = c.self.inside.others.items in
     let a = c.index_mut.result.now in
     let at = λ (ts : List g.row.T.Denot). let p : PlaceCounts g.row.T.Denot = record { place = a.place; times = ts } in p in
-    at_err c.from_residual.result ((λ k. items_in (slice_set ps c.in-Some.number (at (c.in_err-add.ensures.unchanged k))) ++ os)
+    on_err c.from_residual.result ((λ k. items_in (slice_set ps c.in-Some.number (at (c.in_err-add.ensures.unchanged k))) ++ os)
     ∙ (ap (λ qs. items_in qs ++ os) (set_itself ps c.in-Some.number a c.index_mut.ensures.value) ∙ c.self.view_is))
 
 pub returns-clause-counted : goal.returns-clause-counted

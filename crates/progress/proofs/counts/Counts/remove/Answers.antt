@@ -2,37 +2,32 @@ use Rattle.std.proofs.Common.{◌≡◌, ℕ, ◌<◌, ◌≤◌, Some, refl, []
 use Rattle.std.specs.List.{filter, remove}
 use Rattle.std.specs.Prelude.{Contains, slice_index_or}
 use Rattle.progress.specs.declared.counted.Counted.{Counted}
-use Rattle.progress.specs.declared.counts.PlaceCounts.{PlaceCounts}
 use Rattle.progress.specs.PlacedCounts.{AreOthers, items_in, slot}
 use Rattle.progress.specs.Tallies.{SameCounts}
 use Rattle.progress.proofs.CountLemmas.{removed}
 use Rattle.progress.proofs.CountListLemmas.{carried}
-use Rattle.progress.proofs.PlacedLemmas.{changed, in_its_place, in_others, others_less, others_stay, own_place, still_placed}
+use Rattle.progress.proofs.PlacedLemmas.{StandsHere, changed_here, counted_here, in_others, others_less, still_here}
+use Rattle.progress.proofs.counts.Counts.remove.Given.{Over}
+use Rattle.progress.proofs.counts.Counts.remove.Goals.{After-index_mut}
 use Rattle.progress.proofs.counts.Counts.remove.Goals as goal
+
+-- the place stands at its number
+here : (g : Over) (c : After-index_mut g) → StandsHere c.self.inside.places.items c.self.inside.others.items c.args.place.now c.in-Some.number c.index_mut.result.now
+here g c = record {
+  placed = c.self.invariant.0;
+  others = c.self.invariant.1;
+  number = c.in-Some.ensures.found.0;
+  within = omega (arith, c.in-Some.ensures.found.1, c.len.ensures);
+  is = c.index_mut.ensures.value;
+}
 
 pub remove-requires : goal.remove-requires
 remove-requires g c =
-    let ps = c.self.inside.places.items in
-    let os = c.self.inside.others.items in
-    let i = c.in-Some.number in
-    let a = c.index_mut.result.now in
-    let s = c.in-Some.ensures.found.0 in
-    let within : i < length ps = omega (arith, c.in-Some.ensures.found.1, c.len.ensures) in
     let x : Counted g.row.T.Denot = record { place = c.args.place.now; time = c.args.t.now } in
-    let there = in_its_place ps os c.self.invariant.0 c.self.invariant.1 x i a s within (subst (λ xs. Contains xs x) (sym c.self.view_is) c.requires) in
-    subst (λ (p : PlaceCounts g.row.T.Denot). Contains p.times c.args.t.now) (sym c.index_mut.ensures.value) there
+    counted_here (here g (goal.at.remove-requires g c).After-index_mut) c.args.t.now (subst (λ xs. Contains xs x) (sym c.self.view_is) c.requires)
 
 pub invariant_of-self : goal.invariant_of-self
-invariant_of-self g c =
-    let ps = c.self.inside.places.items in
-    let os = c.self.inside.others.items in
-    let i = c.in-Some.number in
-    let a = c.index_mut.result.now in
-    let s = c.in-Some.ensures.found.0 in
-    let within : i < length ps = omega (arith, c.in-Some.ensures.found.1, c.len.ensures) in
-    let b : PlaceCounts g.row.T.Denot = record { place = a.place; times = c.remove.new.self } in
-    let own = ap slot (own_place ps os c.self.invariant.0 c.args.place.now i a s within c.index_mut.ensures.value) ∙ s in
-    (still_placed ps os c.self.invariant.0 i b within own, others_stay ps os c.self.invariant.0 i b c.self.invariant.1)
+invariant_of-self g c = still_here (here g (goal.at.invariant_of-self g c).After-index_mut) c.remove.new.self
 
 pub position-number-requires : goal.position-number-requires
 position-number-requires g c =
@@ -52,15 +47,7 @@ invariant_of-self-in_default g c =
 
 pub returns-in-Some : goal.returns-in-Some
 returns-in-Some g c test =
-    let ps = c.self.inside.places.items in
-    let os = c.self.inside.others.items in
-    let i = c.in-Some.number in
-    let a = c.index_mut.result.now in
-    let s = c.in-Some.ensures.found.0 in
-    let within : i < length ps = omega (arith, c.in-Some.ensures.found.1, c.len.ensures) in
-    let b : PlaceCounts g.row.T.Denot = record { place = a.place; times = c.remove.new.self } in
-    let same = own_place ps os c.self.invariant.0 c.args.place.now i a s within c.index_mut.ensures.value in
-    changed (c.args.t.now ∷ []) [] c.args.place.now ps i a b os within c.index_mut.ensures.value same same c.remove.ensures test
+    changed_here (here g (goal.at.returns-in-Some g c).After-index_mut) (c.args.t.now ∷ []) [] c.remove.new.self c.remove.ensures test
     ∙ ap (λ xs. length (filter test xs)) c.self.view_is
 
 pub returns-in_default : goal.returns-in_default

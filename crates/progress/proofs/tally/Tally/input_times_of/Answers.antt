@@ -1,23 +1,19 @@
-use Rattle.std.proofs.Common.{not, ◌&&◌, eqb, ap, ◌∙◌}
-use Rattle.std.specs.Prelude.{Result, Ok, Err, OnErr}
+use Rattle.std.proofs.Common.{ap, ◌∙◌}
 use Rattle.lattice.specs.Frontiers.{is_beyond}
 use Rattle.progress.specs.declared.scope.Scope.TheVariants.{Input as InputOf}
-use Rattle.progress.specs.Tallies.{TallyState, input_frontier, is_marked}
+use Rattle.progress.specs.Kept.{marks_of}
+use Rattle.progress.specs.Tallies.{TallyState, input_frontier}
+use Rattle.progress.proofs.FoundLemmas.{unmarked_there}
 use Rattle.progress.proofs.KeptLemmas.{beyond_kept}
+use Rattle.progress.proofs.MarkLemmas.{on_err}
 use Rattle.progress.proofs.tally.Tally.input_times_of.Goals as goal
 
-on_err : {A E : Type 0} (r : Result A E) (P : Type 0) → P → OnErr r P
-on_err (Ok x) P p = tt
-on_err (Err e) P p = p
-
 pub returns-clause-unmarked : goal.returns-clause-unmarked
-returns-clause-unmarked g c n =
-    c.in_ok-times.ensures.unmarked n
-    ∙ (λ k. is_marked (c.self.view_is k).marked n && not (eqb n c.args.node))
+returns-clause-unmarked g c = unmarked_there c.args.node (marks_of c.input_times.new.self) c.self.view_is c.in_ok-times.ensures.unmarked
 
 pub returns-in_err-times-clause-unanswered : goal.returns-in_err-times-clause-unanswered
 returns-in_err-times-clause-unanswered g c =
-    on_err c.from_residual.result _ (c.in_err-times.ensures.unanswered ∙ ap (λ (s : TallyState g.row.T.Denot). s.marked) c.self.view_is)
+    on_err c.from_residual.result (c.in_err-times.ensures.unanswered ∙ ap (λ (s : TallyState g.row.T.Denot). s.marked) c.self.view_is)
 
 pub returns-clause-beyond : goal.returns-clause-beyond
 returns-clause-beyond g c t =
