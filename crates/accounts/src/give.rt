@@ -44,7 +44,7 @@ impl<T: Minimum> Accounts<T> {
             Ok(next) => next,
             Err(held) => return Err(Ungiven { cut, held }),
         };
-        settle(&mut self.tally, &mut self.stations, cut, next);
+        count_moved(&mut self.tally, &mut self.stations, cut, next);
         Ok(())
     }
 
@@ -76,7 +76,7 @@ impl<T: Minimum> Accounts<T> {
             let held = withdraw(&mut self.tally, &mut self.stations, &cut, next);
             return Err(Ungiven { cut, held });
         }
-        settle(&mut self.tally, &mut self.stations, cut, next);
+        count_moved(&mut self.tally, &mut self.stations, cut, next);
         Ok(())
     }
 }
@@ -150,7 +150,7 @@ fn withdraw<T: Minimum>(
 }
 
 // Moves what was announced, and counts off what the worker held before. Takes no memory.
-fn settle<T: Minimum>(
+fn count_moved<T: Minimum>(
     tally: &mut Tally<T>,
     stations: &mut Stations<T>,
     cut: CutEmission<T>,

@@ -19,7 +19,7 @@ use Rattle.plan.specs.Changes.{open_for}
 use Rattle.plan.specs.Rules.{first_refusal}
 use Rattle.plan.specs.declared.node.Node.{Node}
 use Rattle.hub.specs.Histories.{entry, NoneBy}
-use Rattle.hub.specs.Known.{Known}
+use Rattle.hub.specs.PassViews.{PassView}
 use Rattle.hub.specs.declared.view.Entry.{Entry}
 use Rattle.histories.specs.declared.event.Event.{Event}
 use Rattle.histories.specs.declared.event.Event.TheVariants.{Feed, Advance, Allow, Look}
@@ -43,7 +43,7 @@ use Rattle.shared_board.proofs.ActorLemmas.{only_client}
 use Rattle.shared_board.proofs.QuietLemmas.{stays}
 use Rattle.engines.specs.Engines.{IsTold}
 use Rattle.engines.specs.Sessions.{Session, first_session, with_change, with_frontier, with_since, change_refusal, frontier_refusal, since_refusal}
-use Rattle.crews.specs.BoardStates.{HasSession, StandsAs}
+use Rattle.crews.specs.BoardStates.{HasSession, HasSessionOf}
 use Rattle.engines.proofs.EveryBoundLemmas.{bound_of}
 use Rattle.engines.proofs.RefusalLemmas.{answered, refused_by}
 
@@ -64,7 +64,7 @@ one_more n = omega arith
 module _ {T : Type 0} (times : Times T) (o : PartialOrderLaws times) where
   -- what a tenure of the only client is: nobody else changed what clients change, and a quiet board
   -- has stayed as it was
-  pub record IsClientStep (old new : Known (BoardEvent T)) (event : Event T) : Type 0 where
+  pub record IsClientStep (old new : PassView (BoardEvent T)) (event : Event T) : Type 0 where
     pub number : new.number ≡ old.number
     pub terms : opening_in new.seen ≡ opening_in old.seen
     pub clients : IsSameOfClients (state_left times old) (state_found times new)
@@ -74,10 +74,10 @@ module _ {T : Type 0} (times : Times T) (o : PartialOrderLaws times) where
     pub caught : (v : ℕ) → IsQuiet times (dataflow_of old) (state_found times new)
         → SameElements (frontier times (dataflow_of old) (state_found times new) v) (least times (open_for times (dataflow_of old).nodes (λ i. open_at i (state_found times new).open_times) v))
 
-  pub client_step : (old new : Known (BoardEvent T)) (event : Event T) → old.number ≡ (dataflow_of old).workers → (opening_in old.seen).actors ≡ (dataflow_of old).workers + 1 → IsActor times new → IsNextTenure old event new → IsClientStep old new event
+  pub client_step : (old new : PassView (BoardEvent T)) (event : Event T) → old.number ≡ (dataflow_of old).workers → (opening_in old.seen).actors ≡ (dataflow_of old).workers + 1 → IsActor times new → IsNextTenure old event new → IsClientStep old new event
   client_step old new event number one actor adds = subst (λ k. IsClientStep old k event) (sym adds.new_is) (made (subst (IsActor times) adds.new_is actor))
     where
-      after : Known (BoardEvent T)
+      after : PassView (BoardEvent T)
       after = record { hub = old.hub; number = old.number; seen = entry old.number (doing (opening_in old.seen) event) ∷ (adds.others ++ old.seen) }
 
       made : IsActor times after → IsClientStep old after event
@@ -107,33 +107,33 @@ module _ {T : Type 0} (times : Times T) (o : PartialOrderLaws times) where
   }
 
   -- the engine's dataflow and what its client left, after a tenure
-  stood : (old new : Known (BoardEvent T)) (event : Event T) (s : Session T) → IsClientStep old new event → HasSession (dataflow_of old) (next_state times (dataflow_of old) (state_found times new) event) s → StandsAs times new s
+  stood : (old new : PassView (BoardEvent T)) (event : Event T) (s : Session T) → IsClientStep old new event → HasSession (dataflow_of old) (next_state times (dataflow_of old) (state_found times new) event) s → HasSessionOf times new s
   stood old new event s step a =
       subst (λ p. HasSession p (state_left times new) s) (sym (ap (λ (t : Opening). t.dataflow) step.terms)) (subst (λ w. HasSession (dataflow_of old) w s) (sym step.left) a)
 
-  pub after_looked : (old new : Known (BoardEvent T)) (actor : ℕ) (s : Session T) → IsClientStep old new (Look actor) → StandsAs times old s → StandsAs times new s
+  pub after_looked : (old new : PassView (BoardEvent T)) (actor : ℕ) (s : Session T) → IsClientStep old new (Look actor) → HasSessionOf times old s → HasSessionOf times new s
   after_looked old new actor s step a = stood old new (Look actor) s step (session_found (dataflow_of old) (state_left times old) (state_found times new) s step.clients a)
 
   -- a question leaves what the engine stands for
-  pub still_stands : (old new : Known (BoardEvent T)) {e : Known (BoardEvent T)} → old.number ≡ (dataflow_of old).workers → (opening_in old.seen).actors ≡ (dataflow_of old).workers + 1 → IsActor times new → IsNextTenure old (Look old.number) new → old ≡ e
-      → (s : Session T) → StandsAs times e s → StandsAs times new s
+  pub still_stands : (old new : PassView (BoardEvent T)) {e : PassView (BoardEvent T)} → old.number ≡ (dataflow_of old).workers → (opening_in old.seen).actors ≡ (dataflow_of old).workers + 1 → IsActor times new → IsNextTenure old (Look old.number) new → old ≡ e
+      → (s : Session T) → HasSessionOf times e s → HasSessionOf times new s
   still_stands old new number one actor looked same s =
-      subst (λ (k : Known (BoardEvent T)). StandsAs times k s → StandsAs times new s) same
+      subst (λ (k : PassView (BoardEvent T)). HasSessionOf times k s → HasSessionOf times new s) same
       (λ a. after_looked old new old.number s (client_step old new (Look old.number) number one actor looked) a)
 
   -- what a question about a view of a board that had caught up found
-  pub record IsAskedOf (old new : Known (BoardEvent T)) (v : ℕ) : Type 0 where
+  pub record IsAskedOf (old new : PassView (BoardEvent T)) (v : ℕ) : Type 0 where
     pub dataflow : IsDataflow (dataflow_of old)
     pub within : v < length (dataflow_of old).nodes
     pub caught : SameElements (frontier times (dataflow_of old) (state_found times new) v) (least times (open_for times (dataflow_of old).nodes (λ i. open_at i (state_found times new).open_times) v))
-    pub found : (s : Session T) → StandsAs times old s → HasSession (dataflow_of old) (state_found times new) s
+    pub found : (s : Session T) → HasSessionOf times old s → HasSession (dataflow_of old) (state_found times new) s
 
-  pub asked_of : (old new : Known (BoardEvent T)) {e : Known (BoardEvent T)} → old.number ≡ (dataflow_of old).workers → (opening_in old.seen).actors ≡ (dataflow_of old).workers + 1 → IsActor times new → IsNextTenure old (Look old.number) new → old ≡ e
+  pub asked_of : (old new : PassView (BoardEvent T)) {e : PassView (BoardEvent T)} → old.number ≡ (dataflow_of old).workers → (opening_in old.seen).actors ≡ (dataflow_of old).workers + 1 → IsActor times new → IsNextTenure old (Look old.number) new → old ≡ e
       → (v : ℕ) → IsTrue (is_view_of (dataflow_of e).nodes v) → IsQuiet times (dataflow_of e) (state_left times e) → IsAskedOf old new v
   asked_of old new number one actor looked same v view quiet =
       let step = client_step old new (Look old.number) number one actor looked in
-      let there = subst (λ (k : Known (BoardEvent T)). IsTrue (is_view_of (dataflow_of k).nodes v)) (sym same) view in
-      let still = subst (λ (k : Known (BoardEvent T)). IsQuiet times (dataflow_of k) (state_left times k)) (sym same) quiet in
+      let there = subst (λ (k : PassView (BoardEvent T)). IsTrue (is_view_of (dataflow_of k).nodes v)) (sym same) view in
+      let still = subst (λ (k : PassView (BoardEvent T)). IsQuiet times (dataflow_of k) (state_left times k)) (sym same) quiet in
       record {
         dataflow = step.dataflow;
         within = ltb-true v (length (dataflow_of old).nodes) (and_parts _ _ there).0;
@@ -141,12 +141,12 @@ module _ {T : Type 0} (times : Times T) (o : PartialOrderLaws times) where
         found = λ s. session_found (dataflow_of old) (state_left times old) (state_found times new) s step.clients;
       }
 
-  pub after_fed : (old new : Known (BoardEvent T)) (client : ℕ) (f : Fed T) (s : Session T) → IsClientStep old new (Feed client f) → StandsAs times old s → StandsAs times new (with_change f s)
+  pub after_fed : (old new : PassView (BoardEvent T)) (client : ℕ) (f : Fed T) (s : Session T) → IsClientStep old new (Feed client f) → HasSessionOf times old s → HasSessionOf times new (with_change f s)
   after_fed old new client f s step a =
       let b = session_found (dataflow_of old) (state_left times old) (state_found times new) s step.clients a in
       stood old new (Feed client f) (with_change f s) step (record { fed = ap (λ (fs : List (Fed T)). f ∷ fs) b.fed; inputs = b.inputs; nodes = b.nodes; since = b.since })
 
-  pub after_advanced : (old new : Known (BoardEvent T)) (client i : ℕ) (ts : List T) (s : Session T) → i < length (dataflow_of old).nodes → IsClientStep old new (Advance client i ts) → StandsAs times old s → StandsAs times new (with_frontier i ts s)
+  pub after_advanced : (old new : PassView (BoardEvent T)) (client i : ℕ) (ts : List T) (s : Session T) → i < length (dataflow_of old).nodes → IsClientStep old new (Advance client i ts) → HasSessionOf times old s → HasSessionOf times new (with_frontier i ts s)
   after_advanced old new client i ts s within step a =
       let b = session_found (dataflow_of old) (state_left times old) (state_found times new) s step.clients a in
       stood old new (Advance client i ts) (with_frontier i ts s) step (record {
@@ -156,7 +156,7 @@ module _ {T : Type 0} (times : Times T) (o : PartialOrderLaws times) where
         since = b.since;
       })
 
-  pub after_allowed : (old new : Known (BoardEvent T)) (client v : ℕ) (ts : List T) (s : Session T) → IsClientStep old new (Allow client v ts) → StandsAs times old s → StandsAs times new (with_since v ts s)
+  pub after_allowed : (old new : PassView (BoardEvent T)) (client v : ℕ) (ts : List T) (s : Session T) → IsClientStep old new (Allow client v ts) → HasSessionOf times old s → HasSessionOf times new (with_since v ts s)
   after_allowed old new client v ts s step a =
       let b = session_found (dataflow_of old) (state_left times old) (state_found times new) s step.clients a in
       stood old new (Allow client v ts) (with_since v ts s) step (record {
@@ -174,12 +174,12 @@ module _ {T : Type 0} (times : Times T) (o : PartialOrderLaws times) where
   same_frontier_refusal : (p : Dataflow) (w : State T) (s : Session T) (i : ℕ) (ts : List T) → HasSession p w s → advance_refusal_in times w i ts ≡ frontier_refusal times p.nodes s i ts
   same_frontier_refusal p w s i ts a = λ j. first_refusal (advance_faults times (a.inputs i j) ts)
 
-  module _ (old new : Known (BoardEvent T)) (number : old.number ≡ (dataflow_of old).workers) (one : (opening_in old.seen).actors ≡ (dataflow_of old).workers + 1) (actor : IsActor times new) (s : Session T) (r : Result (Unit {0}) Refusal) (a : StandsAs times old s) where
+  module _ (old new : PassView (BoardEvent T)) (number : old.number ≡ (dataflow_of old).workers) (one : (opening_in old.seen).actors ≡ (dataflow_of old).workers + 1) (actor : IsActor times new) (s : Session T) (r : Result (Unit {0}) Refusal) (a : HasSessionOf times old s) where
     abbrev p : Dataflow
     p = dataflow_of old
 
     -- what a refused command leaves
-    unchanged : OnErr r (IsNextTenure old (Look old.number) new) → OnErr r (StandsAs times new s)
+    unchanged : OnErr r (IsNextTenure old (Look old.number) new) → OnErr r (HasSessionOf times new s)
     unchanged looks = on_err_weaker r (λ adds. after_looked old new old.number s (client_step old new (Look old.number) number one actor adds) a) looks
 
     some_step : (event : Event T) → OnOk r (IsNextTenure old event new) → OnErr r (IsNextTenure old (Look old.number) new) → HasSession p (state_found times new) s
@@ -191,30 +191,30 @@ module _ {T : Type 0} (times : Times T) (o : PartialOrderLaws times) where
 
     -- a change is answered as the session says
     pub change_answered : (f : Fed T) → OnOk r (IsNextTenure old (Feed old.number f) new) → OnOk r (feed_refusal_in times p (state_found times new) f ≡ None) → IfErr r (IsRefusalBy (feed_refusal_in times p (state_found times new) f)) → OnErr r (IsNextTenure old (Look old.number) new)
-        → IsTold (change_refusal times p.nodes s f) (StandsAs times new (with_change f s)) (StandsAs times new s) r
+        → IsTold (change_refusal times p.nodes s f) (HasSessionOf times new (with_change f s)) (HasSessionOf times new s) r
     change_answered f done accepted refused looks =
-        let Accepted = StandsAs times new (with_change f s) in
-        let Stays = StandsAs times new s in
+        let Accepted = HasSessionOf times new (with_change f s) in
+        let Stays = HasSessionOf times new s in
         subst (λ (o : Option Refusal). IsTold o Accepted Stays r) (same_change_refusal p (state_found times new) s f (some_step (Feed old.number f) done looks))
         (answered (feed_refusal_in times p (state_found times new) f) Accepted Stays r
         (on_ok_weaker r (λ adds. after_fed old new old.number f s (client_step old new (Feed old.number f) number one actor adds) a) done) accepted refused (unchanged looks))
 
     -- a new frontier is answered as the session says
     pub frontier_answered : (i : ℕ) (ts : List T) → i < length p.nodes → OnOk r (IsNextTenure old (Advance old.number i ts) new) → OnOk r (advance_refusal_in times (state_found times new) i ts ≡ None) → IfErr r (IsRefusalBy (advance_refusal_in times (state_found times new) i ts))
-        → OnErr r (IsNextTenure old (Look old.number) new) → IsTold (frontier_refusal times p.nodes s i ts) (StandsAs times new (with_frontier i ts s)) (StandsAs times new s) r
+        → OnErr r (IsNextTenure old (Look old.number) new) → IsTold (frontier_refusal times p.nodes s i ts) (HasSessionOf times new (with_frontier i ts s)) (HasSessionOf times new s) r
     frontier_answered i ts within done accepted refused looks =
-        let Accepted = StandsAs times new (with_frontier i ts s) in
-        let Stays = StandsAs times new s in
+        let Accepted = HasSessionOf times new (with_frontier i ts s) in
+        let Stays = HasSessionOf times new s in
         subst (λ (o : Option Refusal). IsTold o Accepted Stays r) (same_frontier_refusal p (state_found times new) s i ts (some_step (Advance old.number i ts) done looks))
         (answered (advance_refusal_in times (state_found times new) i ts) Accepted Stays r
         (on_ok_weaker r (λ adds. after_advanced old new old.number i ts s within (client_step old new (Advance old.number i ts) number one actor adds) a) done) accepted refused (unchanged looks))
 
     -- a new since is answered as the session says
     pub since_answered : (v : ℕ) (ts : List T) → OnOk r (IsNextTenure old (Allow old.number v ts) new) → OnOk r (allow_refusal_in times (state_found times new) v ts ≡ None) → IfErr r (IsRefusalBy (allow_refusal_in times (state_found times new) v ts))
-        → OnErr r (IsNextTenure old (Look old.number) new) → IsTold (since_refusal times p.nodes s v ts) (StandsAs times new (with_since v ts s)) (StandsAs times new s) r
+        → OnErr r (IsNextTenure old (Look old.number) new) → IsTold (since_refusal times p.nodes s v ts) (HasSessionOf times new (with_since v ts s)) (HasSessionOf times new s) r
     since_answered v ts done accepted refused looks =
-        let Accepted = StandsAs times new (with_since v ts s) in
-        let Stays = StandsAs times new s in
+        let Accepted = HasSessionOf times new (with_since v ts s) in
+        let Stays = HasSessionOf times new s in
         let found = some_step (Allow old.number v ts) done looks in
         subst (λ (o : Option Refusal). IsTold o Accepted Stays r) (ap (λ since. first_refusal (advance_faults times since ts)) (found.since v))
         (answered (allow_refusal_in times (state_found times new) v ts) Accepted Stays r
@@ -223,7 +223,7 @@ module _ {T : Type 0} (times : Times T) (o : PartialOrderLaws times) where
   -- ---- before the first command
 
   -- the client's first look finds nothing but what the workers did
-  pub first_stands : (nodes : List Node) (workers : ℕ) (k : Known (BoardEvent T)) → IsActor times k → IsFirst (opening_for nodes workers 1) workers k → StandsAs times k (first_session times.least nodes)
+  pub first_stands : (nodes : List Node) (workers : ℕ) (k : PassView (BoardEvent T)) → IsActor times k → IsFirst (opening_for nodes workers 1) workers k → HasSessionOf times k (first_session times.least nodes)
   first_stands nodes workers k actor first = subst (λ (es : List (Entry (BoardEvent T))). HasSession (opening_in es).dataflow (left_by times (opening_in es).dataflow es) (first_session times.least nodes)) (sym first.seen)
       (session_found p (initial_state times p) (left_by times p first.others) (first_session times.least nodes) same (record {
         fed = refl;

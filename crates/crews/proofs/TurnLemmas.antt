@@ -1,14 +1,14 @@
 -- What the clause of a call in the client's turn says of each way to end. It never ends with `Busy`.
 use Rattle.std.proofs.Common.{◌≡◌, ◌⊎◌, Option, None, inl, inr}
 use Rattle.std.specs.Prelude.{Result, Ok, Err, IfOk, IfErr, OnOk, OnErr}
-use Rattle.hub.specs.Known.{Known}
+use Rattle.hub.specs.PassViews.{PassView}
 use Rattle.update.specs.declared.refusal.Refusal.{Refusal}
 use Rattle.histories.specs.declared.event.Event.{Event}
 use Rattle.shared_board.specs.declared.event.BoardEvent.{BoardEvent}
 use Rattle.shared_board.specs.Calls.{HasLooked, IsAnswered, IsBusy, IsDone}
 use Rattle.shared_board.specs.Tenures.{IsNextTenure}
 
-module _ {T : Type 0} (old new : Known (BoardEvent T)) where
+module _ {T : Type 0} (old new : PassView (BoardEvent T)) where
   -- a refusal is the board's
   pub refused_there : (Refused : Refusal → Type 0) (e : Refusal) → IsBusy ⊥ old new e ⊎ (HasLooked old new × Refused e) → HasLooked old new × Refused e
   refused_there Refused e (inl busy) = absurd busy.0

@@ -4,7 +4,7 @@ use Rattle.std.proofs.Common.{List, [], ◌∷◌, refl, arith}
 use Rattle.std.proofs.lemmas.Bool.{false≢true}
 use Rattle.atomic_table.specs.Seated.{TableId}
 use Rattle.hub.specs.Histories.{entry}
-use Rattle.hub.specs.Known.{Known}
+use Rattle.hub.specs.PassViews.{PassView}
 use Rattle.lattice.specs.Bitimes.{bitime_times, Bitime}
 use Rattle.plan.specs.Rules.{IsPlan}
 use Rattle.plan.specs.declared.node.Node.{Node}
@@ -13,14 +13,14 @@ use Rattle.histories.specs.Histories.Readings.{IsQuiet}
 use Rattle.shared_board.specs.declared.event.BoardEvent.{BoardEvent}
 use Rattle.shared_board.specs.Found.{dataflow_of}
 use Rattle.shared_board.specs.Tenures.{IsActor, IsFirst, doing, state_left, opening_for}
-use Rattle.crews.specs.BoardStates.{StandsAs}
+use Rattle.crews.specs.BoardStates.{HasSessionOf}
 use Rattle.engines.specs.Bitemporal.{opening_session}
 use Rattle.engines.proofs.BitimeLemmas.{bitime_order}
 use Rattle.crews.proofs.BoardStateLemmas.{first_stands}
 
 module _ (p : List Node) where
   -- a client that has looked once
-  abbrev looked : TableId → Known (BoardEvent Bitime)
+  abbrev looked : TableId → PassView (BoardEvent Bitime)
   looked hub = record { hub = hub; number = 1; seen = entry 1 (doing (opening_for p 1 1) (Look 1)) ∷ [] }
 
   looked_actor : IsPlan p → (hub : TableId) → IsActor bitime_times (looked hub)
@@ -37,7 +37,7 @@ module _ (p : List Node) where
 
   -- the client stands for the first session, and nothing is in flight
   pub client_stands : IsPlan p → (hub : TableId)
-      → (k : Known (BoardEvent Bitime)) × IsActor bitime_times k × IsFirst (opening_for p 1 1) 1 k × StandsAs bitime_times k (opening_session p)
+      → (k : PassView (BoardEvent Bitime)) × IsActor bitime_times k × IsFirst (opening_for p 1 1) 1 k × HasSessionOf bitime_times k (opening_session p)
       × IsQuiet bitime_times (dataflow_of k) (state_left bitime_times k)
   client_stands plan hub =
       let actor = looked_actor plan hub in

@@ -1,6 +1,6 @@
 -- When the board engine stands for a session.
 use Rattle.std.specs.Prelude.{◌≡◌, ℕ, length}
-use Rattle.hub.specs.Known.{Known}
+use Rattle.hub.specs.PassViews.{PassView}
 use Rattle.outstanding.specs.Inputs.{front_at}
 use Rattle.histories.specs.Histories.Dataflows.{Dataflow}
 use Rattle.histories.specs.Histories.States.{State, open_at}
@@ -20,5 +20,5 @@ module _ {T : Type 0} where
     pub since : (view : ℕ) → w.since view ≡ s.since view
 
   -- the state that a client left has the session
-  abbrev pub StandsAs : Times T → Known (BoardEvent T) → Session T → Type 0
-  StandsAs times client s = HasSession (dataflow_of client) (state_left times client) s
+  abbrev pub HasSessionOf : Times T → PassView (BoardEvent T) → Session T → Type 0
+  HasSessionOf times client s = HasSession (dataflow_of client) (state_left times client) s

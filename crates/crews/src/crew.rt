@@ -12,7 +12,7 @@
 //! met a number which is too large tells it there, and no answer depends on how far threads came.
 ghost use Rattle.std.specs.Prelude.{◌≡◌, ◌⊎◌, ◌↔◌, ℕ, true, Err, IfErr, IfOk};
 ghost use Rattle.lattice.specs.Bitimes.{bitime_times};
-ghost use Rattle.hub.specs.Known.{Known};
+ghost use Rattle.hub.specs.PassViews.{PassView};
 ghost use Rattle.lattice.specs.declared.product.Pair.{Pair};
 ghost use Rattle.shared_board.specs.declared.event.BoardEvent.{BoardEvent};
 ghost use Rattle.update.specs.declared.refusal.Refusal.TheVariants.{BadWorkers, NoThread, OutOfMemory};
@@ -20,7 +20,7 @@ ghost use Rattle.histories.specs.Histories.Readings.{IsQuiet};
 ghost use Rattle.session.specs.Openings.{AreCounts};
 ghost use Rattle.shared_board.specs.Found.{dataflow_of};
 ghost use Rattle.shared_board.specs.Tenures.{state_left};
-ghost use Rattle.crews.specs.BoardStates.{StandsAs};
+ghost use Rattle.crews.specs.BoardStates.{HasSessionOf};
 ghost use Rattle.engines.specs.Bitemporal.{BitemporalSession, opening_session};
 ghost use Rattle.engines.specs.Bounds.{EndsByBound, IsLarge};
 
@@ -50,13 +50,13 @@ pub struct Crew<'a, R: Wait> {
 
 impl<'a, R: Wait> Model for Crew<'a, R> {
     ghost use Rattle.std.specs.Prelude.{◌≡◌, ◌+◌, ℕ};
-    ghost use Rattle.hub.specs.Known.{Known};
+    ghost use Rattle.hub.specs.PassViews.{PassView};
     ghost use Rattle.lattice.specs.declared.product.Pair.{Pair};
     ghost use Rattle.shared_board.specs.Found.{dataflow_of};
     ghost use Rattle.shared_board.specs.Tenures.{opening_in};
     ghost use Rattle.shared_board.specs.declared.event.BoardEvent.{BoardEvent};
 
-    ghost Value = { Known (BoardEvent (Pair ℕ ℕ)) };
+    ghost Value = { PassView (BoardEvent (Pair ℕ ℕ)) };
 
     ghost view = { λ crew. crew.client };
 
@@ -75,7 +75,7 @@ impl<'a, R: Wait> Crew<'a, R> {
     ) -> Result<Crew<'a, R>, Refusal>
         ensures plan { IfOk result (λ crew. (dataflow_of crew).nodes ≡ plan.now) }
         ensures stands { IfOk result (λ crew.
-            StandsAs bitime_times crew (opening_session plan.now)) }
+            HasSessionOf bitime_times crew (opening_session plan.now)) }
         ensures bad { (result ≡ Err BadWorkers) ↔ (AreCounts workers 1 → ⊥) }
         ensures only { IfErr result
             (λ refusal. (refusal ≡ BadWorkers) ⊎ (refusal ≡ OutOfMemory)) }
@@ -94,8 +94,8 @@ impl<'a, R: Wait> Crew<'a, R> {
     // Whether the client finds the board quiet.
     fn is_quiet(&mut self) -> bool
         ensures plan { dataflow_of self.new ≡ dataflow_of self.old }
-        ensures stands { (s : BitemporalSession) → StandsAs bitime_times self.old s
-            → StandsAs bitime_times self.new s }
+        ensures stands { (s : BitemporalSession) → HasSessionOf bitime_times self.old s
+            → HasSessionOf bitime_times self.new s }
         ensures quiet { result ≡ true → IsQuiet bitime_times (dataflow_of self.new)
             (state_left bitime_times self.new) }
     {
@@ -109,9 +109,9 @@ impl<'a, R: Wait> Crew<'a, R> {
     // Whether the client hears that a number is too large.
     fn is_too_large(&mut self) -> bool
         ensures plan { dataflow_of self.new ≡ dataflow_of self.old }
-        ensures stands { (s : BitemporalSession) → StandsAs bitime_times self.old s
-            → StandsAs bitime_times self.new s }
-        ensures cause { (s : BitemporalSession) → StandsAs bitime_times self.old s
+        ensures stands { (s : BitemporalSession) → HasSessionOf bitime_times self.old s
+            → HasSessionOf bitime_times self.new s }
+        ensures cause { (s : BitemporalSession) → HasSessionOf bitime_times self.old s
             → result ≡ true → IsLarge (dataflow_of self.old).nodes s }
     {
         let Ok(large) = self.client.is_too_large(&InTurn(self.runtime)) else {
@@ -129,8 +129,8 @@ impl<'a, R: Threads + Wait + Sync> Crew<'a, R> {
     /// Cost: that of [`run_threads`].
     pub fn run_ahead<G: Gate + Sync>(&mut self, alloc: Global, gate: &G) -> Result<(), Refusal>
         ensures plan { dataflow_of self.new ≡ dataflow_of self.old }
-        ensures stands { (s : BitemporalSession) → StandsAs bitime_times self.old s
-            → StandsAs bitime_times self.new s }
+        ensures stands { (s : BitemporalSession) → HasSessionOf bitime_times self.old s
+            → HasSessionOf bitime_times self.new s }
         ensures refused { IfErr result
             (λ refusal. (refusal ≡ OutOfMemory) ⊎ (refusal ≡ NoThread)) }
     {
@@ -149,12 +149,12 @@ impl<'a, R: Wait> Engine for Crew<'a, R> {
     ghost use Rattle.histories.specs.Histories.Readings.{IsQuiet};
     ghost use Rattle.shared_board.specs.Found.{dataflow_of};
     ghost use Rattle.shared_board.specs.Tenures.{state_left};
-    ghost use Rattle.crews.specs.BoardStates.{StandsAs};
+    ghost use Rattle.crews.specs.BoardStates.{HasSessionOf};
     ghost use Rattle.engines.specs.Bounds.{EndsByBound, ends_by_bound};
 
     ghost plan = { λ e. (dataflow_of e).nodes };
 
-    ghost stands = { λ e s. StandsAs bitime_times e s };
+    ghost stands = { λ e s. HasSessionOf bitime_times e s };
 
     ghost caught_up = { λ e. IsQuiet bitime_times (dataflow_of e)
         (state_left bitime_times e) };

@@ -30,7 +30,7 @@ use Rattle.plan.proofs.KeyLemmas.{source_arranged}
 use Rattle.plan.proofs.StepLemmas.{width_by_sources}
 use Rattle.linear.specs.Widths.{are_wide}
 use Rattle.trace.specs.Readings.{Insertion, all_updates}
-use Rattle.spine.specs.Spines.{SpineState, Stands}
+use Rattle.spine.specs.Spines.{SpineState, Represents}
 use Rattle.histories.specs.declared.event.Event.{Event}
 use Rattle.histories.specs.Histories.{IsLegal, state_after}
 use Rattle.histories.specs.Histories.Dataflows.{Dataflow, IsDataflow, node_of, source_of}
@@ -42,14 +42,14 @@ use Rattle.operator.specs.Reductions.{IsOverfullWith, IsReduced, ReducingView, S
 use Rattle.operator_laws.specs.ArrangeNodes.{IsArranging}
 use Rattle.operator_laws.specs.GatheredUpdates.{IsSplit}
 use Rattle.operator_laws.specs.ReduceNodes.{IsReducing}
-use Rattle.operator_laws.specs.Workers.{IsWorkingAt, Works}
+use Rattle.operator_laws.specs.Workers.{IsWorkingAt, Holdings}
 use Rattle.operator_laws.proofs.WorkerLemmas.{has_all}
 use Rattle.shared_board.specs.Large.{HasNoSmallBound}
 use Rattle.desk_laws.specs.Own.{DeskView, IsArrangedOn, IsOfOneShape, IsOwn, IsReducedOn, gathered_in, waits_on}
 use Rattle.desk_laws.specs.declared.hand.Hand.{Hand}
-use Rattle.desk_laws.specs.declared.hand.Hand.TheVariants.{Kept, Ready, Turned}
+use Rattle.desk_laws.specs.declared.hand.Hand.TheVariants.{Kept, Ready, Notified}
 use Rattle.desk_laws.proofs.FoundLemmas.{found_reduce, is_arrange}
-use Rattle.desk_laws.proofs.LaidLemmas.{ready_from_kept, ready_from_turned}
+use Rattle.desk_laws.proofs.LaidLemmas.{ready_from_kept, ready_from_notified}
 use Rattle.desk.specs.Desks.{IsOnPlan, IsRight, IsSomeones, IsTakenOut, IsTooLarge, Leads}
 use Rattle.desk.proofs.CauseLemmas.{large_owed, large_waits}
 use Rattle.desk.proofs.DeskLemmas.{same_but_gathered, same_but_reduction, holding_gathered, holding_found, waits_plain}
@@ -112,10 +112,10 @@ module _ {T : Type 0} (times : Times T) where
         on_plan = ready_on_plan (Kept n more) within x.on_plan;
       }
 
-      pub turned_ready : (upper : List T) → IsRight times p w k d (Turned n upper) → IsRight times p w k c (Ready n out)
-      turned_ready upper x = record {
-        own = ready_from_turned times o p q w k d c (taken.holding p) n within taken.others out all_out upper plain other (ap (λ js. slice_get js n) taken.joins) none_left x.own;
-        on_plan = ready_on_plan (Turned n upper) within x.on_plan;
+      pub notified_ready : (upper : List T) → IsRight times p w k d (Notified n upper) → IsRight times p w k c (Ready n out)
+      notified_ready upper x = record {
+        own = ready_from_notified times o p q w k d c (taken.holding p) n within taken.others out all_out upper plain other (ap (λ js. slice_get js n) taken.joins) none_left x.own;
+        on_plan = ready_on_plan (Notified n upper) within x.on_plan;
       }
 
 module _ {T : Type 0} (times : Times T) (o : PartialOrderLaws times) (plan : List Node) (n : ℕ) (d c : DeskView T) (within : n < length plan) (plain : arranged_by (node_at plan n) ≡ None) (other : is_reduction (node_at plan n) ≡ false) where
@@ -124,9 +124,9 @@ module _ {T : Type 0} (times : Times T) (o : PartialOrderLaws times) (plan : Lis
     kept_leads more p q e es legal k x =
         kept_ready times p n out d c taken (ap (λ nodes. arranged_by (node_at nodes n)) e ∙ plain) o q (state_after times p es) k (subst (λ nodes. n < length nodes) (sym e) within) (ap (λ nodes. is_reduction (node_at nodes n)) e ∙ other) more x
 
-    pub turned_leads : (upper : List T) → Leads times plan d (Turned n upper) c (Ready n out)
-    turned_leads upper p q e es legal k x =
-        turned_ready times p n out d c taken (ap (λ nodes. arranged_by (node_at nodes n)) e ∙ plain) o q (state_after times p es) k (subst (λ nodes. n < length nodes) (sym e) within) (ap (λ nodes. is_reduction (node_at nodes n)) e ∙ other) upper x
+    pub notified_leads : (upper : List T) → Leads times plan d (Notified n upper) c (Ready n out)
+    notified_leads upper p q e es legal k x =
+        notified_ready times p n out d c taken (ap (λ nodes. arranged_by (node_at nodes n)) e ∙ plain) o q (state_after times p es) k (subst (λ nodes. n < length nodes) (sym e) within) (ap (λ nodes. is_reduction (node_at nodes n)) e ∙ other) upper x
 
   -- what lies gathered is too large only if a bound is
   pub gathered_large : (cmp : T → T → Ordering) → HasLargeTotal times (gathered_in (slice_get d.gathered n)) → (h : Hand T) → IsTooLarge times cmp plan d h
@@ -139,15 +139,15 @@ module _ {T : Type 0} (times : Times T) (o : PartialOrderLaws times) (plan : Lis
 
 -- ---- what a reduction answers
 
-module _ {T : Type 0} (times : Times T) (plan : List Node) (d : DeskView T) (n : ℕ) (upper : List T) (x : IsSomeones times plan d (Turned n upper)) (kind : Kind) (source : ℕ) (e : node_at plan n ≡ Reduce kind source) where
+module _ {T : Type 0} (times : Times T) (plan : List Node) (d : DeskView T) (n : ℕ) (upper : List T) (x : IsSomeones times plan d (Notified n upper)) (kind : Kind) (source : ℕ) (e : node_at plan n ≡ Reduce kind source) where
   abbrev p : Dataflow
   p = x.dataflow
 
   there : node_of p n ≡ Reduce kind source
   there = ap (λ nodes. node_at nodes n) x.nodes ∙ e
 
-  pub turned_within : n < length plan
-  turned_within = subst (λ nodes. n < length nodes) x.nodes x.right.on_plan.hand
+  pub notified_within : n < length plan
+  notified_within = subst (λ nodes. n < length nodes) x.nodes x.right.on_plan.hand
 
   -- the reduction, and the arrangement that it reads, lie on the desk
   pub answers_there : (r : ReducingView T) × (slice_get d.reductions n ≡ Some (Some r))
@@ -176,7 +176,7 @@ module _ {T : Type 0} (times : Times T) (plan : List Node) (d : DeskView T) (n :
 
 module _ {T : Type 0} (times : Times T) (o : PartialOrderLaws times) (laws : LatticeLaws times) (d : DeskView T) (n : ℕ) (kind : Kind) (source : ℕ) (upper : List T) (r s : ReducingView T) (own : slice_get d.reductions n ≡ Some (Some r))
     (kept : s ≡ record r { state = record r.state { histories = s.state.histories; waiting = s.state.waiting; looked = s.state.looked } }) (a : ArrangementState T) (read : slice_get d.arrangements source ≡ Some (Some a)) (trace : SpineState T) (same_trace : trace ≡ a.spine) (out : List (Update T))
-    (stands : (inserted : List (Insertion T)) (received emitted : List (Update T)) → Stands times trace inserted → SumsToReceived times upper (all_updates inserted) received → IsReduced times r received emitted → IsReduced times s received (out ++ emitted))
+    (stands : (inserted : List (Insertion T)) (received emitted : List (Update T)) → Represents times trace inserted → SumsToReceived times upper (all_updates inserted) received → IsReduced times r received emitted → IsReduced times s received (out ++ emitted))
     (settled : IsTrue (list_all (λ u. has_passed times upper u.time) out)) (later : IsTrue (all_beyond times upper (pending_of s)))
     (out_beyond : (other : List T) → IsTrue (all_beyond times other (pending_of r)) → IsTrue (all_beyond times other (update_times out)))
     (rest_beyond : (other : List T) → IsTrue (all_beyond times other (pending_of r)) → IsTrue (all_beyond times other (pending_of s))) where
@@ -194,11 +194,11 @@ module _ {T : Type 0} (times : Times T) (o : PartialOrderLaws times) (laws : Lat
   now : slice_get c.reductions n ≡ Some (Some s)
   now = get_own d.reductions n (Some s) (Some r) own
 
-  module _ (p : Dataflow) (q : IsDataflow p) (es : List (Event T)) (legal : IsLegal times p es) (k : ℕ) (e : node_of p n ≡ Reduce kind source) (x : IsRight times p (state_after times p es) k d (Turned n upper)) where
+  module _ (p : Dataflow) (q : IsDataflow p) (es : List (Event T)) (legal : IsLegal times p es) (k : ℕ) (e : node_of p n ≡ Reduce kind source) (x : IsRight times p (state_after times p es) k d (Notified n upper)) where
     is_own : IsOwn times p (state_after times p es) k c (Ready n out)
     is_own =
         found_reduce times o laws p q es legal k d c (holding_found times p d n r s own rest_beyond) n x.on_plan.hand kind source e (same_but_reduction d n (Some s)) r s own now shape a read upper out
-        (λ inserted received emitted z. stands inserted received emitted (subst (λ t. Stands times t inserted) (sym same_trace) z)) settled later out_beyond rest_beyond x.own
+        (λ inserted received emitted z. stands inserted received emitted (subst (λ t. Represents times t inserted) (sym same_trace) z)) settled later out_beyond rest_beyond x.own
 
     -- the answers have the width of the node's rows
     answers_wide : IsTrue (are_wide (width_of p.nodes n) out)
@@ -219,7 +219,7 @@ module _ {T : Type 0} (times : Times T) (o : PartialOrderLaws times) (laws : Lat
       on_plan = record { places = x.on_plan.places; wide = x.on_plan.wide; joins = x.on_plan.joins; hand = (x.on_plan.hand, ap arranged_by e, answers_wide) };
     }
 
-  pub found_leads : (plan : List Node) → node_at plan n ≡ Reduce kind source → Leads times plan d (Turned n upper) c (Ready n out)
+  pub found_leads : (plan : List Node) → node_at plan n ≡ Reduce kind source → Leads times plan d (Notified n upper) c (Ready n out)
   found_leads plan e p q same es legal k x = found_right p q es legal k (ap (λ nodes. node_at nodes n) same ∙ e) x
 
 -- the same, as code finds it
@@ -227,29 +227,29 @@ module _ {T : Type 0} (times : Times T) (o : PartialOrderLaws times) (laws : Lat
     (own : slice_get d.reductions n ≡ Some (Some r)) (a : ArrangementState T) (read : slice_get d.arrangements source ≡ Some (Some a)) (trace : SpineState T) (same_trace : trace ≡ a.spine) (i : ℕ) (same : i ≡ n) where
   pub found_ok : (res : Result (List (Update T)) Refusal)
       → OnOk res (s ≡ record r { state = record r.state { histories = s.state.histories; waiting = s.state.waiting; looked = s.state.looked } })
-      → IfOk res (λ out. (inserted : List (Insertion T)) (received emitted : List (Update T)) → Stands times trace inserted → SumsToReceived times upper (all_updates inserted) received → IsReduced times r received emitted → IsReduced times s received (out ++ emitted))
+      → IfOk res (λ out. (inserted : List (Insertion T)) (received emitted : List (Update T)) → Represents times trace inserted → SumsToReceived times upper (all_updates inserted) received → IsReduced times r received emitted → IsReduced times s received (out ++ emitted))
       → IfOk res (λ out. IsTrue (list_all (λ u. has_passed times upper u.time) out)) → OnOk res (IsTrue (all_beyond times upper (pending_of s)))
       → IfOk res (λ out. (other : List T) → IsTrue (all_beyond times other (pending_of r)) → IsTrue (all_beyond times other (update_times out)))
       → OnOk res ((other : List T) → IsTrue (all_beyond times other (pending_of r)) → IsTrue (all_beyond times other (pending_of s)))
-      → IfOk res (λ out. Leads times plan d (Turned n upper) (record d { reductions = set d.reductions i (Some s) }) (Ready n out))
+      → IfOk res (λ out. Leads times plan d (Notified n upper) (record d { reductions = set d.reductions i (Some s) }) (Ready n out))
   found_ok (Ok out) kept stands settled later out_beyond rest_beyond =
-      subst (λ j. Leads times plan d (Turned n upper) (record d { reductions = set d.reductions j (Some s) }) (Ready n out)) (sym same)
+      subst (λ j. Leads times plan d (Notified n upper) (record d { reductions = set d.reductions j (Some s) }) (Ready n out)) (sym same)
       (found_leads times o laws d n kind source upper r s own kept a read trace same_trace out stands settled later out_beyond rest_beyond plan at)
   found_ok (Err e) kept stands settled later out_beyond rest_beyond = tt
 
 -- why a reduction could not answer, in the words of its worker
 module _ {T : Type 0} (times : Times T) (o : PartialOrderLaws times) (p : Dataflow) (q : IsDataflow p) (es : List (Event T)) (legal : IsLegal times p es) (k : ℕ) (d : DeskView T) (n : ℕ) (upper : List T)
-    (x : IsRight times p (state_after times p es) k d (Turned n upper)) (kind : Kind) (source : ℕ) (e : node_of p n ≡ Reduce kind source) (r : ReducingView T) (own : slice_get d.reductions n ≡ Some (Some r)) (a : ArrangementState T) (read : slice_get d.arrangements source ≡ Some (Some a)) where
+    (x : IsRight times p (state_after times p es) k d (Notified n upper)) (kind : Kind) (source : ℕ) (e : node_of p n ≡ Reduce kind source) (r : ReducingView T) (own : slice_get d.reductions n ≡ Some (Some r)) (a : ArrangementState T) (read : slice_get d.arrangements source ≡ Some (Some a)) where
   abbrev w : State T
   w = state_after times p es
 
-  abbrev works : Works T
+  abbrev works : Holdings T
   works = x.own.keeps.works
 
   abbrev within : n < length p.nodes
   within = x.on_plan.hand
 
-  abbrev before : IsReducedOn times p d (Turned n upper) x.own.keeps n kind source
+  abbrev before : IsReducedOn times p d (Notified n upper) x.own.keeps n kind source
   before = x.own.laid.reducing n source kind within e
 
   same : before.reduction ≡ r
@@ -273,8 +273,8 @@ module _ {T : Type 0} (times : Times T) (o : PartialOrderLaws times) (p : Datafl
   abbrev lies : IsArrangedOn times p d source (works.start source) (works.inserted source)
   lies = x.own.laid.arranged source arrange.0 arrange.1 source_within arrange.2
 
-  stands : Stands times a.spine (works.inserted source)
-  stands = subst (λ (z : ArrangementState T). Stands times z.spine (works.inserted source)) (same_Some lies.arrangement a (same_Some (Some lies.arrangement) (Some a) (sym lies.there ∙ read))) lies.spine.stands
+  stands : Represents times a.spine (works.inserted source)
+  stands = subst (λ (z : ArrangementState T). Represents times z.spine (works.inserted source)) (same_Some lies.arrangement a (same_Some (Some lies.arrangement) (Some a) (sym lies.there ∙ read))) lies.spine.stands
 
   arranging : IsArranging times p w source k (works.start source) (works.inserted source) (works.waiting source)
   arranging = subst (λ node. IsWorkingAt times p w k works source node) arrange.2 (x.own.keeping.working source source_within)
@@ -293,7 +293,7 @@ module _ {T : Type 0} (times : Times T) (o : PartialOrderLaws times) (p : Datafl
       subst (λ us. IsTrue (list_all (λ u. has_passed times upper u.time) us)) given
       (all_from (λ u. has_passed times upper u.time) (emitted_by n k w.emitted) (λ u m. x.own.come.on source kind e u.time (all_at (λ u. has_passed times (works.upper n) u.time) (emitted_by n k w.emitted) u reducing.settled m)))
 
-  pub read_cause : ((inserted : List (Insertion T)) (received emitted : List (Update T)) → Stands times a.spine inserted → SumsToReceived times upper (all_updates inserted) received → IsReduced times r received emitted → IsTrue (list_all (λ u. has_passed times upper u.time) emitted) → IsOverfullWith times r received upper)
+  pub read_cause : ((inserted : List (Insertion T)) (received emitted : List (Update T)) → Represents times a.spine inserted → SumsToReceived times upper (all_updates inserted) received → IsReduced times r received emitted → IsTrue (list_all (λ u. has_passed times upper u.time) emitted) → IsOverfullWith times r received upper)
       → IsOverfullWith times r (received_at w n k 0) upper
   read_cause cause =
       subst (λ us. IsOverfullWith times r us upper) (sym received)
@@ -302,10 +302,10 @@ module _ {T : Type 0} (times : Times T) (o : PartialOrderLaws times) (p : Datafl
 -- a reduction could not answer only if a bound is too large
 module _ {T : Type 0} (times : Times T) (o : PartialOrderLaws times) (cmp : T → T → Ordering) (plan : List Node) (d : DeskView T) (n : ℕ) (kind : Kind) (source : ℕ) (at : node_at plan n ≡ Reduce kind source) (upper : List T) (r : ReducingView T)
     (own : slice_get d.reductions n ≡ Some (Some r)) (a : ArrangementState T) (read : slice_get d.arrangements source ≡ Some (Some a)) (trace : SpineState T) (same_trace : trace ≡ a.spine)
-    (cause : (inserted : List (Insertion T)) (received emitted : List (Update T)) → Stands times trace inserted → SumsToReceived times upper (all_updates inserted) received → IsReduced times r received emitted → IsTrue (list_all (λ u. has_passed times upper u.time) emitted) → IsOverfullWith times r received upper) where
-  pub found_large : IsTooLarge times cmp plan d (Turned n upper)
+    (cause : (inserted : List (Insertion T)) (received emitted : List (Update T)) → Represents times trace inserted → SumsToReceived times upper (all_updates inserted) received → IsReduced times r received emitted → IsTrue (list_all (λ u. has_passed times upper u.time) emitted) → IsOverfullWith times r received upper) where
+  pub found_large : IsTooLarge times cmp plan d (Notified n upper)
   found_large p q e es legal k x =
       let there : node_of p n ≡ Reduce kind source = ap (λ nodes. node_at nodes n) e ∙ at in
       subst (λ nodes. HasNoSmallBound times cmp nodes (changes_in (state_after times p es))) e
       (large_owed times o cmp p q es legal k d n upper x kind source there r own
-      (read_cause times o p q es legal k d n upper x kind source there r own a read (λ inserted received emitted z. cause inserted received emitted (subst (λ t. Stands times t inserted) (sym same_trace) z))))
+      (read_cause times o p q es legal k d n upper x kind source there r own a read (λ inserted received emitted z. cause inserted received emitted (subst (λ t. Represents times t inserted) (sym same_trace) z))))

@@ -29,18 +29,18 @@ use Rattle.histories.specs.declared.event.Bundle.{Bundle}
 use Rattle.histories.proofs.HistoryLemmas.BoundLemmas.{owed_lem}
 use Rattle.operator.specs.Reductions.{IsOverfullWith, ReducingView}
 use Rattle.operator_laws.specs.GatheredUpdates.{IsGathering}
-use Rattle.operator_laws.specs.Workers.{IsWorkingAt, Works}
+use Rattle.operator_laws.specs.Workers.{IsWorkingAt, Holdings}
 use Rattle.operator_laws.proofs.GatheredLemmas.{size_both}
 use Rattle.shared_board.specs.Large.{HasNoSmallBound}
 use Rattle.desk_laws.specs.Own.{DeskView, IsReducedOn, in_hand_at, made_of, taken_at, waits_on}
 use Rattle.desk_laws.specs.declared.hand.Hand.{Hand}
-use Rattle.desk_laws.specs.declared.hand.Hand.TheVariants.{Taken, Turned}
+use Rattle.desk_laws.specs.declared.hand.Hand.TheVariants.{Taken, Notified}
 use Rattle.desk_laws.proofs.TakenLemmas.{made_linear}
 use Rattle.desk.specs.Desks.{IsRight}
 use Rattle.desk.proofs.LargeLemmas.{large_load, large_received}
 use Rattle.desk.proofs.SizeLemmas.{large_diff}
 
-module _ {T : Type 0} (times : Times T) (p : Dataflow) (w : State T) (k n : ℕ) (works : Works T) where
+module _ {T : Type 0} (times : Times T) (p : Dataflow) (w : State T) (k n : ℕ) (works : Holdings T) where
   -- what waits at a node that is no reduction was gathered there
   pub gathering_at : (node : Node) → is_reduction node ≡ false → IsWorkingAt times p w k works n node → IsGathering times p w n k (works.waiting n)
   gathering_at (Arrange source key) e x = x.gathering
@@ -105,7 +105,7 @@ module _ {T : Type 0} (times : Times T) (o : PartialOrderLaws times) (cmp : T �
         let sizes = ap size (all ∙ ap (λ us. us ++ lies.taken) here) ∙ size_both bundle.updates lies.taken in
         large_received times o cmp p q es legal n 0 source k x.own.worker (ap (λ node. slice_get (sources node) 0) e) (omega (arith, large, sizes))
 
-  module _ (n : ℕ) (upper : List T) (x : IsRight times p v k d (Turned n upper)) (kind : Kind) (source : ℕ) (e : node_of p n ≡ Reduce kind source) (r : ReducingView T) (there : slice_get d.reductions n ≡ Some (Some r)) where
+  module _ (n : ℕ) (upper : List T) (x : IsRight times p v k d (Notified n upper)) (kind : Kind) (source : ℕ) (e : node_of p n ≡ Reduce kind source) (r : ReducingView T) (there : slice_get d.reductions n ≡ Some (Some r)) where
     abbrev within : n < length p.nodes
     within = x.on_plan.hand
 
@@ -121,7 +121,7 @@ module _ {T : Type 0} (times : Times T) (o : PartialOrderLaws times) (cmp : T �
       λ bound f. let small = owed_lem times o p q cmp es legal n source kind e (λ row. same_row (take r.state.key row) key) k us is_owed bound f in omega (arith, small, large),
     )
       where
-        lies : IsReducedOn times p d (Turned n upper) x.own.keeps n kind source
+        lies : IsReducedOn times p d (Notified n upper) x.own.keeps n kind source
         lies = x.own.laid.reducing n source kind within e
 
         same : lies.reduction ≡ r

@@ -22,7 +22,7 @@ use Rattle.histories.specs.Histories.States.{State}
 use Rattle.operator.specs.Arrangements.{ArrangementState}
 use Rattle.operator.specs.Joins.{JoiningView}
 use Rattle.operator_laws.specs.JoinNodes.{on_top}
-use Rattle.operator_laws.specs.Workers.{IsWorkingAt, Works}
+use Rattle.operator_laws.specs.Workers.{IsWorkingAt, Holdings}
 use Rattle.desk_laws.specs.Own.{DeskView, IsArrangedOn, IsTakenBefore, ReadsAt, boundary_at, hold_at, is_taken_at, other_port}
 use Rattle.desk_laws.specs.declared.hand.Hand.{Hand}
 use Rattle.desk_laws.specs.declared.hand.Hand.TheVariants.{Free, Taken}
@@ -54,7 +54,7 @@ module _ {T : Type 0} where
 -- ---- a join is a reader of the arrangements of its sources
 
 module _ {T : Type 0} (times : Times T) (o : PartialOrderLaws times) (p : Dataflow) (q : IsDataflow p) (w : State T) (k : ℕ) (d : DeskView T) (fronts : List (List T)) (told : AreTold times p w fronts) (x : IsRight times p w k d Free) (n port s : ℕ) (j : JoiningView T) (r : ReadsAt p d n port s j) where
-  abbrev works : Works T
+  abbrev works : Holdings T
   works = x.own.keeps.works
 
   arranged : (l rr : ℕ) → node_of p n ≡ Join l rr → IsArrangedOn times p d s (works.start s) (works.inserted s)

@@ -37,7 +37,7 @@ use Rattle.histories.specs.Histories.Dataflows.{Dataflow, IsDataflow, node_of, s
 use Rattle.histories.specs.Histories.States.{State, update_times}
 use Rattle.operator_laws.specs.GatheredUpdates.{IsSplit}
 use Rattle.operator_laws.specs.JoinNodes.{IsAnswer, on_top}
-use Rattle.operator_laws.specs.Workers.{Works, IsWorkingAt}
+use Rattle.operator_laws.specs.Workers.{Holdings, IsWorkingAt}
 use Rattle.operator_laws.proofs.GatheredLemmas.{size_none}
 use Rattle.operator.specs.Arrangements.{ArrangementState}
 use Rattle.operator.specs.Joins.{JoiningView, IsFitting}
@@ -157,7 +157,7 @@ module _ {T : Type 0} (times : Times T) (p : Dataflow) (q : IsDataflow p) (w : S
   abbrev hand : Hand T
   hand = Taken bundle more
 
-  abbrev works : Works T
+  abbrev works : Holdings T
   works = x.own.keeps.works
 
   pub within : n < length p.nodes

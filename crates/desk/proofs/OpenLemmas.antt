@@ -26,11 +26,11 @@ use Rattle.trace.specs.Readings.{Insertion, reached}
 use Rattle.trace.specs.BatchLists.{BatchListState, end_of}
 use Rattle.trace.proofs.BatchListLemmas.{reached_boundary}
 use Rattle.trace.specs.Holds.{HoldState}
-use Rattle.spine.specs.Spines.{SpineState, Stands, boundaries}
+use Rattle.spine.specs.Spines.{SpineState, Represents, boundaries}
 use Rattle.histories.specs.Histories.Dataflows.{Dataflow, IsDataflow, node_of}
 use Rattle.histories.specs.Histories.{initial_state}
 use Rattle.operator_laws.specs.JoinNodes.{on_top}
-use Rattle.operator_laws.specs.Workers.{first_works}
+use Rattle.operator_laws.specs.Workers.{first_holdings}
 use Rattle.operator.specs.Arrangements.{AreInTurn, ArrangementState, IsNew, IsOpen, IsWithReader, upper_of}
 use Rattle.operator.specs.Joins.{JoiningView, IsFitting}
 use Rattle.operator.specs.Reductions.{ReducingView, HasRoom, pending_of}
@@ -437,8 +437,8 @@ module _ {T : Type 0} (times : Times T) where
 
 -- one more hold at an arrangement
 pub one_more : {T : Type 0} (times : Times T) (a b : ArrangementState T) → b ≡ record a { spine = record a.spine { holds = b.spine.holds }; holds = a.holds ++ record { logical = a.spine.since; physical = upper_of a.spine } ∷ [] }
-    → ((h : List (Insertion T)) → Stands times a.spine h → Stands times b.spine h)
-    → ((h : List (Insertion T)) → Stands times a.spine h → AreInTurn times a.spine.list.start h → IsOpen times a.spine h → IsOpen times b.spine h) → HasOneMore times a b
+    → ((h : List (Insertion T)) → Represents times a.spine h → Represents times b.spine h)
+    → ((h : List (Insertion T)) → Represents times a.spine h → AreInTurn times a.spine.list.start h → IsOpen times a.spine h → IsOpen times b.spine h) → HasOneMore times a b
 one_more times a b e stands whole = record {
   with = record {
     width = ap (λ (z : ArrangementState _). z.width) e;
@@ -469,7 +469,7 @@ module _ {T : Type 0} (times : Times T) (o : PartialOrderLaws times) (p : Datafl
     begins = refl;
   }
 
-  joined_first : (n l r : ℕ) → IsFirstAt times p.nodes d n (Join l r) → IsJoinedOn times p d Free (first_works times.least) n l r
+  joined_first : (n l r : ℕ) → IsFirstAt times p.nodes d n (Join l r) → IsJoinedOn times p d Free (first_holdings times.least) n l r
   joined_first n l r (j, there, f) = record {
     join = j;
     there = there;

@@ -11,7 +11,7 @@ use Rattle.batch.specs.Intervals.{all_times_beyond, is_interval_of}
 use Rattle.trace.specs.Readings.{Insertion}
 use Rattle.spine.specs.Spines.{SpineState, boundaries, stored}
 use Rattle.join.specs.declared.side.Side.{Side}
-use Rattle.join.specs.Sides.{all_rows_have, boundary_of, turned}
+use Rattle.join.specs.Sides.{all_rows_have, boundary_of, other_side}
 use Rattle.operator.specs.Arrangements.{ArrangementState, IsArrangement, rows_have}
 use Rattle.operator.specs.Joins.{JoiningView, CanTakeTo, IsSide, columns_of}
 use Rattle.operator.proofs.ArrangementLemmas.{readable_from}
@@ -44,14 +44,14 @@ module _ {T : Type 0} {times : Times T} {side : Side} {arrangements : List (Opti
     opposite_is : y.opposite ≡ b
     opposite_is = some_same y.opposite b (sym y.opposite_there ∙ there)
 
-    other_readable : Contains (boundaries spine) (boundary_of (turned side) j.state)
+    other_readable : Contains (boundaries spine) (boundary_of (other_side side) j.state)
     other_readable =
-        subst (λ (s : SpineState T). Contains (boundaries s) (boundary_of (turned side) j.state)) (sym value)
-        (reading_readable known (subst (λ z. IsReading times z y.inserted y.later y.taken (boundary_of (turned side) j.state)) opposite_is y.reading))
+        subst (λ (s : SpineState T). Contains (boundaries s) (boundary_of (other_side side) j.state)) (sym value)
+        (reading_readable known (subst (λ z. IsReading times z y.inserted y.later y.taken (boundary_of (other_side side) j.state)) opposite_is y.reading))
 
-    other_rows : IsTrue (all_rows_have (columns_of (turned side) j) (stored spine))
+    other_rows : IsTrue (all_rows_have (columns_of (other_side side) j) (stored spine))
     other_rows =
-        subst (λ (s : SpineState T). IsTrue (all_rows_have (columns_of (turned side) j) (stored s))) (sym value)
+        subst (λ (s : SpineState T). IsTrue (all_rows_have (columns_of (other_side side) j) (stored s))) (sym value)
         (subst (λ m. IsTrue (rows_have m (stored b.spine))) (ap (λ (z : ArrangementState T). z.width) (sym opposite_is) ∙ y.opposite_width) known.rows)
 
     -- it may be read at the times of the bundle
@@ -63,10 +63,10 @@ module _ {T : Type 0} {times : Times T} {side : Side} {arrangements : List (Opti
         us y.apart)
 
     -- what a reader has taken there is a side of the join
-    pub side_from : (a : ArrangementState T) → slice_get arrangements other ≡ Some (Some a) → (inserted later taken : List (Insertion T)) → IsReading times a inserted later taken (boundary_of (turned side) j.state) → IsSide times spine inserted taken (boundary_of (turned side) j.state)
+    pub side_from : (a : ArrangementState T) → slice_get arrangements other ≡ Some (Some a) → (inserted later taken : List (Insertion T)) → IsReading times a inserted later taken (boundary_of (other_side side) j.state) → IsSide times spine inserted taken (boundary_of (other_side side) j.state)
     side_from a own inserted later taken reading =
-        subst (λ (s : SpineState T). IsSide times s inserted taken (boundary_of (turned side) j.state)) (sym value)
-        (reading_side known (subst (λ z. IsReading times z inserted later taken (boundary_of (turned side) j.state)) (some_same a b (sym own ∙ there)) reading))
+        subst (λ (s : SpineState T). IsSide times s inserted taken (boundary_of (other_side side) j.state)) (sym value)
+        (reading_side known (subst (λ z. IsReading times z inserted later taken (boundary_of (other_side side) j.state)) (some_same a b (sym own ∙ there)) reading))
 
     -- so the side may take the bundle
     pub next_takeable : (a : ArrangementState T) → slice_get arrangements source ≡ Some (Some a) → PartialOrderLaws times → (end : List T) → IsEndAfter times a (boundary_of side j.state) end → CanTakeTo times side j us end spine

@@ -22,21 +22,21 @@ use Rattle.plan.specs.declared.node.Node.{Node}
 use Rattle.plan.specs.declared.node.Node.TheVariants.{Arrange}
 use Rattle.trace.specs.BatchLists.{Continues}
 use Rattle.trace.specs.Readings.{Insertion, reached}
-use Rattle.spine.specs.Spines.{Stands}
+use Rattle.spine.specs.Spines.{Represents}
 use Rattle.histories.specs.Histories.Dataflows.{Dataflow, IsDataflow, node_of}
 use Rattle.histories.specs.Histories.Promises.{changes_in}
 use Rattle.histories.specs.Histories.States.{State, update_times}
 use Rattle.histories.specs.Histories.{state_after}
 use Rattle.operator_laws.specs.ArrangeNodes.{IsArranging, IsSealOf}
 use Rattle.operator_laws.specs.GatheredUpdates.{IsSplit}
-use Rattle.operator_laws.specs.Workers.{IsWorkingAt, Works}
+use Rattle.operator_laws.specs.Workers.{IsWorkingAt, Holdings}
 use Rattle.operator_laws.proofs.ArrangeLemmas.{interval, open_beyond, seal_split}
 use Rattle.operator.specs.Arrangements.{ArrangementState, IsOpen, rows_have, times_from, upper_of}
 use Rattle.shared_board.specs.Large.{HasNoSmallBound}
 use Rattle.desk_laws.specs.Own.{DeskView, IsArrangedOn, IsMergedAt, IsNextBatch, IsOwn, IsSpineAt, waiting_in, waits_on, StayHolding}
-use Rattle.desk_laws.specs.declared.hand.Hand.TheVariants.{Sealed, Turned}
+use Rattle.desk_laws.specs.declared.hand.Hand.TheVariants.{Sealed, Notified}
 use Rattle.desk_laws.proofs.BeyondLemmas.{newest_later}
-use Rattle.desk_laws.proofs.KeptLemmas.{at_each, laid_same, of_each, same_desk, same_keeps, turned_idle}
+use Rattle.desk_laws.proofs.KeptLemmas.{at_each, laid_same, of_each, same_desk, same_keeps, notified_idle}
 use Rattle.desk_laws.proofs.LaidLemmas.{sealed_lem}
 use Rattle.desk_laws.proofs.MergedLemmas.{merged_lem}
 use Rattle.desk.specs.Desks.{IsRight, IsSomeones, IsTooLarge, Leads}
@@ -82,18 +82,18 @@ module _ {T : Type 0} (times : Times T) (a r : ArrangementState T) where
     start = ap (λ (z : ArrangementState T). z.spine.list.start) e;
     waiting = ap (λ (z : ArrangementState T). z.waiting) e;
     holds = ap (λ (z : ArrangementState T). z.holds) e;
-    stands = λ h x. subst (λ (z : ArrangementState T). Stands times z.spine h) (sym e) x;
+    stands = λ h x. subst (λ (z : ArrangementState T). Represents times z.spine h) (sym e) x;
     whole = λ h x. subst (λ (z : ArrangementState T). IsOpen times z.spine h) (sym e) x;
   }
 
-  module _ (room : r ≡ record a { spine = record a.spine { list = record a.spine.list { reserved = true } } }) (stands : (h : List (Insertion T)) → Stands times a.spine h → Stands times r.spine h) (whole : (h : List (Insertion T)) → IsOpen times a.spine h → IsOpen times r.spine h) where
+  module _ (room : r ≡ record a { spine = record a.spine { list = record a.spine.list { reserved = true } } }) (stands : (h : List (Insertion T)) → Represents times a.spine h → Represents times r.spine h) (whole : (h : List (Insertion T)) → IsOpen times a.spine h → IsOpen times r.spine h) where
     pub reserved_by : (s : ArrangementState T) → s ≡ r → IsReserved times a s
     reserved_by s e = record {
       width = ap (λ (z : ArrangementState T). z.width) (e ∙ room);
       start = ap (λ (z : ArrangementState T). z.spine.list.start) (e ∙ room);
       waiting = ap (λ (z : ArrangementState T). z.waiting) (e ∙ room);
       holds = ap (λ (z : ArrangementState T). z.holds) (e ∙ room);
-      stands = λ h x. subst (λ (z : ArrangementState T). Stands times z.spine h) (sym e) (stands h x);
+      stands = λ h x. subst (λ (z : ArrangementState T). Represents times z.spine h) (sym e) (stands h x);
       whole = λ h x. subst (λ (z : ArrangementState T). IsOpen times z.spine h) (sym e) (whole h x);
     }
 
@@ -109,7 +109,7 @@ module _ {T : Type 0} (times : Times T) (a r : ArrangementState T) where
           start = ap (λ (z : ArrangementState T). z.spine.list.start) rest ∙ ap (λ (z : ArrangementState T). z.spine.list.start) room;
           end = ap (λ (z : ArrangementState T). upper_of z.spine) rest ∙ upper_same;
           holds = ap (λ (z : ArrangementState T). z.holds) rest ∙ ap (λ (z : ArrangementState T). z.holds) room;
-          stands = λ h x. subst (λ (z : ArrangementState T). Stands times z.spine h) (sym rest) (stands h x);
+          stands = λ h x. subst (λ (z : ArrangementState T). Represents times z.spine h) (sym rest) (stands h x);
           whole = λ h x. subst (λ (z : ArrangementState T). IsOpen times z.spine h) (sym rest) (whole h x);
           upper_is = λ t. ap (λ F. is_beyond times F t) end ∙ same t;
           waiting = ap (λ (z : ArrangementState T). z.waiting) rest ∙ (λ i. open_updates times (sym end i) (waits i));
@@ -121,14 +121,14 @@ module _ {T : Type 0} (times : Times T) (a r : ArrangementState T) where
           times_are = times_are;
         }
 
--- ---- a node that the worker turned to
+-- ---- a node that the worker notified to
 
 module _ {T : Type 0} (times : Times T) (o : PartialOrderLaws times) (p : Dataflow) (q : IsDataflow p) (w : State T) (k : ℕ) (d : DeskView T) (n source key : ℕ) (arrange : node_of p n ≡ Arrange source key)
-    (upper : List T) (x : IsRight times p w k d (Turned n upper)) where
+    (upper : List T) (x : IsRight times p w k d (Notified n upper)) where
   within : n < length p.nodes
   within = x.on_plan.hand
 
-  abbrev works : Works T
+  abbrev works : Holdings T
   works = x.own.keeps.works
 
   lies : IsArrangedOn times p d n (works.start n) (works.inserted n)
@@ -158,12 +158,12 @@ module _ {T : Type 0} (times : Times T) (o : PartialOrderLaws times) (p : Datafl
         ∙ interval times o p w n k (works.start n) (works.inserted n) a.waiting us arranging (λ t h. ap not (same t) ∙ x.own.come.after source key arrange t h)
 
     -- the hand may have any list that tells the frontier
-    turned_to : (us : List T) → ((t : T) → is_beyond times us t ≡ is_beyond times upper t) → IsOwn times p w k d (Turned n us)
+    turned_to : (us : List T) → ((t : T) → is_beyond times us t ≡ is_beyond times upper t) → IsOwn times p w k d (Notified n us)
     turned_to us same = record {
       worker = x.own.worker;
       keeps = x.own.keeps;
       keeping = x.own.keeping;
-      laid = of_each times p d (Turned n us) x.own.keeps (λ m l. laid_same times p m d d (same_desk m d) x.own.keeps x.own.keeps (same_keeps m x.own.keeps) (Turned n upper) (Turned n us) (turned_idle m n upper) (turned_idle m n us) (at_each times p d (Turned n upper) x.own.keeps x.own.laid m l));
+      laid = of_each times p d (Notified n us) x.own.keeps (λ m l. laid_same times p m d d (same_desk m d) x.own.keeps x.own.keeps (same_keeps m x.own.keeps) (Notified n upper) (Notified n us) (notified_idle m n upper) (notified_idle m n us) (at_each times p d (Notified n upper) x.own.keeps x.own.laid m l));
       hand = x.own.hand;
       come = record {
         come = λ t h. x.own.come.come t (sym (ap not (same t)) ∙ h);
@@ -190,7 +190,7 @@ module _ {T : Type 0} (times : Times T) (o : PartialOrderLaws times) (p : Datafl
       holding_now e = holding_same times p d n a b own e
 
       -- the arrangement stands for what it stood for
-      spine_now : b.width ≡ a.width → b.spine.list.start ≡ a.spine.list.start → ((h : List (Insertion T)) → Stands times a.spine h → Stands times b.spine h)
+      spine_now : b.width ≡ a.width → b.spine.list.start ≡ a.spine.list.start → ((h : List (Insertion T)) → Represents times a.spine h → Represents times b.spine h)
           → ((h : List (Insertion T)) → IsOpen times a.spine h → IsOpen times b.spine h)
           → (start : List T) (inserted : List (Insertion T)) → IsArrangedOn times p d n start inserted → IsArrangedOn times p c n start inserted
       spine_now width begins stands whole start inserted y =
@@ -203,9 +203,9 @@ module _ {T : Type 0} (times : Times T) (o : PartialOrderLaws times) (p : Datafl
           }
 
       -- with room for a batch, the desk is as right as before
-      pub reserved_right : IsReserved times a b → IsRight times p w k c (Turned n upper)
+      pub reserved_right : IsReserved times a b → IsRight times p w k c (Notified n upper)
       reserved_right r = record {
-        own = merged_lem times p d c (λ m. merged m (eqb m n) refl) w k (holding_now r.holds) (Turned n upper) tt x.own;
+        own = merged_lem times p d c (λ m. merged m (eqb m n) refl) w k (holding_now r.holds) (Notified n upper) tt x.own;
         on_plan = record { places = x.on_plan.places; wide = x.on_plan.wide; joins = x.on_plan.joins; hand = x.on_plan.hand };
       }
         where
@@ -271,7 +271,7 @@ module _ {T : Type 0} (times : Times T) (o : PartialOrderLaws times) (plan : Lis
   at_of p nodes = ap (λ xs. node_at xs n) nodes ∙ at.2
 
   -- what the seal asks for
-  pub there_to_seal : IsSomeones times plan d (Turned n upper) → (a : ArrangementState T) × (slice_get d.arrangements n ≡ Some (Some a)) × MaySeal times a upper
+  pub there_to_seal : IsSomeones times plan d (Notified n upper) → (a : ArrangementState T) × (slice_get d.arrangements n ≡ Some (Some a)) × MaySeal times a upper
   there_to_seal s =
       let p = s.dataflow in
       let w = state_after times p s.events in
@@ -286,7 +286,7 @@ module _ {T : Type 0} (times : Times T) (o : PartialOrderLaws times) (plan : Lis
     -- what a seal leads to
     pub seal_leads : {cmp : T → T → Ordering} → IsTotalOrder cmp → (batch : BatchState T)
         → ((a : ArrangementState T) → slice_get d.arrangements n ≡ Some (Some a) → (b : ArrangementState T) × (arrangements ≡ set d.arrangements n (Some b)) × IsSealedTo times cmp upper a b batch)
-        → Leads times plan d (Turned n upper) then (Sealed n batch)
+        → Leads times plan d (Notified n upper) then (Sealed n batch)
     seal_leads total batch sealed p q nodes es legal k x =
         let w = state_after times p es in
         let e = at_of p nodes in
@@ -297,17 +297,17 @@ module _ {T : Type 0} (times : Times T) (o : PartialOrderLaws times) (plan : Lis
 
     -- and a seal that was refused
     pub refusal_leads : ((a : ArrangementState T) → slice_get d.arrangements n ≡ Some (Some a) → (b : ArrangementState T) × (arrangements ≡ set d.arrangements n (Some b)) × IsReserved times a b)
-        → Leads times plan d (Turned n upper) then (Turned n upper)
+        → Leads times plan d (Notified n upper) then (Notified n upper)
     refusal_leads kept p q nodes es legal k x =
         let w = state_after times p es in
         let e = at_of p nodes in
         let a = arrangement_there times o p q w k d n at.0 at.1 e upper x in
         let s = kept a.0 a.1 in
-        subst (λ xs. IsRight times p w k (record d { arrangements = xs }) (Turned n upper)) (sym s.1)
+        subst (λ xs. IsRight times p w k (record d { arrangements = xs }) (Notified n upper)) (sym s.1)
         (reserved_right times o p q w k d n at.0 at.1 e upper x a.0 a.1 s.0 s.2)
 
   -- what waits at an arrange node is too large only if a bound is
-  pub too_large : (cmp : T → T → Ordering) → (a : ArrangementState T) → slice_get d.arrangements n ≡ Some (Some a) → 2 ^ 63 ≤ size a.waiting → IsTooLarge times cmp plan d (Turned n upper)
+  pub too_large : (cmp : T → T → Ordering) → (a : ArrangementState T) → slice_get d.arrangements n ≡ Some (Some a) → 2 ^ 63 ≤ size a.waiting → IsTooLarge times cmp plan d (Notified n upper)
   too_large cmp a own large p q nodes es legal k x =
       let w = state_after times p es in
       let g = (arranging times o p q w k d n at.0 at.1 (at_of p nodes) upper x a own).gathering in

@@ -16,7 +16,7 @@ use Rattle.plan.specs.declared.node.Node.{Node}
 use Rattle.plan.specs.declared.node.Node.TheVariants.{Arrange, Reduce}
 use Rattle.trace.specs.Holds.{HoldState}
 use Rattle.trace.specs.Readings.{Insertion, all_updates}
-use Rattle.spine.specs.Spines.{IsDone, Stands, boundaries}
+use Rattle.spine.specs.Spines.{IsDone, Represents, boundaries}
 use Rattle.histories.specs.Histories.{state_after}
 use Rattle.histories.specs.Histories.Dataflows.{Dataflow, node_of}
 use Rattle.histories.specs.Histories.Outstanding.{port_frontier}
@@ -58,7 +58,7 @@ module _ {T : Type 0} (times : Times T) where
   module _ (a b : ArrangementState T) (number : ℕ) (l u : List T)
       (moved : b ≡ record a { spine = record a.spine { since = b.spine.since; holds = b.spine.holds }; holds = set a.holds number (record { logical = l; physical = u }) }) where
     pub has_moved : (logical boundary : List T) → l ≡ logical → u ≡ boundary → (hold : HoldState T) → slice_get a.holds number ≡ Some hold
-        → ((h : List (Insertion T)) → Stands times a.spine h → Stands times b.spine h) → ((h : List (Insertion T)) → IsOpen times a.spine h → IsOpen times b.spine h) → HasMoved times number logical boundary a b
+        → ((h : List (Insertion T)) → Represents times a.spine h → Represents times b.spine h) → ((h : List (Insertion T)) → IsOpen times a.spine h → IsOpen times b.spine h) → HasMoved times number logical boundary a b
     has_moved logical boundary same e hold was stands whole = record {
       alike = record {
         width = ap (λ (z : ArrangementState T). z.width) moved;
@@ -84,8 +84,8 @@ module _ {T : Type 0} (times : Times T) where
         ∙ (ap (λ (z : ArrangementState T). slice_get z.holds 0) moved
         ∙ (get_within a.holds 0 own_hold some ∙ (λ k. Some (record { logical = level; physical = sym (upper ∙ ap (λ (z : ArrangementState T). upper_of z.spine) moved) k }))))
 
-    pub is_settled : ((h : List (Insertion T)) → Stands times a.spine h → Stands times b.spine h) → ((h : List (Insertion T)) → IsOpen times a.spine h → IsOpen times b.spine h)
-        → ((h : List (Insertion T)) → Stands times b.spine h → Stands times c.spine h) → ((h : List (Insertion T)) → IsOpen times b.spine h → IsOpen times c.spine h) → IsSettled times level a c
+    pub is_settled : ((h : List (Insertion T)) → Represents times a.spine h → Represents times b.spine h) → ((h : List (Insertion T)) → IsOpen times a.spine h → IsOpen times b.spine h)
+        → ((h : List (Insertion T)) → Represents times b.spine h → Represents times c.spine h) → ((h : List (Insertion T)) → IsOpen times b.spine h → IsOpen times c.spine h) → IsSettled times level a c
     is_settled stands whole stands_then whole_then = record {
       alike = record {
         width = ap (λ (z : ArrangementState T). z.width) kept ∙ ap (λ (z : ArrangementState T). z.width) moved;
@@ -137,14 +137,14 @@ module _ {T : Type 0} (times : Times T) (o : PartialOrderLaws times) (plan : Lis
         (lies.arrangement, lies.there, λ hold at. is.latest hold.logical (serves_now lies.arrangement lies.there hold at))
 
     -- all that was inserted is too large only if a bound is
-    pub merge_large : (cmp : T → T → Ordering) (a : ArrangementState T) → slice_get d.arrangements n ≡ Some (Some a) → ((h : List (Insertion T)) → Stands times a.spine h → 2 ^ 63 ≤ size (all_updates h)) → IsTooLargeOn times plan fronts cmp d
+    pub merge_large : (cmp : T → T → Ordering) (a : ArrangementState T) → slice_get d.arrangements n ≡ Some (Some a) → ((h : List (Insertion T)) → Represents times a.spine h → 2 ^ 63 ≤ size (all_updates h)) → IsTooLargeOn times plan fronts cmp d
     merge_large cmp a own large p q nodes es legal k told x =
         let inside : n < length p.nodes = subst (λ ns. n < length ns) (sym nodes) within in
         let at : node_of p n ≡ Arrange source key = ap (λ ns. node_at ns n) nodes ∙ e in
         let lies = x.own.laid.arranged n source key inside at in
         let is : lies.arrangement ≡ a = one_entry d.arrangements n lies.arrangement a lies.there own in
         let arranging = subst (λ node. IsWorkingAt times p (state_after times p es) k x.own.keeps.works n node) at (x.own.keeping.working n inside) in
-        let much = large (x.own.keeps.works.inserted n) (subst (λ (z : ArrangementState T). Stands times z.spine (x.own.keeps.works.inserted n)) is lies.spine.stands) in
+        let much = large (x.own.keeps.works.inserted n) (subst (λ (z : ArrangementState T). Represents times z.spine (x.own.keeps.works.inserted n)) is lies.spine.stands) in
         let load = arranging.gathering.load in
         let given = ap size arranging.emitted in
         subst (λ ns. HasNoSmallBound times cmp ns (changes_in (state_after times p es))) nodes

@@ -29,13 +29,13 @@ use Rattle.shared_board.specs.Large.{HasNoSmallBound}
 use Rattle.shared_board.specs.Widths.{is_wide_for}
 use Rattle.desk_laws.specs.Own.{DeskView, IsArrangedOn, IsOfOneShape, IsOwn, IsSameAt, StayHolding, StayHoldingWith, gathered_in, waits_on}
 use Rattle.desk_laws.specs.declared.hand.Hand.{Hand}
-use Rattle.desk_laws.specs.declared.hand.Hand.TheVariants.{Free, Taken, Kept, Turned, Ready, Sealed}
+use Rattle.desk_laws.specs.declared.hand.Hand.TheVariants.{Free, Taken, Kept, Notified, Ready, Sealed}
 
 module _ {T : Type 0} where
   -- nothing is left to compute of the piece in hand without the board
   abbrev pub IsComputed : Hand T → Type 0
   IsComputed (Taken bundle more) = ⊥
-  IsComputed (Turned node upper) = ⊥
+  IsComputed (Notified node upper) = ⊥
   IsComputed other = ⊤
 
 module _ {T : Type 0} (plan : List Node) where
@@ -76,7 +76,7 @@ module _ {T : Type 0} (times : Times T) where
       × IsTrue (is_port (node_of p bundle.place.node) bundle.place.port)
       × IsTrue (is_wide_for p bundle) × IsTrue (times_from times bundle.updates)
   IsOf p (Kept node more) = (node < length p.nodes) × (is_join (node_of p node) ≡ false)
-  IsOf p (Turned node upper) = node < length p.nodes
+  IsOf p (Notified node upper) = node < length p.nodes
   IsOf p (Ready node updates) = (node < length p.nodes)
       × (arranged_by (node_of p node) ≡ None) × IsTrue (are_wide (width_of p.nodes node) updates)
   IsOf p (Sealed node batch) = (node < length p.nodes) × IsTrue (are_wide (width_of p.nodes node) batch.updates)

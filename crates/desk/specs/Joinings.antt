@@ -8,9 +8,9 @@ use Rattle.update.specs.declared.change.Update.{Update}
 use Rattle.batch.specs.Intervals.{all_times_beyond}
 use Rattle.trace.specs.Holds.{HoldState}
 use Rattle.trace.specs.Readings.{Insertion, all_updates, reached}
-use Rattle.spine.specs.Spines.{Stands}
+use Rattle.spine.specs.Spines.{Represents}
 use Rattle.join.specs.declared.side.Side.{Side}
-use Rattle.join.specs.Sides.{acknowledged_to, all_rows_have, boundary_of, turned}
+use Rattle.join.specs.Sides.{acknowledged_to, all_rows_have, boundary_of, other_side}
 use Rattle.join.specs.Takes.{side_pairs}
 use Rattle.operator.specs.Arrangements.{ArrangementState, AreInTurn, IsOpen, times_from}
 use Rattle.operator.specs.Joins.{JoiningView, IsFitting, columns_of}
@@ -27,7 +27,7 @@ module _ {T : Type 0} (times : Times T) where
   -- of what was inserted in an arrangement a reader has taken the oldest insertions, up to a
   -- boundary, and it has a hold that is no further
   pub record IsReading (a : ArrangementState T) (inserted later taken : List (Insertion T)) (boundary : List T) : Type 0 where
-    pub stands : Stands times a.spine inserted
+    pub stands : Represents times a.spine inserted
     pub start : a.spine.list.start ≡ times.least ∷ []
     pub in_turn : AreInTurn times (times.least ∷ []) inserted
     pub «open» : IsOpen times a.spine inserted
@@ -65,11 +65,11 @@ module _ {T : Type 0} (times : Times T) where
     pub begun : IsTrue (times_from times us)
     pub opposite : ArrangementState T
     pub opposite_there : slice_get arrangements other ≡ Some (Some opposite)
-    pub opposite_width : opposite.width ≡ columns_of (turned side) j
+    pub opposite_width : opposite.width ≡ columns_of (other_side side) j
     pub inserted : List (Insertion T)
     pub later : List (Insertion T)
     pub taken : List (Insertion T)
-    pub reading : IsReading opposite inserted later taken (boundary_of (turned side) j.state)
+    pub reading : IsReading opposite inserted later taken (boundary_of (other_side side) j.state)
     pub apart : IsTrue (all_times_beyond times reading.hold.logical us)
 
   -- a bundle that came on a side, or its pairs with all that the join took on the other side, are
@@ -77,7 +77,7 @@ module _ {T : Type 0} (times : Times T) where
   abbrev pub ArePairsLarge : Side → List (Option (ArrangementState T)) → ℕ → JoiningView T → List (Update T) → Type 0
   ArePairsLarge side arrangements other j us =
       (a : ArrangementState T) → slice_get arrangements other ≡ Some (Some a)
-      → (inserted later taken : List (Insertion T)) → IsReading a inserted later taken (boundary_of (turned side) j.state)
+      → (inserted later taken : List (Insertion T)) → IsReading a inserted later taken (boundary_of (other_side side) j.state)
       → (2 ^ 63 ≤ size us) ⊎ (2 ^ 63 ≤ size us * size (all_updates taken))
 
   module _ (cmp : T → T → Ordering) where
@@ -92,7 +92,7 @@ module _ {T : Type 0} (times : Times T) where
           → IsEndAfter a (boundary_of side j.state) upper
       pub answers : (a : ArrangementState T) → slice_get arrangements other ≡ Some (Some a)
           → (inserted later taken : List (Insertion T))
-          → IsReading a inserted later taken (boundary_of (turned side) j.state)
+          → IsReading a inserted later taken (boundary_of (other_side side) j.state)
           → IsAnswer times (side_pairs side times j.state.key us (all_updates taken)) us (all_updates taken) out
       pub consolidated : IsConsolidated cmp out
       pub wide : IsTrue (all_rows_have (j.left_width + j.right_width - j.state.key) out)

@@ -7,7 +7,7 @@ use Rattle.plan.specs.declared.kind.Kind.{Kind}
 use Rattle.plan.specs.declared.node.Node.{Node}
 use Rattle.plan.specs.declared.node.Node.TheVariants.{Input, Map, Filter, Concat, Negate, Arrange, Join, Reduce, Output}
 use Rattle.trace.specs.Holds.{HoldState}
-use Rattle.spine.specs.Spines.{Stands}
+use Rattle.spine.specs.Spines.{Represents}
 use Rattle.histories.specs.Histories.Dataflows.{Dataflow}
 use Rattle.operator.specs.Arrangements.{ArrangementState, IsOpen, IsWithReader}
 use Rattle.operator.specs.Joins.{JoiningView}
@@ -23,7 +23,7 @@ on_plan p = record { nodes = p; workers = 1 }
 -- boundary that a reader may ask for
 pub record HasOneMore {T : Type 0} (times : Times T) (a b : ArrangementState T) : Type 0 where
   pub with : IsWithReader times a b
-  pub whole : Stands times a.spine [] → IsOpen times a.spine [] → IsOpen times b.spine []
+  pub whole : Represents times a.spine [] → IsOpen times a.spine [] → IsOpen times b.spine []
 
 module _ {T : Type 0} (times : Times T) (p : List Node) where
   -- an arrangement of node n into which nothing was inserted and in which nothing waits. Its own
@@ -31,7 +31,7 @@ module _ {T : Type 0} (times : Times T) (p : List Node) where
   pub record IsFirstArrangement (n : ℕ) (a : ArrangementState T) : Type 0 where
     pub width : a.width ≡ width_of p n
     pub start : a.spine.list.start ≡ times.least ∷ []
-    pub stands : Stands times a.spine []
+    pub stands : Represents times a.spine []
     pub «open» : IsOpen times a.spine []
     pub nothing_waits : a.waiting ≡ []
     pub since : a.spine.since ≡ times.least ∷ []

@@ -8,7 +8,7 @@ use Rattle.batch.specs.Descriptions.{BatchState}
 use Rattle.batch.specs.Intervals.{all_between, is_interval_of, open_updates, passed_updates}
 use Rattle.trace.specs.Readings.{Insertion}
 use Rattle.trace.specs.BatchLists.{Continues, insertion_of}
-use Rattle.spine.specs.Spines.{Stands}
+use Rattle.spine.specs.Spines.{Represents}
 use Rattle.operator_laws.specs.ArrangeNodes.{IsSealOf}
 use Rattle.operator.specs.Arrangements.{ArrangementState, IsOpen, rows_have, times_from, upper_of}
 
@@ -24,7 +24,7 @@ module _ {T : Type 0} (times : Times T) where
     pub start : b.spine.list.start ≡ a.spine.list.start
     pub waiting : b.waiting ≡ a.waiting
     pub holds : b.holds ≡ a.holds
-    pub stands : (h : List (Insertion T)) → Stands times a.spine h → Stands times b.spine h
+    pub stands : (h : List (Insertion T)) → Represents times a.spine h → Represents times b.spine h
     pub whole : (h : List (Insertion T)) → IsOpen times a.spine h → IsOpen times b.spine h
 
   -- a batch was sealed of what the frontier has passed. It goes on from the spine, which has room
@@ -34,7 +34,7 @@ module _ {T : Type 0} (times : Times T) where
     pub start : b.spine.list.start ≡ a.spine.list.start
     pub end : upper_of b.spine ≡ upper_of a.spine
     pub holds : b.holds ≡ a.holds
-    pub stands : (h : List (Insertion T)) → Stands times a.spine h → Stands times b.spine h
+    pub stands : (h : List (Insertion T)) → Represents times a.spine h → Represents times b.spine h
     pub whole : (h : List (Insertion T)) → IsOpen times a.spine h → IsOpen times b.spine h
     pub upper_is : (t : T) → is_beyond times batch.description.upper t ≡ is_beyond times upper t
     pub waiting : b.waiting ≡ open_updates times batch.description.upper a.waiting
@@ -58,5 +58,5 @@ pub record IsInserted {T : Type 0} (times : Times T) (a b : ArrangementState T) 
   pub start : b.spine.list.start ≡ a.spine.list.start
   pub waiting : b.waiting ≡ a.waiting
   pub holds : b.holds ≡ a.holds
-  pub stands : (h : List (Insertion T)) → Stands times a.spine h → Stands times b.spine (insertion_of batch ∷ h)
+  pub stands : (h : List (Insertion T)) → Represents times a.spine h → Represents times b.spine (insertion_of batch ∷ h)
   pub whole : (h : List (Insertion T)) → IsOpen times a.spine h → IsOpen times b.spine (insertion_of batch ∷ h)

@@ -9,7 +9,7 @@ use Rattle.plan.specs.declared.kind.Kind.{Kind}
 use Rattle.plan.specs.declared.node.Node.{Node}
 use Rattle.plan.specs.declared.node.Node.TheVariants.{Arrange, Reduce}
 use Rattle.trace.specs.Readings.{Insertion}
-use Rattle.spine.specs.Spines.{IsDone, Stands, stored}
+use Rattle.spine.specs.Spines.{IsDone, Represents, stored}
 use Rattle.histories.specs.declared.event.Event.{Event}
 use Rattle.histories.specs.Histories.{IsLegal, state_after}
 use Rattle.histories.specs.Histories.Dataflows.{Dataflow, IsDataflow, node_of}
@@ -71,7 +71,7 @@ module _ {T : Type 0} where
       pub start : b.spine.list.start ≡ a.spine.list.start
       pub end : upper_of b.spine ≡ upper_of a.spine
       pub waiting : b.waiting ≡ a.waiting
-      pub stands : (h : List (Insertion T)) → Stands times a.spine h → Stands times b.spine h
+      pub stands : (h : List (Insertion T)) → Represents times a.spine h → Represents times b.spine h
       pub whole : (h : List (Insertion T)) → IsOpen times a.spine h → IsOpen times b.spine h
 
     -- the hold of this number is for these times and at this boundary, and nothing else has changed

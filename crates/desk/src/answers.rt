@@ -9,7 +9,7 @@ ghost use Rattle.operator.specs.Arrangements.{ArrangementState};
 ghost use Rattle.operator.specs.Reductions.{ReducingView};
 ghost use Rattle.desk_laws.specs.Own.{gives_passed, hand_node};
 ghost use Rattle.desk_laws.specs.declared.hand.Hand.{Hand};
-ghost use Rattle.desk_laws.specs.declared.hand.Hand.TheVariants.{Kept, Ready, Turned};
+ghost use Rattle.desk_laws.specs.declared.hand.Hand.TheVariants.{Kept, Ready, Notified};
 ghost use Rattle.desk.specs.Desks.{IsComputed, IsSomeones, IsTooLarge, Leads};
 
 use crate::desk::Desk;
@@ -47,8 +47,8 @@ impl<T: Minimum> Desk<T> {
         requires other { is_reduction (node_at plan.now node) ≡ false }
         ensures kept { IfOk result (λ out. (more : Bool) → Leads T.times plan.now
             self.old (Kept node more) self.new (Ready node out.items)) }
-        ensures turned { IfOk result (λ out. (upper : List T) → Leads T.times
-            plan.now self.old (Turned node upper) self.new (Ready node out.items)) }
+        ensures notified { IfOk result (λ out. (upper : List T) → Leads T.times
+            plan.now self.old (Notified node upper) self.new (Ready node out.items)) }
         ensures same { OnErr result (self.new ≡ self.old) }
         ensures refused { IfErr result (IsMemoryOrOverflow ((h : Hand T)
             → IsTooLarge T.times T.cmp plan.now self.old h)) }
@@ -67,18 +67,18 @@ impl<T: Minimum> Desk<T> {
         plan: &Plan,
     ) -> Result<Columns<T>, Refusal>
         requires someones { IsSomeones T.times plan.now self.old
-            (Turned node upper.now) }
+            (Notified node upper.now) }
         requires reduces { (kind : Kind) × (node_at plan.now node ≡ Reduce kind source) }
         requires there { (r : ReducingView T)
             × (slice_get self.old.reductions node ≡ Some (Some r)) }
         requires read { (a : ArrangementState T)
             × (slice_get self.old.arrangements source ≡ Some (Some a)) }
         ensures leads { IfOk result (λ out. Leads T.times plan.now
-            self.old (Turned node upper.now) self.new (Ready node out)) }
+            self.old (Notified node upper.now) self.new (Ready node out)) }
         ensures same { OnErr result (self.new ≡ self.old) }
         ensures refused { IfErr result (IsMemoryOrOverflow
             (IsTooLarge T.times T.cmp
-            plan.now self.old (Turned node upper.now))) }
+            plan.now self.old (Notified node upper.now))) }
     {
         let source = arrangement_at(&self.arrangements, source).trace();
         match &mut self.reductions[node.number()] {
@@ -87,9 +87,9 @@ impl<T: Minimum> Desk<T> {
         }
     }
 
-    // What is to be given at a node that the worker turned to. If it is refused, then the desk is
+    // What is to be given at a node that the worker notified to. If it is refused, then the desk is
     // as right as before.
-    pub(crate) fn turn(
+    pub(crate) fn notify(
         &mut self,
         alloc: Global,
         plan: &Plan,
@@ -97,16 +97,16 @@ impl<T: Minimum> Desk<T> {
         upper: &[T],
     ) -> Result<Hand<T>, Refusal>
         requires someones { IsSomeones T.times plan.now self.old
-            (Turned node upper.now) }
+            (Notified node upper.now) }
         ensures leads { IfOk result (λ hand. Leads T.times plan.now
-            self.old (Turned node upper.now) self.new hand) }
+            self.old (Notified node upper.now) self.new hand) }
         ensures computed { IfOk result (λ hand. IsComputed hand × (hand_node hand ≡ Some node)) }
         ensures passed { IfOk result (λ hand. IsTrue (gives_passed hand)) }
         ensures kept { OnErr result (Leads T.times plan.now
-            self.old (Turned node upper.now) self.new (Turned node upper.now)) }
+            self.old (Notified node upper.now) self.new (Notified node upper.now)) }
         ensures refused { IfErr result (IsMemoryOrOverflow
             (IsTooLarge T.times T.cmp
-            plan.now self.old (Turned node upper.now))) }
+            plan.now self.old (Notified node upper.now))) }
     {
         match plan.node(node) {
             Node::Arrange { .. } => {

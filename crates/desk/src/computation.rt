@@ -25,7 +25,7 @@ fn is_computed<T: Minimum>(hand: &Hand<T>) -> bool
     ensures { IsTrue result → IsComputed hand.now }
 {
     match hand {
-        Hand::Taken { .. } | Hand::Turned { .. } => false,
+        Hand::Taken { .. } | Hand::Notified { .. } => false,
         _ => true,
     }
 }
@@ -51,7 +51,7 @@ fn take_laid<T: Minimum>(hand: &mut Hand<T>, node: NodeId, more: bool, laid: Opt
 }
 
 impl<T: Minimum> Desk<T> {
-    // Computes what a bundle makes, or what is to be given at a node that the worker turned to.
+    // Computes what a bundle makes, or what is to be given at a node that the worker notified to.
     fn begin(&mut self, alloc: Global, plan: &Plan, hand: &mut Hand<T>) -> Result<(), Refusal>
         requires someones { IsSomeones T.times plan.now self.old hand.old }
         ensures leads { Leads T.times plan.now
@@ -74,9 +74,9 @@ impl<T: Minimum> Desk<T> {
             take_laid(hand, node, more, laid);
             return Ok(());
         }
-        if let Hand::Turned { node, upper } = &*hand {
-            let turned = self.turn(alloc, plan, *node, upper.as_slice())?;
-            take_in_hand(hand, turned);
+        if let Hand::Notified { node, upper } = &*hand {
+            let notified = self.notify(alloc, plan, *node, upper.as_slice())?;
+            take_in_hand(hand, notified);
         }
         Ok(())
     }
@@ -97,7 +97,7 @@ impl<T: Minimum> Desk<T> {
     }
 
     // Takes what lies on the desk in hand, if it is to be given now.
-    fn settle(&mut self, alloc: Global, plan: &Plan, hand: &mut Hand<T>) -> Result<(), Refusal>
+    fn take_if_due(&mut self, alloc: Global, plan: &Plan, hand: &mut Hand<T>) -> Result<(), Refusal>
         requires someones { IsSomeones T.times plan.now self.old hand.old }
         requires computed { IsComputed hand.old }
         ensures leads { Leads T.times plan.now
@@ -123,7 +123,7 @@ impl<T: Minimum> Desk<T> {
 
     /// Takes the piece in hand as far as it goes without the board. A bundle is laid on the desk,
     /// and what its node makes of it is ready, if it is to be given at once. Where the worker
-    /// turned to a node, what its input frontier has passed is ready, or sealed in a batch.
+    /// notified to a node, what its input frontier has passed is ready, or sealed in a batch.
     ///
     /// Whatever the answer, desk and hand are as right as before, so the call may be made again.
     ///
@@ -137,7 +137,7 @@ impl<T: Minimum> Desk<T> {
     /// reduction a copy of the bundle, and then that of [`operator::Joining`] or
     /// [`operator::Reducing`]. What is given at a node with two sources costs n log n comparisons
     /// in the number of its updates, and a copy only if their diffs together are 2^63 or more. A
-    /// turn costs n log n comparisons in the number of updates that the frontier has passed.
+    /// notification costs n log n comparisons in the number of updates that the frontier has passed.
     pub fn compute(&mut self, alloc: Global, plan: &Plan, hand: &mut Hand<T>) -> Result<(), Refusal>
         requires someones { IsSomeones T.times plan.now self.old hand.old }
         ensures leads { Leads T.times plan.now
@@ -150,9 +150,9 @@ impl<T: Minimum> Desk<T> {
             plan.now self.old hand.old)) }
     {
         if is_computed(hand) {
-            return self.settle(alloc, plan, hand);
+            return self.take_if_due(alloc, plan, hand);
         }
         self.begin(alloc, plan, hand)?;
-        self.settle(alloc, plan, hand)
+        self.take_if_due(alloc, plan, hand)
     }
 }

@@ -2,7 +2,7 @@
 //! then. It goes into the spine only after it was given ([`Desk::put_away`]), but the room for it
 //! is made here.
 //!
-//! A turn tells its frontier by any list of times. A batch ends at an antichain, so the least of
+//! A notification tells its frontier by any list of times. A batch ends at an antichain, so the least of
 //! these times are taken: the same times are beyond both, and nothing else counts.
 ghost use Rattle.std.specs.Prelude.{◌≡◌, ◌≤◌, ◌^◌, ℕ, Some, IfOk, IfErr, OnErr, set, slice_get};
 ghost use Rattle.update.specs.Refusals.{IsMemoryOrOverflow};
@@ -10,7 +10,7 @@ ghost use Rattle.update.specs.Updates.{size};
 ghost use Rattle.plan.specs.Nodes.{node_at};
 ghost use Rattle.plan.specs.declared.node.Node.TheVariants.{Arrange};
 ghost use Rattle.operator.specs.Arrangements.{ArrangementState};
-ghost use Rattle.desk_laws.specs.declared.hand.Hand.TheVariants.{Sealed, Turned};
+ghost use Rattle.desk_laws.specs.declared.hand.Hand.TheVariants.{Sealed, Notified};
 ghost use Rattle.desk.specs.Desks.{IsSomeones, IsTooLarge, Leads};
 ghost use Rattle.desk.specs.Sealings.{IsReserved, IsSealedTo, MaySeal};
 
@@ -83,15 +83,15 @@ impl<T: Minimum> Desk<T> {
         upper: &[T],
     ) -> Result<Batch<T>, Refusal>
         requires someones { IsSomeones T.times plan.now self.old
-            (Turned node upper.now) }
+            (Notified node upper.now) }
         requires arrange { (source : ℕ) × (key : ℕ) × (node_at plan.now node ≡ Arrange source key) }
         ensures leads { IfOk result (λ batch. Leads T.times plan.now
-            self.old (Turned node upper.now) self.new (Sealed node batch)) }
+            self.old (Notified node upper.now) self.new (Sealed node batch)) }
         ensures kept { OnErr result (Leads T.times plan.now
-            self.old (Turned node upper.now) self.new (Turned node upper.now)) }
+            self.old (Notified node upper.now) self.new (Notified node upper.now)) }
         ensures refused { IfErr result (IsMemoryOrOverflow
             (IsTooLarge T.times T.cmp
-            plan.now self.old (Turned node upper.now))) }
+            plan.now self.old (Notified node upper.now))) }
     {
         seal_at(alloc, &self.start, &mut self.arrangements, node, upper)
     }

@@ -14,7 +14,7 @@ ghost use Rattle.antichain.specs.Antichains.{IsFrontier};
 ghost use Rattle.update.specs.Refusals.{OnlyMemory, IsMemoryOrOverflow};
 ghost use Rattle.update.specs.Updates.{size};
 ghost use Rattle.trace.specs.Readings.{Insertion, all_updates};
-ghost use Rattle.spine.specs.Spines.{IsDone, Stands};
+ghost use Rattle.spine.specs.Spines.{IsDone, Represents};
 ghost use Rattle.operator.specs.Arrangements.{ArrangementState, upper_of};
 ghost use Rattle.operator.specs.Joins.{JoiningView};
 ghost use Rattle.desk_laws.specs.Own.{ReadsAt, boundary_at, hold_at, other_port};
@@ -129,7 +129,7 @@ fn settle<T: Minimum>(
         (IsHeldFrom arrangement.new 0 level.now (upper_of arrangement.new.spine)) }
     ensures done { IfOk result (λ done. done ≡ true → IsDone T.times arrangement.new.spine) }
     ensures refused { IfErr result (IsMemoryOrOverflow ((h : List (Insertion T))
-        → Stands T.times arrangement.old.spine h → 2 ^ 63 ≤ size (all_updates h))) }
+        → Represents T.times arrangement.old.spine h → 2 ^ 63 ≤ size (all_updates h))) }
 {
     let _spine = arrangement.trace();
     let upper = arrangement.upper(alloc)?;
@@ -156,7 +156,7 @@ fn settle_at<T: Minimum>(
         × IfOk result (λ done. done ≡ true → IsDone T.times b.spine) }
     ensures refused { (a : ArrangementState T)
         → slice_get arrangements.old.items node ≡ Some (Some a)
-        → IfErr result (IsMemoryOrOverflow ((h : List (Insertion T)) → Stands T.times a.spine h
+        → IfErr result (IsMemoryOrOverflow ((h : List (Insertion T)) → Represents T.times a.spine h
         → 2 ^ 63 ≤ size (all_updates h))) }
 {
     match &mut arrangements[node.number()] {

@@ -19,7 +19,7 @@ use Rattle.histories.proofs.HistoryLemmas.FlowLemmas.{sum_at, sum_at-append}
 use Rattle.operator_laws.specs.ArrangeNodes.{IsArranging}
 use Rattle.operator_laws.specs.GatheredUpdates.{IsGathering, IsSplit}
 use Rattle.operator_laws.specs.JoinNodes.{IsJoining, IsQueued}
-use Rattle.operator_laws.specs.Workers.{Works, IsWorking, IsWorkingAt, IsSameBut}
+use Rattle.operator_laws.specs.Workers.{Holdings, IsWorking, IsWorkingAt, IsSameBut}
 use Rattle.operator_laws.proofs.GatheredLemmas.{size_both, times_both, beyond_both}
 use Rattle.operator_laws.proofs.WorkerLemmas.{all_nodes}
 use Rattle.desk_laws.specs.Own.{AreHolding, DeskView, HasCome, IsArrangedOn, IsHandOn, IsOwn, IsSameAt, IsTakenBefore, hand_node, in_hand_at, is_taken_at, waits_on}
@@ -59,7 +59,7 @@ module _ {T : Type 0} (times : Times T) (o : PartialOrderLaws times) (p : Datafl
 module _ {T : Type 0} (times : Times T) (o : PartialOrderLaws times) (p : Dataflow) (q : IsDataflow p) (w : State T) (k n : ℕ) (within : n < length p.nodes) (d c : DeskView T) (h g : Hand T) (x : IsOwn times p w k d h)
     (hand_h : hand_node h ≡ Some n) (hand_g : hand_node g ≡ Some n) (elsewhere_h : (m : ℕ) → m ≢ n → IsIdleAt m h) (elsewhere_g : (m : ℕ) → m ≢ n → IsIdleAt m g) (desks : (m : ℕ) → m ≢ n → IsSameAt m d c)
     (on : IsHandOn times p c g) (sharing : AreHolding times p c x.keeps.ports) where
-  abbrev works : Works T
+  abbrev works : Holdings T
   works = x.keeps.works
 
   lies : IsLaidAt times p d h x.keeps n
@@ -69,7 +69,7 @@ module _ {T : Type 0} (times : Times T) (o : PartialOrderLaws times) (p : Datafl
   its_hand = x.hand ∙ hand_h
 
   -- a look changes nothing, so the law for events elsewhere serves
-  pub looked_working : (next : Works T) → IsSameBut n works next → ((m : ℕ) → next.inserted m ≡ works.inserted m) → IsWorkingAt times p w k next n (node_of p n) → IsWorking times p w k next
+  pub looked_working : (next : Holdings T) → IsSameBut n works next → ((m : ℕ) → next.inserted m ≡ works.inserted m) → IsWorkingAt times p w k next n (node_of p n) → IsWorking times p w k next
   looked_working next but inserted here =
       all_nodes times o p q w k works next x.keeping.working (Look k) tt n but (λ m ne. refl) (λ m ne. inserted m)
       (λ m l r ne f a b. (
@@ -79,7 +79,7 @@ module _ {T : Type 0} (times : Times T) (o : PartialOrderLaws times) (p : Datafl
       here
 
   -- the worker's own, from what is kept at the node
-  pub computed_with : (next : Works T) → ((m : ℕ) → m ≢ n → AreSameAt m x.keeps (record x.keeps { works = next })) → IsWorking times p w k next → IsLaidAt times p c g (record x.keeps { works = next }) n
+  pub computed_with : (next : Holdings T) → ((m : ℕ) → m ≢ n → AreSameAt m x.keeps (record x.keeps { works = next })) → IsWorking times p w k next → IsLaidAt times p c g (record x.keeps { works = next }) n
       → HasCome times p w k c (record x.keeps { works = next }) g → IsOwn times p w k c g
   computed_with next same working at come = record {
     worker = x.worker;
@@ -104,8 +104,8 @@ module _ {T : Type 0} (times : Times T) (o : PartialOrderLaws times) (p : Datafl
           laid_same times p m d c (desks m ne) x.keeps (record x.keeps { works = next }) (same m ne) h g (elsewhere_h m ne) (elsewhere_g m ne) (at_each times p d h x.keeps x.laid m l)
 
   -- at a linear node: what is in hand and what lies on the desk are parts of what was there
-  module _ (out : List (Update T)) (in_hand_is : (next : Works T) → in_hand_at times p next g n ≡ out) (split : IsSplit times (in_hand_at times p works h n ++ waits_on d n (node_of p n)) out (waits_on c n (node_of p n))) where
-    abbrev next_works : Works T
+  module _ (out : List (Update T)) (in_hand_is : (next : Holdings T) → in_hand_at times p next g n ≡ out) (split : IsSplit times (in_hand_at times p works h n ++ waits_on d n (node_of p n)) out (waits_on c n (node_of p n))) where
+    abbrev next_works : Holdings T
     next_works = with_waiting n (out ++ waits_on c n (node_of p n)) works
 
     pub computed_linear : IsTrue (is_linear (node_of p n)) → ((source key : ℕ) → node_of p n ≡ Arrange source key → (start : List T) (inserted : List (Insertion T)) → IsArrangedOn times p d n start inserted → IsArrangedOn times p c n start inserted)

@@ -21,7 +21,7 @@ use Rattle.plan.specs.declared.node.Node.TheVariants.{Arrange, Reduce}
 use Rattle.plan.proofs.KeyLemmas.{source_arranged}
 use Rattle.plan.proofs.PlanLemmas.{source_smaller}
 use Rattle.trace.specs.Readings.{Insertion, all_updates}
-use Rattle.spine.specs.Spines.{Stands}
+use Rattle.spine.specs.Spines.{Represents}
 use Rattle.histories.specs.declared.event.Event.{Event}
 use Rattle.histories.specs.Histories.{IsLegal, state_after}
 use Rattle.histories.specs.Histories.Dataflows.{Dataflow, IsDataflow, node_of, node_output, source_of}
@@ -29,13 +29,13 @@ use Rattle.histories.specs.Histories.NodeLaws.{received_at, was_passed}
 use Rattle.histories.specs.Histories.States.{State, emitted_by, update_times}
 use Rattle.operator_laws.specs.ArrangeNodes.{IsArranging}
 use Rattle.operator_laws.specs.ReduceNodes.{IsFound}
-use Rattle.operator_laws.specs.Workers.{Works, IsWorkingAt}
+use Rattle.operator_laws.specs.Workers.{Holdings, IsWorkingAt}
 use Rattle.operator_laws.proofs.WorkerLemmas.{has_all}
 use Rattle.operator.specs.Arrangements.{ArrangementState}
 use Rattle.operator.specs.Reductions.{HasRoom, IsReduced, ReducingView, SumsToReceived, pending_of}
 use Rattle.desk_laws.specs.Own.{DeskView, IsArrangedOn, IsOfOneShape, IsOwn, IsReducedOn, IsSameAt, StayHolding}
-use Rattle.desk_laws.specs.declared.hand.Hand.TheVariants.{Ready, Turned}
-use Rattle.desk_laws.proofs.KeptLemmas.{at_each, ready_idle, same_keeps, turned_idle}
+use Rattle.desk_laws.specs.declared.hand.Hand.TheVariants.{Ready, Notified}
+use Rattle.desk_laws.proofs.KeptLemmas.{at_each, ready_idle, same_keeps, notified_idle}
 use Rattle.desk_laws.proofs.ComputedLemmas.{computed_with}
 use Rattle.desk_laws.proofs.ReducedLemmas.{law_at}
 
@@ -46,19 +46,19 @@ is_arrange other key e = absurd (none-some key e)
 module _ {T : Type 0} (times : Times T) (o : PartialOrderLaws times) (laws : LatticeLaws times) (p : Dataflow) (q : IsDataflow p) (h : List (Event T)) (legal : IsLegal times p h) (k : ℕ) (d c : DeskView T) (stay : StayHolding times p d c) (n : ℕ)
     (within : n < length p.nodes) (kind : Kind) (source : ℕ) (e : node_of p n ≡ Reduce kind source) (desks : (m : ℕ) → m ≢ n → IsSameAt m d c) (r s : ReducingView T) (there : slice_get d.reductions n ≡ Some (Some r)) (then : slice_get c.reductions n ≡ Some (Some s)) (shape : IsOfOneShape r s)
     (a : ArrangementState T) (read : slice_get d.arrangements source ≡ Some (Some a)) (upper : List T) (out : List (Update T))
-    (stands : (inserted : List (Insertion T)) (received emitted : List (Update T)) → Stands times a.spine inserted → SumsToReceived times upper (all_updates inserted) received → IsReduced times r received emitted → IsReduced times s received (out ++ emitted))
+    (stands : (inserted : List (Insertion T)) (received emitted : List (Update T)) → Represents times a.spine inserted → SumsToReceived times upper (all_updates inserted) received → IsReduced times r received emitted → IsReduced times s received (out ++ emitted))
     (settled : IsTrue (list_all (λ u. has_passed times upper u.time) out)) (later : IsTrue (all_beyond times upper (pending_of s)))
     (out_beyond : (other : List T) → IsTrue (all_beyond times other (pending_of r)) → IsTrue (all_beyond times other (update_times out)))
     (rest_beyond : (other : List T) → IsTrue (all_beyond times other (pending_of r)) → IsTrue (all_beyond times other (pending_of s)))
-    (x : IsOwn times p (state_after times p h) k d (Turned n upper)) where
+    (x : IsOwn times p (state_after times p h) k d (Notified n upper)) where
   abbrev w : State T
   w = state_after times p h
 
-  abbrev works : Works T
+  abbrev works : Holdings T
   works = x.keeps.works
 
-  abbrev before : IsReducedOn times p d (Turned n upper) x.keeps n kind source
-  before = (at_each times p d (Turned n upper) x.keeps x.laid n within).reducing source kind e
+  abbrev before : IsReducedOn times p d (Notified n upper) x.keeps n kind source
+  before = (at_each times p d (Notified n upper) x.keeps x.laid n within).reducing source kind e
 
   same : before.reduction ≡ r
   same = same_Some before.reduction r (same_Some (Some before.reduction) (Some r) (sym before.there ∙ there))
@@ -86,10 +86,10 @@ module _ {T : Type 0} (times : Times T) (o : PartialOrderLaws times) (laws : Lat
   arrange = is_arrange (node_of p source) (key_width p.nodes (node_of p n)) (source_arranged p.nodes q.plan n 0 source within (ap is_linear e) reads)
 
   abbrev lies : IsArrangedOn times p d source (works.start source) (works.inserted source)
-  lies = (at_each times p d (Turned n upper) x.keeps x.laid source source_within).arranged arrange.0 arrange.1 arrange.2
+  lies = (at_each times p d (Notified n upper) x.keeps x.laid source source_within).arranged arrange.0 arrange.1 arrange.2
 
-  spine_stands : Stands times a.spine (works.inserted source)
-  spine_stands = subst (λ (z : ArrangementState T). Stands times z.spine (works.inserted source)) (same_Some lies.arrangement a (same_Some (Some lies.arrangement) (Some a) (sym lies.there ∙ read))) lies.spine.stands
+  spine_stands : Represents times a.spine (works.inserted source)
+  spine_stands = subst (λ (z : ArrangementState T). Represents times z.spine (works.inserted source)) (same_Some lies.arrangement a (same_Some (Some lies.arrangement) (Some a) (sym lies.there ∙ read))) lies.spine.stands
 
   arranging : IsArranging times p w source k (works.start source) (works.inserted source) (works.waiting source)
   arranging = subst (λ node. IsWorkingAt times p w k works source node) arrange.2 (x.keeping.working source source_within)
@@ -134,13 +134,13 @@ module _ {T : Type 0} (times : Times T) (o : PartialOrderLaws times) (laws : Lat
   -- the answers are ready to be given, and the rest stays pending
   pub found_reduce : IsOwn times p w k c (Ready n out)
   found_reduce =
-      computed_with times o p q w k n within d c (Turned n upper) (Ready n out) x refl refl (λ m ne. turned_idle m n upper) (λ m ne. ready_idle m n out ne) desks (λ z. absurd (true≢false (sym (ap is_reduction e) ∙ z))) (stay x.keeps.ports x.holding) works (λ m ne. same_keeps m x.keeps) x.keeping.working
+      computed_with times o p q w k n within d c (Notified n upper) (Ready n out) x refl refl (λ m ne. notified_idle m n upper) (λ m ne. ready_idle m n out ne) desks (λ z. absurd (true≢false (sym (ap is_reduction e) ∙ z))) (stay x.keeps.ports x.holding) works (λ m ne. same_keeps m x.keeps) x.keeping.working
       (record {
         waiting = λ z. absurd (true≢false (sym (ap is_reduction e) ∙ z));
         arranged = λ other key f. absurd (none-some key (sym (ap arranged_by e) ∙ ap arranged_by f));
         joining = λ a b f. absurd (true≢false (sym (ap is_reduction e) ∙ ap is_reduction f));
         reducing = λ other kind' f.
-            let one = (at_each times p d (Turned n upper) x.keeps x.laid n within).reducing other kind' f in
+            let one = (at_each times p d (Notified n upper) x.keeps x.laid n within).reducing other kind' f in
             let is_r : one.reduction ≡ r = same_Some one.reduction r (same_Some (Some one.reduction) (Some r) (sym one.there ∙ there)) in
             record {
               reduction = s;

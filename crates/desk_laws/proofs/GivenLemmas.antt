@@ -28,7 +28,7 @@ use Rattle.histories.specs.Histories.{IsGive, give_state, with_at}
 use Rattle.operator_laws.specs.GatheredUpdates.{IsInHand, IsSplit, IsHeldFor, IsCut}
 use Rattle.operator_laws.specs.JoinNodes.{IsJoining, IsQueued}
 use Rattle.operator_laws.specs.ReduceNodes.{IsFound, IsReducing}
-use Rattle.operator_laws.specs.Workers.{Works, IsWorking, IsWorkingAt, IsForNoJoin}
+use Rattle.operator_laws.specs.Workers.{Holdings, IsWorking, IsWorkingAt, IsForNoJoin}
 use Rattle.operator_laws.proofs.ArrangeLemmas.{gave_none}
 use Rattle.operator_laws.proofs.GatheredLemmas.{size_both, times_both, beyond_parts, may_give, gave_gathering, no_emission, cut_none}
 use Rattle.operator_laws.proofs.JoinLemmas.{gave_joining}
@@ -69,7 +69,7 @@ module _ {T : Type 0} (times : Times T) (o : PartialOrderLaws times) (p : Datafl
   abbrev v : State T
   v = give_state times p w g held sent
 
-  abbrev works : Works T
+  abbrev works : Holdings T
   works = x.keeps.works
 
   abbrev rest : List (Update T)
@@ -136,7 +136,7 @@ module _ {T : Type 0} (times : Times T) (o : PartialOrderLaws times) (p : Datafl
     pub held_back : IsHeldFor times held (update_times rest)
     held_back = subst (IsHeldFor times held) (due_waits d n (node_of p n) waits) is_held
 
-    abbrev next_works : Works T
+    abbrev next_works : Holdings T
     next_works = with_waiting n rest works
 
     -- a bundle of the port waits no less than before
@@ -239,7 +239,7 @@ module _ {T : Type 0} (times : Times T) (o : PartialOrderLaws times) (p : Datafl
       let hold = subst (IsHeldFor times held) (ap (due_on d n) e) is_held in
       let give = may_answer times o p q w g (works.upper n) (works.pending n) frontier due held sent here its_hand found hold cuts in
       let after = gave_reducing times o p q w g (works.upper n) (works.pending n) frontier due held sent here its_hand found hold cuts in
-      let next_works : Works T = record works { upper = with_at works.upper n frontier; pending = with_at works.pending n due } in
+      let next_works : Holdings T = record works { upper = with_at works.upper n frontier; pending = with_at works.pending n due } in
       let next : Keeps T = record x.keeps { works = next_works; given = with_at x.keeps.given n (us ++ x.keeps.given n) } in
       let upper_is : next_works.upper n ≡ frontier = ap (λ b. cond b frontier (works.upper n)) (eq-eqb n n refl) in
       let pending_is : next_works.pending n ≡ due = ap (λ b. cond b due (works.pending n)) (eq-eqb n n refl) in

@@ -18,7 +18,7 @@ use Rattle.histories.specs.Histories.Dataflows.{Dataflow, IsDataflow, node_of, s
 use Rattle.histories.specs.Histories.States.{State}
 use Rattle.operator_laws.specs.GatheredUpdates.{IsSplit}
 use Rattle.operator_laws.specs.JoinNodes.{IsJoining, on_top}
-use Rattle.operator_laws.specs.Workers.{Works, IsWorkingAt}
+use Rattle.operator_laws.specs.Workers.{Holdings, IsWorkingAt}
 use Rattle.operator.specs.Joins.{JoiningView}
 use Rattle.desk_laws.specs.Own.{DeskView, IsArrangedOn, IsJoinedOn, IsNextBoundary, IsOwn, IsSameAt, in_hand_at, is_taken_at, made_of, made_of_pairs, waits_on, StayHolding}
 use Rattle.desk_laws.specs.declared.hand.Hand.{Hand}
@@ -33,7 +33,7 @@ module _ {T : Type 0} (times : Times T) (o : PartialOrderLaws times) (p : Datafl
   abbrev n : ℕ
   n = bundle.place.node
 
-  abbrev works : Works T
+  abbrev works : Holdings T
   works = x.keeps.works
 
   abbrev hand : Hand T
@@ -77,7 +77,7 @@ module _ {T : Type 0} (times : Times T) (o : PartialOrderLaws times) (p : Datafl
   made_is : (port : ℕ) → bundle.place.port ≡ port → in_hand_at times p works hand n ≡ made_of_pairs times p works n port bundle.updates
   made_is port f = ap (λ b. cond b (made_of times p works bundle (node_of p n)) []) (eq-eqb n n refl) ∙ (ap (made_of times p works bundle) e ∙ ap (λ z. made_of_pairs times p works n z bundle.updates) f)
 
-  abbrev next : Works T
+  abbrev next : Holdings T
   next = with_waiting n rest works
 
   -- the pairs lie on the desk, and the join has taken all that it took, the bundle too

@@ -11,11 +11,11 @@ use Rattle.trace.specs.Readings.{Insertion}
 use Rattle.histories.specs.declared.event.Bundle.{Bundle}
 use Rattle.histories.specs.Histories.Dataflows.{Dataflow, node_of}
 use Rattle.histories.specs.Histories.States.{update_times}
-use Rattle.operator_laws.specs.Workers.{Works}
+use Rattle.operator_laws.specs.Workers.{Holdings}
 use Rattle.operator.specs.Reductions.{pending_of, IsReduced}
 use Rattle.desk_laws.specs.Own.{DeskView, Keeps, IsArrangedOn, IsSpineAt, IsJoinedOn, IsReducedOn, IsSameAt, IsTakenBefore, IsLaid, gathered_in, in_hand_at, is_taken_at, is_ready_at, taken_at, ready_at, made_of, waiting_in, waits_on}
 use Rattle.desk_laws.specs.declared.hand.Hand.{Hand}
-use Rattle.desk_laws.specs.declared.hand.Hand.TheVariants.{Free, Taken, Kept, Turned, Ready, Sealed}
+use Rattle.desk_laws.specs.declared.hand.Hand.TheVariants.{Free, Taken, Kept, Notified, Ready, Sealed}
 use Rattle.lattice.specs.Times.{Times}
 
 module _ {T : Type 0} where
@@ -36,7 +36,7 @@ module _ {T : Type 0} where
     pub bundle : taken_at h m ≡ []
     pub ready : ready_at h m ≡ []
     pub not_ready : is_ready_at h m ≡ false
-    pub nothing : (times : Times T) (p : Dataflow) (works : Works T) → in_hand_at times p works h m ≡ []
+    pub nothing : (times : Times T) (p : Dataflow) (works : Holdings T) → in_hand_at times p works h m ≡ []
 
   pub same_desk : (m : ℕ) (d : DeskView T) → IsSameAt m d d
   same_desk m d = record { gathered = refl; arrangements = refl; joins = refl; reductions = refl }
@@ -50,8 +50,8 @@ module _ {T : Type 0} where
   pub kept_idle : (m node : ℕ) (more : Bool) → IsIdleAt m (Kept node more)
   kept_idle m node more = record { taken = λ port. refl; bundle = refl; ready = refl; not_ready = refl; nothing = λ times p works. refl }
 
-  pub turned_idle : (m node : ℕ) (upper : List T) → IsIdleAt m (Turned node upper)
-  turned_idle m node upper = record { taken = λ port. refl; bundle = refl; ready = refl; not_ready = refl; nothing = λ times p works. refl }
+  pub notified_idle : (m node : ℕ) (upper : List T) → IsIdleAt m (Notified node upper)
+  notified_idle m node upper = record { taken = λ port. refl; bundle = refl; ready = refl; not_ready = refl; nothing = λ times p works. refl }
 
   pub taken_idle : (m : ℕ) (bundle : Bundle T) (more : Bool) → m ≢ bundle.place.node → IsIdleAt m (Taken bundle more)
   taken_idle m bundle more ne =

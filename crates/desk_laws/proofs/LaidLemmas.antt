@@ -17,10 +17,10 @@ use Rattle.histories.specs.declared.event.Bundle.{Bundle}
 use Rattle.histories.specs.Histories.Dataflows.{Dataflow, IsDataflow, node_of}
 use Rattle.histories.specs.Histories.States.{State}
 use Rattle.operator_laws.specs.GatheredUpdates.{IsSplit}
-use Rattle.desk_laws.specs.Own.{DeskView, HasTurnedTo, IsArrangedOn, IsNextBatch, IsOwn, IsSameAt, StayHolding, hand_node, in_hand_at, made_of, waits_on}
+use Rattle.desk_laws.specs.Own.{DeskView, WasNotifiedAt, IsArrangedOn, IsNextBatch, IsOwn, IsSameAt, StayHolding, hand_node, in_hand_at, made_of, waits_on}
 use Rattle.desk_laws.specs.declared.hand.Hand.{Hand}
-use Rattle.desk_laws.specs.declared.hand.Hand.TheVariants.{Kept, Ready, Sealed, Taken, Turned}
-use Rattle.desk_laws.proofs.KeptLemmas.{IsIdleAt, kept_idle, ready_idle, sealed_idle, taken_idle, turned_idle}
+use Rattle.desk_laws.specs.declared.hand.Hand.TheVariants.{Kept, Ready, Sealed, Taken, Notified}
+use Rattle.desk_laws.proofs.KeptLemmas.{IsIdleAt, kept_idle, ready_idle, sealed_idle, taken_idle, notified_idle}
 use Rattle.desk_laws.proofs.TakenLemmas.{made_linear}
 use Rattle.desk_laws.proofs.ComputedLemmas.{computed_join, computed_linear}
 
@@ -60,15 +60,15 @@ module _ {T : Type 0} (times : Times T) (o : PartialOrderLaws times) (p : Datafl
     pub ready_from_kept : (more : Bool) → arranged_by (node_of p n) ≡ None → is_reduction (node_of p n) ≡ false → slice_get c.joins n ≡ slice_get d.joins n → waits_on c n (node_of p n) ≡ [] → IsOwn times p w k d (Kept n more) → IsOwn times p w k c (Ready n out)
     ready_from_kept more plain waits joins_same all x = ready_from (Kept n more) refl (λ m. kept_idle m n more) plain waits joins_same all x
 
-    pub ready_from_turned : (upper : List T) → arranged_by (node_of p n) ≡ None → is_reduction (node_of p n) ≡ false → slice_get c.joins n ≡ slice_get d.joins n → waits_on c n (node_of p n) ≡ [] → IsOwn times p w k d (Turned n upper) → IsOwn times p w k c (Ready n out)
-    ready_from_turned upper plain waits joins_same all x = ready_from (Turned n upper) refl (λ m. turned_idle m n upper) plain waits joins_same all x
+    pub ready_from_notified : (upper : List T) → arranged_by (node_of p n) ≡ None → is_reduction (node_of p n) ≡ false → slice_get c.joins n ≡ slice_get d.joins n → waits_on c n (node_of p n) ≡ [] → IsOwn times p w k d (Notified n upper) → IsOwn times p w k c (Ready n out)
+    ready_from_notified upper plain waits joins_same all x = ready_from (Notified n upper) refl (λ m. notified_idle m n upper) plain waits joins_same all x
 
     -- a batch of what waits at an arrange node is in hand
     pub sealed_lem : (source key : ℕ) → node_of p n ≡ Arrange source key → (upper : List T) (batch : BatchState T) → batch.updates ≡ out → batch.description.upper ≡ upper
         → ((start : List T) (inserted : List (Insertion T)) → IsArrangedOn times p d n start inserted → IsArrangedOn times p c n start inserted)
-        → IsNextBatch times p c n batch → IsOwn times p w k d (Turned n upper) → IsOwn times p w k c (Sealed n batch)
+        → IsNextBatch times p c n batch → IsOwn times p w k d (Notified n upper) → IsOwn times p w k c (Sealed n batch)
     sealed_lem source key e upper batch same_out same_upper arranged next x =
         let here_is : cond (eqb n n) batch.updates [] ≡ out = ap (λ b. cond b batch.updates []) (eq-eqb n n refl) ∙ same_out in
-        computed_linear times o p q w k n within d c (Turned n upper) (Sealed n batch) x refl refl (λ m ne. turned_idle m n upper) (λ m ne. sealed_idle m n batch ne) desks next (stay x.keeps.ports x.holding) out (λ works. here_is)
+        computed_linear times o p q w k n within d c (Notified n upper) (Sealed n batch) x refl refl (λ m ne. notified_idle m n upper) (λ m ne. sealed_idle m n batch ne) desks next (stay x.keeps.ports x.holding) out (λ works. here_is)
         split (ap is_linear e) (λ source key f start inserted. arranged start inserted)
-        (subst (HasTurnedTo times p w k x.keeps n) (sym same_upper) x.come)
+        (subst (WasNotifiedAt times p w k x.keeps n) (sym same_upper) x.come)

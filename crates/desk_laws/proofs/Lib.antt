@@ -4,7 +4,7 @@ pub mod OthersLemmas
 pub mod KeptLemmas
 pub mod TakenAtLemmas
 pub mod TakenLemmas
-pub mod TurnedLemmas
+pub mod NotifiedLemmas
 pub mod GivenLemmas
 pub mod ComputedLemmas
 pub mod LaidLemmas

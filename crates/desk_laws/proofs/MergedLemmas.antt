@@ -14,7 +14,7 @@ use Rattle.histories.specs.Histories.Promises.{NeverGoesBack}
 use Rattle.histories.specs.Histories.States.{State}
 use Rattle.desk_laws.specs.Own.{AreHolding, DeskView, HasCome, IsHandOn, IsMergedAt, IsOwn, Keeps, StayHolding, gathered_in, in_hand_at, other_port, waits_on}
 use Rattle.desk_laws.specs.declared.hand.Hand.{Hand}
-use Rattle.desk_laws.specs.declared.hand.Hand.TheVariants.{Free, Ready, Sealed, Taken, Turned}
+use Rattle.desk_laws.specs.declared.hand.Hand.TheVariants.{Free, Ready, Sealed, Taken, Notified}
 use Rattle.desk_laws.proofs.KeptLemmas.{at_each, of_each}
 
 -- ---- how far the ports' frontiers have come
@@ -66,7 +66,7 @@ module _ {T : Type 0} (times : Times T) (p : Dataflow) (d c : DeskView T) (merge
   still_waits n other = ap gathered_in (merged n).gathered
 
   still_come : (w : State T) (k : ℕ) (keeps : Keeps T) (h : Hand T) → HasCome times p w k d keeps h → HasCome times p w k c keeps h
-  still_come w k keeps (Turned node upper) x = x
+  still_come w k keeps (Notified node upper) x = x
   still_come w k keeps (Sealed node batch) x = x
   still_come w k keeps (Ready node updates) x = λ source kind e.
       let f = x source kind e in

@@ -28,10 +28,10 @@ use Rattle.operator_laws.proofs.ArrangeLemmas.{stays_passed}
 use Rattle.operator_laws.proofs.PortLemmas.{port_stays}
 use Rattle.operator_laws.proofs.ReduceLemmas.{all_still_were}
 use Rattle.operator_laws.proofs.WorkerLemmas.{same_working}
-use Rattle.desk_laws.specs.Own.{DeskView, Keeps, HasCome, HasTurned, IsOwn}
+use Rattle.desk_laws.specs.Own.{DeskView, Keeps, HasCome, WasNotified, IsOwn}
 use Rattle.desk_laws.specs.Observed.{AreBeyondNewest}
 use Rattle.desk_laws.specs.declared.hand.Hand.{Hand}
-use Rattle.desk_laws.specs.declared.hand.Hand.TheVariants.{Taken, Turned, Ready, Sealed}
+use Rattle.desk_laws.specs.declared.hand.Hand.TheVariants.{Taken, Notified, Ready, Sealed}
 
 other_by : {T : Type 0} (k : ℕ) (e : Event T) → actor_of e ≢ k → is_by k e ≡ false
 other_by k (Take number bundle) ne = ne_eqb bundle.place.worker k ne
@@ -65,13 +65,13 @@ module _ {T : Type 0} (times : Times T) (o : PartialOrderLaws times) (p : Datafl
     newest_on n ts h = subst (λ (os : List (ObservedFrontier T)). IfSome (slice_get (filter (λ l. eqb l.node n) os) 0) (λ l. IsTrue (all_beyond times l.frontier ts))) (sym s.observed) h
 
     -- an input frontier that had come so far has done so
-    turned_on : (n : ℕ) (answered ended upper : List T) → HasTurned times p w k n answered ended upper → HasTurned times p (next_state times p w e) k n answered ended upper
-    turned_on n answered ended upper c = record { come = stays_passed times o p q w e a n upper c.come; was = λ t h. still_was n t (c.was t h); newest = newest_on n upper c.newest; after = c.after; on = c.on }
+    notified_on : (n : ℕ) (answered ended upper : List T) → WasNotified times p w k n answered ended upper → WasNotified times p (next_state times p w e) k n answered ended upper
+    notified_on n answered ended upper c = record { come = stays_passed times o p q w e a n upper c.come; was = λ t h. still_was n t (c.was t h); newest = newest_on n upper c.newest; after = c.after; on = c.on }
 
     -- so does what the piece in hand says of the state
     pub come_on : (d : DeskView T) (keeps : Keeps T) (h : Hand T) → HasCome times p w k d keeps h → HasCome times p (next_state times p w e) k d keeps h
-    come_on d keeps (Turned node upper) c = turned_on node (keeps.works.upper node) (reached (keeps.works.start node) (keeps.works.inserted node)) upper c
-    come_on d keeps (Sealed node batch) c = turned_on node (keeps.works.upper node) (reached (keeps.works.start node) (keeps.works.inserted node)) batch.description.upper c
+    come_on d keeps (Notified node upper) c = notified_on node (keeps.works.upper node) (reached (keeps.works.start node) (keeps.works.inserted node)) upper c
+    come_on d keeps (Sealed node batch) c = notified_on node (keeps.works.upper node) (reached (keeps.works.start node) (keeps.works.inserted node)) batch.description.upper c
     come_on d keeps (Ready node updates) c = λ source kind at.
         let f = c source kind at in
         record {

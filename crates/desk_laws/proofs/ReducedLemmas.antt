@@ -24,7 +24,7 @@ use Rattle.histories.specs.Histories.Dataflows.{Dataflow, IsDataflow, node_of, n
 use Rattle.histories.specs.Histories.NodeLaws.{received_at}
 use Rattle.histories.specs.Histories.States.{State, emitted_by, held_at, update_times}
 use Rattle.operator_laws.specs.ReduceNodes.{IsReducing}
-use Rattle.operator_laws.specs.Workers.{Works, IsWorkingAt}
+use Rattle.operator_laws.specs.Workers.{Holdings, IsWorkingAt}
 use Rattle.operator.specs.Reductions.{HasRoom, IsPendingAfter, IsReduced, ReducingView, pending_of}
 use Rattle.operator.proofs.ReductionLemmas.{answer_at}
 use Rattle.desk_laws.specs.Own.{DeskView, IsOfOneShape, IsOwn, IsReducedOn, IsSameAt, StayHoldingWith}
@@ -69,9 +69,9 @@ module _ {T : Type 0} (times : Times T) (o : PartialOrderLaws times) (laws : Lat
         tight = λ ne. absurd (ne hand);
       }
 
-module _ {T : Type 0} (n : ℕ) (more : List T) (works : Works T) where
+module _ {T : Type 0} (n : ℕ) (more : List T) (works : Holdings T) where
   -- these times are pending at a node
-  abbrev with_pending : Works T
+  abbrev with_pending : Holdings T
   with_pending = record works { pending = with_at works.pending n more }
 
   pending_there : with_pending.pending n ≡ more
@@ -88,10 +88,10 @@ module _ {T : Type 0} (times : Times T) (o : PartialOrderLaws times) (laws : Lat
   abbrev us : List (Update T)
   us = bundle.updates
 
-  abbrev works : Works T
+  abbrev works : Holdings T
   works = x.keeps.works
 
-  abbrev next : Works T
+  abbrev next : Holdings T
   next = with_pending n (pending_of s) works
 
   is_r : (other : ℕ) (kind' : Kind) (f : node_of p n ≡ Reduce kind' other) → ((at_each times p d (Taken bundle more) x.keeps x.laid n within).reducing other kind' f).reduction ≡ r

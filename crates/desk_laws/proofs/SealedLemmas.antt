@@ -18,7 +18,7 @@ use Rattle.histories.specs.Histories.States.{State, update_times}
 use Rattle.histories.specs.Histories.{IsGive, give_state, with_at}
 use Rattle.operator_laws.specs.ArrangeNodes.{IsArranging}
 use Rattle.operator_laws.specs.GatheredUpdates.{IsHeldFor, IsCut, IsSplit, IsInHand}
-use Rattle.operator_laws.specs.Workers.{Works}
+use Rattle.operator_laws.specs.Workers.{Holdings}
 use Rattle.operator_laws.proofs.ArrangeLemmas.{may_insert, gave_arranging, gave_none}
 use Rattle.operator_laws.proofs.GatheredLemmas.{cut_none, held_beyond, no_emission}
 use Rattle.operator_laws.proofs.WorkerLemmas.{inserts_lem, gives_lem}
@@ -33,7 +33,7 @@ module _ {T : Type 0} (times : Times T) (o : PartialOrderLaws times) (p : Datafl
   abbrev given : Emission T
   given = record { node = n; worker = k; updates = batch.updates }
 
-  abbrev works : Works T
+  abbrev works : Holdings T
   works = x.keeps.works
 
   abbrev rest : List (Update T)
@@ -85,7 +85,7 @@ module _ {T : Type 0} (times : Times T) (o : PartialOrderLaws times) (p : Datafl
       let inserted = works.inserted n in
       let v = give_state times p w given held sent in
       let give = may_insert times o p q w given sent start inserted (works.waiting n) rest held arranging its_hand parts hold cuts in
-      let next_works : Works T = record works { waiting = with_at works.waiting n rest; inserted = with_at works.inserted n (goes_in ∷ inserted) } in
+      let next_works : Holdings T = record works { waiting = with_at works.waiting n rest; inserted = with_at works.inserted n (goes_in ∷ inserted) } in
       let new : next_works.inserted n ≡ goes_in ∷ inserted = ap (λ b. cond b (goes_in ∷ inserted) inserted) (eq-eqb n n refl) in
       let waiting_is : next_works.waiting n ≡ rest = ap (λ b. cond b rest (works.waiting n)) (eq-eqb n n refl) in
       let after = gave_arranging times o p q w given sent start inserted (works.waiting n) rest held arranging its_hand parts hold cuts batch.description.upper x.come.come x.on.rest in

@@ -19,7 +19,7 @@ use Rattle.histories.specs.Histories.{IsTake, next_state, with_at}
 use Rattle.operator_laws.specs.GatheredUpdates.{IsStamped}
 use Rattle.operator_laws.specs.JoinNodes.{IsAnswer, IsJoining, IsQueued}
 use Rattle.operator_laws.specs.ReduceNodes.{IsReducing, IsPendingWith}
-use Rattle.operator_laws.specs.Workers.{Works, IsWorking, IsWorkingAt}
+use Rattle.operator_laws.specs.Workers.{Holdings, IsWorking, IsWorkingAt}
 use Rattle.operator_laws.proofs.JoinLemmas.{took_left, took_right}
 use Rattle.operator_laws.proofs.QueueLemmas.{queued_on}
 use Rattle.operator_laws.proofs.ReduceLemmas.{took_reducing}
@@ -45,15 +45,15 @@ module _ {T : Type 0} (times : Times T) (o : PartialOrderLaws times) (join_below
   abbrev v : State T
   v = next_state times p w (Take 0 bundle)
 
-  module _ (l r : ℕ) (join : node_of p n ≡ Join l r) (works : Works T) (is : IsWorking times p w k works) (out : List (Update T)) where
+  module _ (l r : ℕ) (join : node_of p n ≡ Join l r) (works : Holdings T) (is : IsWorking times p w k works) (out : List (Update T)) where
     here : IsWorkingAt times p w k works n (Join l r)
     here = subst (λ node. IsWorkingAt times p w k works n node) join (is n within)
 
     -- the join took this at its left port, and what it answers waits
-    abbrev pub with_left : Insertion T → Works T
+    abbrev pub with_left : Insertion T → Holdings T
     with_left i = record works { left = with_at works.left n (i ∷ works.left n); waiting = with_at works.waiting n (out ++ works.waiting n) }
 
-    abbrev pub with_right : Insertion T → Works T
+    abbrev pub with_right : Insertion T → Holdings T
     with_right i = record works { right = with_at works.right n (i ∷ works.right n); waiting = with_at works.waiting n (out ++ works.waiting n) }
 
     pub left_taken : bundle.place.port ≡ 0 → IsAnswer times (pairs times (key_width p.nodes (node_of p n)) bundle.updates (all_updates (works.right n))) bundle.updates (all_updates (works.right n)) out
@@ -111,8 +111,8 @@ module _ {T : Type 0} (times : Times T) (o : PartialOrderLaws times) (join_below
         )
 
   -- at a reduction the times of the bundle are pending from its take on
-  module _ (kind : Kind) (s : ℕ) (reduce : node_of p n ≡ Reduce kind s) (works : Works T) (is : IsWorking times p w k works) where
-    abbrev pub with_pending : List T → Works T
+  module _ (kind : Kind) (s : ℕ) (reduce : node_of p n ≡ Reduce kind s) (works : Holdings T) (is : IsWorking times p w k works) where
+    abbrev pub with_pending : List T → Holdings T
     with_pending more = record works { pending = with_at works.pending n more }
 
     pub reduce_taken : (more : List T) → IsPendingWith times (works.pending n) bundle.updates more → IsWorking times p v k (with_pending more)

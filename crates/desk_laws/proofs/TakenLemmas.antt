@@ -36,7 +36,7 @@ use Rattle.operator_laws.specs.ArrangeNodes.{IsArranging}
 use Rattle.operator_laws.specs.GatheredUpdates.{IsGathering, IsStamped}
 use Rattle.operator_laws.specs.JoinNodes.{IsAnswer}
 use Rattle.operator_laws.specs.ReduceNodes.{IsPendingWith}
-use Rattle.operator_laws.specs.Workers.{Works, IsWorking, IsWorkingAt, IsSameBut}
+use Rattle.operator_laws.specs.Workers.{Holdings, IsWorking, IsWorkingAt, IsSameBut}
 use Rattle.operator_laws.proofs.ArrangeLemmas.{took_arranging}
 use Rattle.operator_laws.proofs.GatheredLemmas.{took_gathering, linear_piece_lem, beyond_both}
 use Rattle.operator_laws.proofs.PortLemmas.{port_stays, port_taken}
@@ -50,13 +50,13 @@ use Rattle.desk_laws.proofs.KeptLemmas.{AreSameAt, IsLaidAt, at_each, of_each, f
 
 -- ---- what a worker keeps at a linear node
 
-abbrev pub with_waiting : {T : Type 0} → ℕ → List (Update T) → Works T → Works T
+abbrev pub with_waiting : {T : Type 0} → ℕ → List (Update T) → Holdings T → Holdings T
 with_waiting n us works = record works { waiting = with_at works.waiting n us }
 
-pub waiting_there : {T : Type 0} (n : ℕ) (us : List (Update T)) (works : Works T) → (with_waiting n us works).waiting n ≡ us
+pub waiting_there : {T : Type 0} (n : ℕ) (us : List (Update T)) (works : Holdings T) → (with_waiting n us works).waiting n ≡ us
 waiting_there n us works = ap (λ b. cond b us (works.waiting n)) (eq-eqb n n refl)
 
-pub same_but : {T : Type 0} (n : ℕ) (us : List (Update T)) (works : Works T) → IsSameBut n works (with_waiting n us works)
+pub same_but : {T : Type 0} (n : ℕ) (us : List (Update T)) (works : Holdings T) → IsSameBut n works (with_waiting n us works)
 same_but n us works = record {
   waiting = λ m d. ap (λ b. cond b us (works.waiting m)) (ne_eqb m n d);
   start = λ m d. refl;
@@ -66,7 +66,7 @@ same_but n us works = record {
   pending = λ m d. refl;
 }
 
-module _ {T : Type 0} (times : Times T) (p : Dataflow) (w : State T) (k : ℕ) (works : Works T) where
+module _ {T : Type 0} (times : Times T) (p : Dataflow) (w : State T) (k : ℕ) (works : Holdings T) where
   pub gathering_at : (n : ℕ) → IsTrue (is_linear (node_of p n)) → IsWorkingAt times p w k works n (node_of p n) → IsGathering times p w n k (works.waiting n)
   gathering_at n linear x = step (node_of p n) linear x
     where
@@ -102,7 +102,7 @@ port_within node port some h = ⊎_elim (λ e. let z = eqb-true port 0 e in omeg
 
 -- ---- what a bundle makes
 
-module _ {T : Type 0} (times : Times T) (p : Dataflow) (works : Works T) (bundle : Bundle T) where
+module _ {T : Type 0} (times : Times T) (p : Dataflow) (works : Holdings T) (bundle : Bundle T) where
   pub made_linear : (node : Node) → IsTrue (is_linear node) → made_of times p works bundle node ≡ linear_output node bundle.updates
   made_linear (Join l r) h = absurd (false≢true h)
   made_linear other h = refl
@@ -148,7 +148,7 @@ module _ {T : Type 0} (times : Times T) (o : PartialOrderLaws times) (p : Datafl
   abbrev h : Hand T
   h = Taken bundle more
 
-  abbrev works : Works T
+  abbrev works : Holdings T
   works = x.keeps.works
 
   here : IsLaidAt times p d Free x.keeps n
@@ -159,7 +159,7 @@ module _ {T : Type 0} (times : Times T) (o : PartialOrderLaws times) (p : Datafl
   waited r = here.waiting r
 
   -- what the bundle makes is in hand
-  made_there : (next : Works T) → in_hand_at times p next h n ≡ made_of times p next bundle (node_of p n)
+  made_there : (next : Holdings T) → in_hand_at times p next h n ≡ made_of times p next bundle (node_of p n)
   made_there next = ap (λ b. cond b (made_of times p next bundle (node_of p n)) []) (eq-eqb n n refl)
 
   elsewhere_received : (m : ℕ) → m ≢ n → received_at v m k 0 ≡ received_at w m k 0
@@ -253,7 +253,7 @@ module _ {T : Type 0} (times : Times T) (o : PartialOrderLaws times) (join_below
   abbrev at_node : ℕ
   at_node = bundle.place.node
 
-  abbrev own_works : Works T
+  abbrev own_works : Holdings T
   own_works = x.keeps.works
 
   abbrev width : ℕ
@@ -284,7 +284,7 @@ module _ {T : Type 0} (times : Times T) (o : PartialOrderLaws times) (join_below
       no_reduction : {A : Type 0} → (source : ℕ) (kind : Kind) → node_of p at_node ≡ Reduce kind source → A
       no_reduction source kind f = absurd (false≢true (sym not_reduced ∙ ap is_reduction f))
 
-      made_is : (next : Works T) (port : ℕ) → bundle.place.port ≡ port → made_of times p next bundle (node_of p at_node) ≡ made_of_pairs times p next at_node port bundle.updates
+      made_is : (next : Holdings T) (port : ℕ) → bundle.place.port ≡ port → made_of times p next bundle (node_of p at_node) ≡ made_of_pairs times p next at_node port bundle.updates
       made_is next port f = ap (made_of times p next bundle) e ∙ ap (λ i. made_of_pairs times p next at_node i bundle.updates) f
 
       by : (i : ℕ) → bundle.place.port ≡ i → IsTrue (is_port (Join l r) bundle.place.port) → IsOwn times p (next_state times p w (Take 0 bundle)) bundle.place.worker d hand

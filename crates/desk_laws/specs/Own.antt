@@ -20,7 +20,7 @@ use Rattle.batch.specs.Descriptions.{BatchState}
 use Rattle.trace.specs.Readings.{Insertion, all_updates, reached}
 use Rattle.trace.specs.BatchLists.{Continues}
 use Rattle.trace.specs.Holds.{HoldState}
-use Rattle.spine.specs.Spines.{Stands}
+use Rattle.spine.specs.Spines.{Represents}
 use Rattle.join.specs.Pairs.{pairs}
 use Rattle.histories.specs.declared.event.Bundle.{Bundle}
 use Rattle.histories.specs.Histories.Dataflows.{Dataflow, node_of, source_of}
@@ -33,10 +33,10 @@ use Rattle.operator.specs.Joins.{JoiningView}
 use Rattle.operator.specs.Reductions.{ReducingView, HasRoom, IsReduced, pending_of}
 use Rattle.operator_laws.specs.JoinNodes.{on_top}
 use Rattle.operator_laws.specs.ReduceNodes.{IsFound}
-use Rattle.operator_laws.specs.Workers.{Works, IsWorking, first_works}
+use Rattle.operator_laws.specs.Workers.{Holdings, IsWorking, first_holdings}
 use Rattle.desk_laws.specs.Observed.{AreBeyondNewest}
 use Rattle.desk_laws.specs.declared.hand.Hand.{Hand}
-use Rattle.desk_laws.specs.declared.hand.Hand.TheVariants.{Free, Taken, Kept, Turned, Ready, Sealed}
+use Rattle.desk_laws.specs.declared.hand.Hand.TheVariants.{Free, Taken, Kept, Notified, Ready, Sealed}
 
 -- by node: what was gathered there, the arrangement of an arrange node, the join and the reduction
 pub record DeskView (T : Type 0) : Type 0 where
@@ -48,14 +48,14 @@ pub record DeskView (T : Type 0) : Type 0 where
 -- what a worker keeps at all nodes, at each reduction all that it received and gave there, and for
 -- each port of a node a frontier that the port's input frontier has reached
 pub record Keeps (T : Type 0) : Type 0 where
-  pub works : Works T
+  pub works : Holdings T
   pub received : ℕ → List (Update T)
   pub given : ℕ → List (Update T)
   pub ports : ℕ → ℕ → List T
 
 -- what a worker keeps before the first event
 abbrev pub first_keeps : {T : Type 0} → T → Keeps T
-first_keeps minimum = record { works = first_works minimum; received = λ _. []; given = λ _. []; ports = λ _ _. minimum ∷ [] }
+first_keeps minimum = record { works = first_holdings minimum; received = λ _. []; given = λ _. []; ports = λ _ _. minimum ∷ [] }
 
 module _ {T : Type 0} where
   -- the node of the piece in hand
@@ -63,7 +63,7 @@ module _ {T : Type 0} where
   hand_node Free = None
   hand_node (Taken bundle more) = Some bundle.place.node
   hand_node (Kept node more) = Some node
-  hand_node (Turned node upper) = Some node
+  hand_node (Notified node upper) = Some node
   hand_node (Ready node updates) = Some node
   hand_node (Sealed node batch) = Some node
 
@@ -80,7 +80,7 @@ module _ {T : Type 0} where
   -- with this in hand the worker gives all that the input frontier had passed when it took there.
   -- Of what a bundle made it may hold back more
   abbrev pub gives_passed : Hand T → Bool
-  gives_passed (Turned node upper) = true
+  gives_passed (Notified node upper) = true
   gives_passed (Ready node updates) = true
   gives_passed (Sealed node batch) = true
   gives_passed other = false
@@ -120,7 +120,7 @@ module _ {T : Type 0} where
   ready_at (Sealed node batch) n = if eqb n node then batch.updates else []
   ready_at other n = []
 
-  module _ (times : Times T) (p : Dataflow) (works : Works T) where
+  module _ (times : Times T) (p : Dataflow) (works : Holdings T) where
     -- what a bundle makes at its node: at a join the pairs with all that was taken at the other
     -- port
     abbrev pub made_of_pairs : ℕ → ℕ → List (Update T) → List (Update T)
@@ -251,7 +251,7 @@ module _ {T : Type 0} (times : Times T) where
   pub record IsSpineAt (p : Dataflow) (n : ℕ) (inserted : List (Insertion T)) (a : ArrangementState T) : Type 0 where
     pub width : a.width ≡ width_of p.nodes n
     pub start : a.spine.list.start ≡ times.least ∷ []
-    pub stands : Stands times a.spine inserted
+    pub stands : Represents times a.spine inserted
     pub in_turn : AreInTurn times (times.least ∷ []) inserted
     pub «open» : IsOpen times a.spine inserted
 
@@ -264,7 +264,7 @@ module _ {T : Type 0} (times : Times T) where
       pub begins : start ≡ times.least ∷ []
 
     -- there is a join, which has taken all up to its boundaries but for the bundle in hand
-    pub record IsJoinedOn (h : Hand T) (works : Works T) (n l r : ℕ) : Type 0 where
+    pub record IsJoinedOn (h : Hand T) (works : Holdings T) (n l r : ℕ) : Type 0 where
       pub join : JoiningView T
       pub there : slice_get d.joins n ≡ Some (Some join)
       pub key : join.state.key ≡ key_width p.nodes (node_of p n)
@@ -355,7 +355,7 @@ module _ {T : Type 0} (times : Times T) where
   -- there. At its newest take there it had come no further.
   -- At an arrange node it is not behind where the last insertion ended, and at a reduction not
   -- behind the frontier up to which was answered before
-  pub record HasTurned (p : Dataflow) (w : State T) (k n : ℕ) (answered ended upper : List T) : Type 0 where
+  pub record WasNotified (p : Dataflow) (w : State T) (k n : ℕ) (answered ended upper : List T) : Type 0 where
     pub come : NeverGoesBack times upper (input_frontier times p w n)
     pub was : (t : T) → IsTrue (has_passed times upper t) → IsTrue (was_passed times n k w.observed t)
     pub newest : AreBeyondNewest times n k w.observed upper
@@ -363,15 +363,15 @@ module _ {T : Type 0} (times : Times T) where
     pub on : (source : ℕ) (kind : Kind) → node_of p n ≡ Reduce kind source → NeverGoesBack times answered upper
 
   -- the same, from what the worker keeps at the node
-  abbrev pub HasTurnedTo : Dataflow → State T → ℕ → Keeps T → ℕ → List T → Type 0
-  HasTurnedTo p w k keeps n upper =
-      HasTurned p w k n (keeps.works.upper n) (reached (keeps.works.start n) (keeps.works.inserted n)) upper
+  abbrev pub WasNotifiedAt : Dataflow → State T → ℕ → Keeps T → ℕ → List T → Type 0
+  WasNotifiedAt p w k keeps n upper =
+      WasNotified p w k n (keeps.works.upper n) (reached (keeps.works.start n) (keeps.works.inserted n)) upper
 
   -- what the piece in hand says of the state: how far an input frontier has come, or had come when
   -- the bundle was taken, or what was found
   abbrev pub HasCome : Dataflow → State T → ℕ → DeskView T → Keeps T → Hand T → Type 0
-  HasCome p w k d keeps (Turned node upper) = HasTurnedTo p w k keeps node upper
-  HasCome p w k d keeps (Sealed node batch) = HasTurnedTo p w k keeps node batch.description.upper
+  HasCome p w k d keeps (Notified node upper) = WasNotifiedAt p w k keeps node upper
+  HasCome p w k d keeps (Sealed node batch) = WasNotifiedAt p w k keeps node batch.description.upper
   HasCome p w k d keeps (Taken bundle more) =
       IsTrue (all_beyond times (keeps.ports bundle.place.node bundle.place.port) (update_times bundle.updates))
   HasCome p w k d keeps (Ready node updates) = (source : ℕ) (kind : Kind) → node_of p node ≡ Reduce kind source

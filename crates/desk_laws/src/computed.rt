@@ -11,7 +11,7 @@ ghost use Rattle.plan.specs.declared.node.Node.TheVariants.{Arrange, Join, Reduc
 ghost use Rattle.batch.specs.Descriptions.{BatchState};
 ghost use Rattle.trace.specs.Readings.{Insertion, all_updates, reached};
 ghost use Rattle.join.specs.Pairs.{pairs};
-ghost use Rattle.spine.specs.Spines.{Stands};
+ghost use Rattle.spine.specs.Spines.{Represents};
 ghost use Rattle.linear.specs.Applied.{linear_output};
 ghost use Rattle.histories.specs.declared.event.Bundle.{Bundle};
 ghost use Rattle.histories.specs.declared.event.Event.{Event};
@@ -26,7 +26,7 @@ ghost use Rattle.operator.specs.Arrangements.{ArrangementState};
 ghost use Rattle.desk_laws.specs.Own.{AreHolding, DeskView, IsArrangedOn, IsHandOn, IsMergedAt, IsNextBatch, IsNextBoundary, IsOfOneShape, IsOwn, IsSameAt, StayHolding, StayHoldingWith, waits_on};
 ghost use Rattle.operator_laws.specs.GatheredUpdates.{IsSplit};
 ghost use Rattle.desk_laws.specs.declared.hand.Hand.{Hand};
-ghost use Rattle.desk_laws.specs.declared.hand.Hand.TheVariants.{Free, Kept, Ready, Sealed, Taken, Turned};
+ghost use Rattle.desk_laws.specs.declared.hand.Hand.TheVariants.{Free, Kept, Ready, Sealed, Taken, Notified};
 
 use lattice::Minimum;
 
@@ -122,18 +122,18 @@ pub fn ready_is_laid<T: Minimum>()
         → slice_get c.joins n ≡ slice_get d.joins n → waits_on c n (node_of p n) ≡ []
         → IsOwn T.times p w k d (Kept n more)
         → IsOwn T.times p w k c (Ready n out) }
-    ensures turned { (p : Dataflow) → IsDataflow p → (w : State T) (k : ℕ) (d c : DeskView T)
+    ensures notified { (p : Dataflow) → IsDataflow p → (w : State T) (k : ℕ) (d c : DeskView T)
         → StayHolding T.times p d c → (n : ℕ) → n < length p.nodes
         → ((m : ℕ) → m ≢ n → IsSameAt m d c) → (out : List (Update T))
         → IsSplit T.times (waits_on d n (node_of p n)) out (waits_on c n (node_of p n))
         → (upper : List T) → arranged_by (node_of p n) ≡ None
         → is_reduction (node_of p n) ≡ false → slice_get c.joins n ≡ slice_get d.joins n
         → waits_on c n (node_of p n) ≡ []
-        → IsOwn T.times p w k d (Turned n upper)
+        → IsOwn T.times p w k d (Notified n upper)
         → IsOwn T.times p w k c (Ready n out) }
 {}
 
-/// At a reduction that the worker turned to, the answers at the times that its input frontier has
+/// At a reduction where the worker was notified, the answers at the times that its input frontier has
 /// passed are ready to be given, and the other times stay pending. The reduction reads the trace of
 /// its source on the same desk, in a state that a legal history leads to.
 pub fn found_is_laid<T: Minimum>()
@@ -146,7 +146,7 @@ pub fn found_is_laid<T: Minimum>()
         → (a : ArrangementState T) → slice_get d.arrangements source ≡ Some (Some a)
         → (upper : List T) (out : List (Update T))
         → ((inserted : List (Insertion T)) (received emitted : List (Update T))
-        → Stands T.times a.spine inserted
+        → Represents T.times a.spine inserted
         → SumsToReceived T.times upper (all_updates inserted) received
         → IsReduced T.times r received emitted
         → IsReduced T.times s received (out ++ emitted))
@@ -156,11 +156,11 @@ pub fn found_is_laid<T: Minimum>()
         → IsTrue (all_beyond T.times other (update_times out)))
         → ((other : List T) → IsTrue (all_beyond T.times other (pending_of r))
         → IsTrue (all_beyond T.times other (pending_of s)))
-        → IsOwn T.times p (state_after T.times p es) k d (Turned n upper)
+        → IsOwn T.times p (state_after T.times p es) k d (Notified n upper)
         → IsOwn T.times p (state_after T.times p es) k c (Ready n out) }
 {}
 
-/// At an arrange node that the worker turned to, a batch is sealed of what waits there. It is in
+/// At an arrange node where the worker was notified, a batch is sealed of what waits there. It is in
 /// hand, to be given and inserted, and the rest stays.
 pub fn sealed_is_laid<T: Minimum>()
     ensures { (p : Dataflow) → IsDataflow p → (w : State T) (k : ℕ) (d c : DeskView T)
@@ -173,7 +173,7 @@ pub fn sealed_is_laid<T: Minimum>()
         → IsArrangedOn T.times p d n start inserted
         → IsArrangedOn T.times p c n start inserted)
         → IsNextBatch T.times p c n batch
-        → IsOwn T.times p w k d (Turned n upper)
+        → IsOwn T.times p w k d (Notified n upper)
         → IsOwn T.times p w k c (Sealed n batch) }
 {}
 

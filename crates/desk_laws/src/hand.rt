@@ -17,7 +17,7 @@ pub enum Hand<T: Minimum> {
     /// A node where all lies on the desk that its bundle made, and whether more bundles wait there.
     Kept { node: NodeId, more: bool },
     /// A node whose input frontier has passed held times, and times that tell that frontier.
-    Turned { node: NodeId, upper: Times<T> },
+    Notified { node: NodeId, upper: Times<T> },
     /// Updates that are to be given at a node.
     Ready { node: NodeId, updates: Output<T> },
     /// A batch that is to be given at an arrange node, and then goes into its spine.

@@ -15,7 +15,7 @@ ghost use Rattle.shared_board.specs.Tenures.{AreOn, Opening, events, left_by};
 ghost use Rattle.desk_laws.specs.Own.{AreHolding, DeskView, IsLaid, IsOwn, first_keeps};
 ghost use Rattle.operator_laws.specs.GatheredUpdates.{IsStamped};
 ghost use Rattle.desk_laws.specs.declared.hand.Hand.{Hand};
-ghost use Rattle.desk_laws.specs.declared.hand.Hand.TheVariants.{Free, Taken, Turned};
+ghost use Rattle.desk_laws.specs.declared.hand.Hand.TheVariants.{Free, Taken, Notified};
 
 use lattice::Minimum;
 
@@ -52,14 +52,14 @@ pub fn taken_is_laid<T: Minimum>()
         bundle.place.worker d (Taken bundle more) }
 {}
 
-/// A worker that turned to held times knows how far the node's input frontier had come, and that
+/// A worker that was notified of held times knows how far the node's input frontier had come, and that
 /// stays so.
-pub fn turned_is_laid<T: Minimum>()
+pub fn notified_is_laid<T: Minimum>()
     ensures { (p : Dataflow) → IsDataflow p → (w : State T) (k n : ℕ)
         → IsTakeHeld T.times p w k n → (d : DeskView T) (upper : List T)
         → ((t : T) → is_beyond T.times upper t
         ≡ is_beyond T.times (input_frontier T.times p w n) t)
         → IsOwn T.times p w k d Free
         → IsOwn T.times p (next_state T.times p w (TakeHeld k n)) k d
-        (Turned n upper) }
+        (Notified n upper) }
 {}

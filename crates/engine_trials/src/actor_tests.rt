@@ -3,7 +3,7 @@
 //! client, whose number is 1.
 ghost use Rattle.std.specs.Prelude.{◌≡◌, ◌∷◌, [], ℕ, None, IfOk};
 ghost use Rattle.plan.specs.declared.node.Node.TheVariants.{Input, Output};
-ghost use Rattle.hub.specs.Known.{Known};
+ghost use Rattle.hub.specs.PassViews.{PassView};
 ghost use Rattle.shared_board.specs.declared.event.BoardEvent.{BoardEvent};
 ghost use Rattle.shared_board.specs.Tenures.{IsActor, IsFirst, Opening, state_left, opening_for, opening_in};
 
@@ -87,7 +87,7 @@ impl<T: Minimum> Client<T> {
 
 // A worker that has done nothing but look has nothing in hand. The function does nothing.
 fn looks_take_nothing_in_hand<T: Minimum>()
-    ensures first { (t : Opening) (k : ℕ) (a : Known (BoardEvent T)) → IsFirst t k a
+    ensures first { (t : Opening) (k : ℕ) (a : PassView (BoardEvent T)) → IsFirst t k a
         → IsActor T.times a
         → (state_left T.times a).hand a.number ≡ None }
 {
@@ -103,11 +103,11 @@ struct Idle<T: Minimum> {
 impl<T: Minimum> Model for Idle<T> {
     ghost use Rattle.std.specs.Prelude.{◌≡◌, ◌∷◌, [], None};
     ghost use Rattle.plan.specs.declared.node.Node.TheVariants.{Input, Output};
-    ghost use Rattle.hub.specs.Known.{Known};
+    ghost use Rattle.hub.specs.PassViews.{PassView};
     ghost use Rattle.shared_board.specs.declared.event.BoardEvent.{BoardEvent};
     ghost use Rattle.shared_board.specs.Tenures.{state_left, opening_for, opening_in};
 
-    ghost Value = { Known (BoardEvent T) };
+    ghost Value = { PassView (BoardEvent T) };
 
     ghost view = { λ w. w.actor };
 

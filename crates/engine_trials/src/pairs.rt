@@ -1,7 +1,7 @@
 //! A worker and a client of one board, as all runs with one worker have them.
 ghost use Rattle.std.specs.Prelude.{◌≡◌, ℕ, IfOk, OnOk, Some, length, slice_get};
 ghost use Rattle.update.specs.Refusals.{OnlyMemory};
-ghost use Rattle.hub.specs.Known.{Known};
+ghost use Rattle.hub.specs.PassViews.{PassView};
 ghost use Rattle.shared_board.specs.declared.event.BoardEvent.{BoardEvent};
 ghost use Rattle.shared_board.specs.Tenures.{IsFirst, opening_for};
 
@@ -33,7 +33,7 @@ fn open_into<T: Minimum, P: BoardProtocol<T>, R: Wait>(
     actors: &mut Vec<Actor<T, P>>,
 ) -> Result<(), Refusal>
     ensures count { OnOk result (length actors.new.items ≡ 2) }
-    ensures each { OnOk result ((k : ℕ) (a : Known (BoardEvent T))
+    ensures each { OnOk result ((k : ℕ) (a : PassView (BoardEvent T))
         → slice_get actors.new.items k ≡ Some a
         → IsFirst (opening_for plan.now 1 1) k a) }
     ensures refused { OnlyMemory result }

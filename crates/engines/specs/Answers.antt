@@ -11,25 +11,25 @@ use Rattle.engines.specs.Sessions.{with_change, with_frontier, with_since, chang
 use Rattle.engines.specs.Bitemporal.{BitemporalSession}
 use Rattle.lattice.specs.Bitimes.{bitime_times, bitime_cmp}
 
--- ---- commands that change an input; Stands says for which session the engine stands afterwards
+-- ---- commands that change an input; Represents says for which session the engine stands afterwards
 module _ (p : List Node) (s : BitemporalSession) where
   -- the engine's answer to a change
   abbrev pub TakesChange : Fed (Pair ℕ ℕ) → (BitemporalSession → Type 0) → Result (Unit {0}) Refusal
       → Type 0
-  TakesChange f Stands r =
-      IsTold (change_refusal bitime_times p s f) (Stands (with_change f s)) (Stands s) r
+  TakesChange f Represents r =
+      IsTold (change_refusal bitime_times p s f) (Represents (with_change f s)) (Represents s) r
 
   -- the engine's answer to a new frontier of an input
   abbrev pub TakesFrontier : ℕ → List (Pair ℕ ℕ) → (BitemporalSession → Type 0)
       → Result (Unit {0}) Refusal → Type 0
-  TakesFrontier i ts Stands r =
-      IsTold (frontier_refusal bitime_times p s i ts) (Stands (with_frontier i ts s)) (Stands s) r
+  TakesFrontier i ts Represents r =
+      IsTold (frontier_refusal bitime_times p s i ts) (Represents (with_frontier i ts s)) (Represents s) r
 
   -- the engine's answer to a new since of a view
   abbrev pub TakesSince : ℕ → List (Pair ℕ ℕ) → (BitemporalSession → Type 0)
       → Result (Unit {0}) Refusal → Type 0
-  TakesSince v ts Stands r =
-      IsTold (since_refusal bitime_times p s v ts) (Stands (with_since v ts s)) (Stands s) r
+  TakesSince v ts Represents r =
+      IsTold (since_refusal bitime_times p s v ts) (Represents (with_since v ts s)) (Represents s) r
 
 -- ---- commands that ask about a view; Ends says which refusals end the run
 module _ (Ends : Refusal → Type 0) (p : List Node) (s : BitemporalSession) where

@@ -4,7 +4,7 @@ use Rattle.std.proofs.lemmas.Bool.Decides.{nat_tests}
 use Rattle.std.proofs.lemmas.List.{append_cancel_right}
 use Rattle.hub.specs.declared.view.Entry.{Entry}
 use Rattle.hub.specs.Histories.{entry, NoneBy, AllBy, EndsIn, by_pass}
-use Rattle.hub.specs.Known.{Known, Tenure}
+use Rattle.hub.specs.PassViews.{PassView, Tenure}
 use Rattle.hub.specs.Passes.{AgreesWith, AgreesBut}
 use Rattle.hub.specs.Rules.{AllBelow}
 use Rattle.hub.specs.Tenures.{IsTenureOf, seen_after, pass_after, Leads}
@@ -36,7 +36,7 @@ module _ {E : Type 0} where
 
 module _ {S E : Type 0} where
   -- what agrees with a pass after a tenure agreed with it before, but for the tenure's event
-  pub agrees_but : (p : Known E) (t : Tenure S E) (e : E) (history : List (Entry E)) → IsTenureOf p t
+  pub agrees_but : (p : PassView E) (t : Tenure S E) (e : E) (history : List (Entry E)) → IsTenureOf p t
       → AgreesWith (pass_after t e) history → AgreesBut p e history
   agrees_but p t e history begun a =
       let found = begun.2 in
@@ -44,7 +44,7 @@ module _ {S E : Type 0} where
       (a.0, found.0, a.1 ∙ same, subst (λ n. NoneBy n a.0) begun.1 a.2, found.2)
 
   -- over any number of tenures, what a pass has seen ends in what it had seen before
-  leads_on : (p q : Known E) (ts : List (Tenure S E × E)) → Leads p ts q → EndsIn q.seen p.seen
+  leads_on : (p q : PassView E) (ts : List (Tenure S E × E)) → Leads p ts q → EndsIn q.seen p.seen
   leads_on p q [] same = ([], sym (ap (λ k. k.seen) same))
   leads_on p q ((t, e) ∷ ts) steps =
       let found = steps.0.2 in
@@ -52,13 +52,13 @@ module _ {S E : Type 0} where
       ends_further q.seen (seen_after t e) p.seen (leads_on (pass_after t e) q ts steps.1) one
 
   -- a later tenure of a pass finds a history that ends in what an earlier one left
-  pub later_ends : (t later : Tenure S E) (e : E) (between : List (Tenure S E × E)) (p : Known E)
+  pub later_ends : (t later : Tenure S E) (e : E) (between : List (Tenure S E × E)) (p : PassView E)
       → Leads (pass_after t e) between p → IsTenureOf p later → EndsIn later.found (seen_after t e)
   later_ends t later e between p steps begun =
       ends_further later.found p.seen (seen_after t e) (begun.2.0, begun.2.1) (leads_on (pass_after t e) p between steps)
 
   -- if all entries since are by the pass itself, then there are none
-  pub nothing_since : (p : Known E) (t : Tenure S E) → IsTenureOf p t → (since : List (Entry E)) → t.found ≡ since ++ p.seen
+  pub nothing_since : (p : PassView E) (t : Tenure S E) → IsTenureOf p t → (since : List (Entry E)) → t.found ≡ since ++ p.seen
       → AllBy p.number since → t.found ≡ p.seen
   nothing_since p t begun since split all =
       let found = begun.2 in

@@ -1,5 +1,5 @@
 pub mod Histories
-pub mod Known
+pub mod PassViews
 pub mod Passes
 pub mod Rules
 pub mod Steps

@@ -33,9 +33,9 @@ pub struct Pass<P: Protocol> {
 
 impl<P: Protocol> Model for Pass<P> {
     ghost use Rattle.std.specs.Prelude.{◌≡◌, [], false};
-    ghost use Rattle.hub.specs.Known.{Known};
+    ghost use Rattle.hub.specs.PassViews.{PassView};
 
-    ghost Value = { Known P.Event };
+    ghost Value = { PassView P.Event };
 
     ghost view = { λ p. record {
       hub = p.seat.table_id;

@@ -29,7 +29,7 @@ pub struct Held<'a, P: Protocol> {
 
 impl<'a, P: Protocol> Model for Held<'a, P> {
     ghost use Rattle.std.specs.Prelude.{◌≡◌, [], ◌∷◌, true, None};
-    ghost use Rattle.hub.specs.Known.{Tenure};
+    ghost use Rattle.hub.specs.PassViews.{Tenure};
 
     ghost Value = { Tenure P.State P.Event };
 

@@ -16,7 +16,7 @@ use Rattle.update.specs.declared.refusal.Refusal.TheVariants.{OutOfMemory}
 use Rattle.batch.proofs.SumsLemmas.{sums_from_totals}
 use Rattle.trace.specs.Readings.{Insertion, AreUpTo, IsReadable, all_updates}
 use Rattle.join.specs.declared.side.Side.{Side}
-use Rattle.join.specs.FormedPairs.{StandsIn, formed_all}
+use Rattle.join.specs.FormedPairs.{TakesPlaceOf, formed_all}
 use Rattle.join.specs.Parts.{HasLargePart}
 use Rattle.join.specs.Sides.{WereInserted}
 use Rattle.join.specs.Takes.{side_pairs, side_width, CanTake, IsTakeAnswer, IsTakeRefusal}
@@ -27,7 +27,7 @@ use Rattle.join.proofs.SideLemmas.{side_part, side_stands, side_size, side_beyon
 use Rattle.join.proofs.StandLemmas.{stands_in_turn}
 use Rattle.join.proofs.VisibleLemmas.{side_compacted}
 
-module _ {T : Type 0} {times : Times T} (o : PartialOrderLaws times) (out ps qs : List (Update T)) (s : StandsIn out ps) (same : (t : T) → Alike (as_of times t ps) (as_of times t qs)) where
+module _ {T : Type 0} {times : Times T} (o : PartialOrderLaws times) (out ps qs : List (Update T)) (s : TakesPlaceOf out ps) (same : (t : T) → Alike (as_of times t ps) (as_of times t qs)) where
   -- what stands in for pairs has the sums of all pairs that sum alike
   answer_sums : (t : T) → Alike (as_of times t out) (as_of times t qs)
   answer_sums t row = sums_from_totals times out ps s.totals t row ∙ same t row
@@ -69,7 +69,7 @@ module _ {T : Type 0} {times : Times T} (o : PartialOrderLaws times) (join_left 
 
   -- a consolidated list that stands in for what was formed answers the take
   pub take_answer : {cmp : T → T → Ordering} → ((p : List ℤ → T → Bool) → IsTrue (list_all (λ u. p u.row u.time) content) → IsTrue (list_all (λ u. p u.row u.time) vs))
-      → (out : List (Update T)) → IsConsolidated cmp out → StandsIn out formed → (HasLargeTotal times formed → ⊥)
+      → (out : List (Update T)) → IsConsolidated cmp out → TakesPlaceOf out formed → (HasLargeTotal times formed → ⊥)
       → IsTakeAnswer side times cmp k us content WasInserted out
   take_answer stored out consolidated made fit = record {
     consolidated = consolidated;
@@ -93,7 +93,7 @@ module _ {T : Type 0} {times : Times T} (o : PartialOrderLaws times) (join_left 
         (side_keys times k side us vs can.wide);
   }
     where
-      stands : StandsIn out found
+      stands : TakesPlaceOf out found
       stands = stands_in_turn out formed found made (side_stands times k side us vs)
 
       same : (got : List (Update T)) → WasInserted got → (t : T) → Alike (as_of times t found) (as_of times t (side_pairs side times k us got))

@@ -11,7 +11,7 @@ use Rattle.join.specs.declared.side.Side.TheVariants.{Left, Right}
 use Rattle.join.specs.Pairs.{is_keyed, fits, pairs_fit}
 use Rattle.join.specs.FormedPairs.{formed_fits, formed_fit}
 use Rattle.join.proofs.StandLemmas.{piece_passes}
-use Rattle.join.proofs.TurnedLemmas.{row_turned}
+use Rattle.join.proofs.OtherSideLemmas.{row_turned}
 
 module _ {X : Type 0} (q f : X → Bool) (xs : List X) where
   -- what passes f if it passes q

@@ -12,7 +12,7 @@ use Rattle.update.specs.Groups.{is_same, group_sum}
 use Rattle.update.specs.declared.change.Update.{Update}
 use Rattle.update.proofs.ConsolidatedLemmas.{summed_size_is}
 use Rattle.update.proofs.GroupLemmas.{same_passes}
-use Rattle.join.specs.FormedPairs.{StandsIn}
+use Rattle.join.specs.FormedPairs.{TakesPlaceOf}
 use Rattle.join.proofs.FormedLemmas.{at_some}
 use Rattle.join.proofs.StandLemmas.{stands_behind}
 
@@ -27,9 +27,9 @@ none_of b false n d e s = rw e (omega (arith, ints))
 
 module _ {T : Type 0} {cmp : T → T → Ordering} (exact : (s t : T) → cmp s t ≡ Equal → s ≡ t) where
   -- the sum of two updates of one row and time stands in for both, if it is not left out as 0
-  sum_stands : (last pair : Update T) (sum : ℤ) → is_same cmp last pair ≡ true → sum ≡ last.diff +ℤ pair.diff → StandsIn (group_sum last sum) (last ∷ pair ∷ [])
+  sum_stands : (last pair : Update T) (sum : ℤ) → is_same cmp last pair ≡ true → sum ≡ last.diff +ℤ pair.diff → TakesPlaceOf (group_sum last sum) (last ∷ pair ∷ [])
   sum_stands last pair sum same e =
-      elim (int_eq sum (pos 0)) as (λ b. int_eq sum (pos 0) ≡ b → StandsIn (cond b [] (record last { diff = sum } ∷ [])) (last ∷ pair ∷ [])) [
+      elim (int_eq sum (pos 0)) as (λ b. int_eq sum (pos 0) ≡ b → TakesPlaceOf (cond b [] (record last { diff = sum } ∷ [])) (last ∷ pair ∷ [])) [
         | true ↦ λ f. record {
           totals = λ p. none_of (p last.row last.time) (p pair.row pair.time) last.diff pair.diff (same_passes exact p last pair same) (sym ((signed_Decides sum (pos 0)).0 f) ∙ e);
           among = λ p h. refl;
@@ -64,13 +64,13 @@ module _ {T : Type 0} {cmp : T → T → Ordering} (exact : (s t : T) → cmp s 
   pub added_stands : (old new : List (Update T)) (pair : Update T) (sum given : ℤ) → given ≡ sum → 0 < length old
       → IsSomeAnd (slice_get old (length old - 1)) (λ last. IsTrue (is_same cmp last pair) × (sum ≡ last.diff +ℤ pair.diff))
       → ((d : Update T) → new ≡ take (length old - 1) old ++ group_sum (get_or old (length old - 1) d) given)
-      → StandsIn new (old ++ pair ∷ [])
+      → TakesPlaceOf new (old ++ pair ∷ [])
   added_stands old new pair sum given same h e is =
       let front = take (length old - 1) old in
       let last = get_or old (length old - 1) pair in
       let here = at_some (λ last. IsTrue (is_same cmp last pair) × (sum ≡ last.diff +ℤ pair.diff)) old (length old - 1) e pair in
       let stands = stands_behind (group_sum last sum) (last ∷ pair ∷ []) front (sum_stands last pair sum here.0 here.1) in
-      subst (λ us. StandsIn us (old ++ pair ∷ [])) (sym (is pair ∙ ap (λ n. front ++ group_sum last n) same)) (subst (StandsIn (front ++ group_sum last sum)) (sym (behind old pair pair h)) stands)
+      subst (λ us. TakesPlaceOf us (old ++ pair ∷ [])) (sym (is pair ∙ ap (λ n. front ++ group_sum last n) same)) (subst (TakesPlaceOf (front ++ group_sum last sum)) (sym (behind old pair pair h)) stands)
 
 -- a list whose last update gets another difference
 pub set_is : {T : Type 0} (us : List (Update T)) (n : ℕ) (w : Update T) (m v : ℤ) → n ≡ length us → 0 < length us → w ≡ get_or us (n - 1) w → v ≡ m → int_eq m (pos 0) ≡ false

@@ -7,7 +7,7 @@ pub mod LargeLemmas
 pub mod OrderLemmas
 pub mod StandLemmas
 pub mod PartLemmas
-pub mod TurnedLemmas
+pub mod OtherSideLemmas
 pub mod FitLemmas
 pub mod SideLemmas
 pub mod LastLemmas

@@ -19,7 +19,7 @@ use Rattle.trace.specs.Readings.{all_content}
 use Rattle.trace.proofs.ReadLemmas.{size-append}
 use Rattle.join.specs.declared.side.Side.{Side}
 use Rattle.join.specs.Parts.{ArePartOf, HasLargePart}
-use Rattle.join.specs.FormedPairs.{formed_all, StandsIn, HasLargeDiff, HasLargePartWith}
+use Rattle.join.specs.FormedPairs.{formed_all, TakesPlaceOf, HasLargeDiff, HasLargePartWith}
 use Rattle.join.proofs.LargeLemmas.{large_size}
 use Rattle.join.proofs.StandLemmas.{stands_itself, stands_in_turn, stands_before, flat_map_more, pieces_moved}
 
@@ -84,12 +84,12 @@ module _ {T : Type 0} (times : Times T) where
       omega (arith, large, smaller)
 
   -- totals that are too large are so in each list that this one stands in for
-  total_stands : (us vs : List (Update T)) → StandsIn us vs → HasLargeTotal times us → HasLargeTotal times vs
+  total_stands : (us vs : List (Update T)) → TakesPlaceOf us vs → HasLargeTotal times us → HasLargeTotal times vs
   total_stands us vs s large =
       (large.0, large.1, λ f. large.2 (subst (FitsSigned w64) (sym (s.totals (λ r t. same_row r large.0 && (times.below t large.1 && times.below large.1 t)))) f))
 
   -- if the list that stands in for two others has too large a total, then these have
-  pub large_listed : (listed us ws : List (Update T)) → StandsIn listed (us ++ ws) → HasLargeTotal times listed → HasLargePartWith times us ws
+  pub large_listed : (listed us ws : List (Update T)) → TakesPlaceOf listed (us ++ ws) → HasLargeTotal times listed → HasLargePartWith times us ws
   large_listed listed us ws s large vs t = record {
     part = vs ++ ws;
     within = part_itself (vs ++ ws);
@@ -109,14 +109,14 @@ module _ {T : Type 0} (times : Times T) where
   large_with_more us ws xs a h vs t = large_more (vs ++ ws) (vs ++ xs) (part_with vs ws xs a) (h vs t)
 
   -- what was formed before belongs to what is formed
-  pub large_so_far : (old done before ws : List (Update T)) → StandsIn before (old ++ done) → HasLargePartWith times before ws → HasLargePartWith times old (done ++ ws)
+  pub large_so_far : (old done before ws : List (Update T)) → TakesPlaceOf before (old ++ done) → HasLargePartWith times before ws → HasLargePartWith times old (done ++ ws)
   large_so_far old done before ws s h vs t =
       subst (HasLargePart times) (append_assoc vs done ws)
       (h (vs ++ done) (stands_in_turn before (old ++ done) (vs ++ done) s (stands_before old vs done t)))
 
   -- with nothing listed before, the list itself has a large part
   pub large_first : (us ws : List (Update T)) → us ≡ [] → HasLargePartWith times us ws → HasLargePart times ws
-  large_first us ws e h = h [] (subst (λ l. StandsIn l []) (sym e) (stands_itself []))
+  large_first us ws e h = h [] (subst (λ l. TakesPlaceOf l []) (sym e) (stands_itself []))
 
 module _ {T : Type 0} {times : Times T} (o : PartialOrderLaws times) where
   -- one update's diff that is no 64-bit number is a total that is none
@@ -158,7 +158,7 @@ module _ {T : Type 0} (side : Side) (times : Times T) (k : ℕ) {B : Type 0} (co
       (part_moved three all (IsPermutation-sym all three (pieces_moved side times k us (xs ++ ys) zs)))))
 
   -- if the pairs so far have too large a part with those of one more batch, then all pairs have
-  pub one_more_batch_large : (us old before : List (Update T)) (cs : List B) (i : ℕ) (c : B) → IsSomeAnd (slice_get cs i) (λ d. c ≡ d) → StandsIn before (old ++ every us (all_content content (take i cs))) → HasLargePartWith times before (every us (content c)) → HasLargePartWith times old (every us (all_content content cs))
+  pub one_more_batch_large : (us old before : List (Update T)) (cs : List B) (i : ℕ) (c : B) → IsSomeAnd (slice_get cs i) (λ d. c ≡ d) → TakesPlaceOf before (old ++ every us (all_content content (take i cs))) → HasLargePartWith times before (every us (content c)) → HasLargePartWith times old (every us (all_content content cs))
   one_more_batch_large us old before cs i c e s large =
       let done = every us (all_content content (take i cs)) in
       let next = every us (content c) in

@@ -29,13 +29,13 @@ use Rattle.join.specs.declared.side.Side.{Side}
 use Rattle.join.specs.declared.side.Side.TheVariants.{Left, Right}
 use Rattle.join.specs.Pairs.{is_keyed, is_wide}
 use Rattle.join.specs.Parts.{ArePartOf}
-use Rattle.join.specs.Sides.{turned}
-use Rattle.join.specs.FormedPairs.{formed_pair, formed_fits, formed_fit, formed_with, formed_each, formed_all, updates_in, StandsIn, HasLargeDiff, HasLargePartWith}
+use Rattle.join.specs.Sides.{other_side}
+use Rattle.join.specs.FormedPairs.{formed_pair, formed_fits, formed_fit, formed_with, formed_each, formed_all, updates_in, TakesPlaceOf, HasLargeDiff, HasLargePartWith}
 use Rattle.join.proofs.FormedLemmas.{passes_at, some_at, at_some, some_is, some_element, range_more, image_at}
 use Rattle.join.proofs.OrderLemmas.{rows_total, keys_rise, front_grows, front_stays, found_is}
 use Rattle.join.proofs.PartLemmas.{part_moved, part_front, part_back, part_of_part, pieces_part, large_so_far, large_with_more}
 use Rattle.join.proofs.StandLemmas.{stands_itself, stands_before, stands_behind, stands_in_turn, moved_stands}
-use Rattle.join.proofs.TurnedLemmas.{by_columns}
+use Rattle.join.proofs.OtherSideLemmas.{by_columns}
 
 -- ---- parts of a list
 
@@ -120,13 +120,13 @@ module _ {T : Type 0} (f : Update T → Update T) (vs : List (Update T)) (i : �
       (image_at f (λ w. FitsSigned w64 w.diff → ⊥) vs i (some_is (λ w. FitsSigned w64 (f w).diff → ⊥) vs i v e h))
 
   -- what stands in for the pairs so far, with one more pair, stands in for the pairs with that one
-  pub item_stands : (old before new : List (Update T)) → i < length vs → StandsIn before (old ++ map f (take i vs)) → StandsIn new (before ++ f v ∷ []) → StandsIn new (old ++ map f (take (i + 1) vs))
+  pub item_stands : (old before new : List (Update T)) → i < length vs → TakesPlaceOf before (old ++ map f (take i vs)) → TakesPlaceOf new (before ++ f v ∷ []) → TakesPlaceOf new (old ++ map f (take (i + 1) vs))
   item_stands old before new h s t =
       let so_far = map f (take i vs) in
       let is : get_or vs i v ≡ v = sym (at_some (λ w. v ≡ w) vs i e v) in
       let grown : map f (take (i + 1) vs) ≡ so_far ++ f v ∷ [] =
       ap (map f) (take_more vs i v h ∙ ap (λ w. take i vs ++ w ∷ []) is) ∙ map-append f (take i vs) (v ∷ []) in
-      subst (StandsIn new)
+      subst (TakesPlaceOf new)
       (append_assoc old so_far (f v ∷ []) ∙ ap (λ ys. old ++ ys) (sym grown))
       (stands_in_turn new (before ++ f v ∷ []) ((old ++ so_far) ++ f v ∷ []) t (stands_before before (old ++ so_far) (f v ∷ []) s))
 
@@ -140,36 +140,36 @@ table_turned f xs ys =
     (by_columns (λ _ _. true) (λ _ _. true) (λ _ _. refl) f xs ys))
 
 module _ {T : Type 0} (times : Times T) (k : ℕ) where
-  each_moves : (side : Side) (us vs : List (Update T)) → IsPermutation (formed_each side times k us vs) (formed_each (turned side) times k vs us)
+  each_moves : (side : Side) (us vs : List (Update T)) → IsPermutation (formed_each side times k us vs) (formed_each (other_side side) times k vs us)
   each_moves Left us vs = table_turned (formed_pair Left times k) us vs
   each_moves Right us vs = table_turned (formed_pair Right times k) us vs
 
   -- the pairs that the other run's updates form stand in for those of the one's
-  pub each_turned : (side : Side) (us vs : List (Update T)) → StandsIn (formed_each (turned side) times k vs us) (formed_each side times k us vs)
-  each_turned side us vs = moved_stands (formed_each side times k us vs) (formed_each (turned side) times k vs us) (each_moves side us vs)
+  pub each_turned : (side : Side) (us vs : List (Update T)) → TakesPlaceOf (formed_each (other_side side) times k vs us) (formed_each side times k us vs)
+  each_turned side us vs = moved_stands (formed_each side times k us vs) (formed_each (other_side side) times k vs us) (each_moves side us vs)
 
   -- what stands in for the pairs of one run stands in for those of the other
-  pub turned_stands : (side : Side) (us vs old new : List (Update T)) → StandsIn new (old ++ formed_each (turned side) times k vs us) → StandsIn new (old ++ formed_each side times k us vs)
+  pub turned_stands : (side : Side) (us vs old new : List (Update T)) → TakesPlaceOf new (old ++ formed_each (other_side side) times k vs us) → TakesPlaceOf new (old ++ formed_each side times k us vs)
   turned_stands side us vs old new a =
-      stands_in_turn new (old ++ formed_each (turned side) times k vs us) (old ++ formed_each side times k us vs) a
-      (stands_behind (formed_each (turned side) times k vs us) (formed_each side times k us vs) old (each_turned side us vs))
+      stands_in_turn new (old ++ formed_each (other_side side) times k vs us) (old ++ formed_each side times k us vs) a
+      (stands_behind (formed_each (other_side side) times k vs us) (formed_each side times k us vs) old (each_turned side us vs))
 
   -- and they are a part of those
-  pub turned_part : (side : Side) (us vs : List (Update T)) → ArePartOf (formed_each (turned side) times k vs us) (formed_each side times k us vs)
+  pub turned_part : (side : Side) (us vs : List (Update T)) → ArePartOf (formed_each (other_side side) times k vs us) (formed_each side times k us vs)
   turned_part side us vs =
       let ps = formed_each side times k us vs in
-      let qs = formed_each (turned side) times k vs us in
+      let qs = formed_each (other_side side) times k vs us in
       part_moved qs ps (IsPermutation-sym ps qs (each_moves side us vs))
 
-  fits_other : (side : Side) (u v : Update T) → IsTrue (formed_fits side k u v) → IsTrue (formed_fits (turned side) k v u)
+  fits_other : (side : Side) (u v : Update T) → IsTrue (formed_fits side k u v) → IsTrue (formed_fits (other_side side) k v u)
   fits_other Left u v h = h
   fits_other Right u v h = h
 
   -- the rows of the pairs fit whichever run comes first
-  pub fits_turned : (side : Side) (us vs : List (Update T)) → IsTrue (list_all (λ u. list_all (formed_fits side k u) vs) us) → IsTrue (list_all (λ v. list_all (formed_fits (turned side) k v) us) vs)
+  pub fits_turned : (side : Side) (us vs : List (Update T)) → IsTrue (list_all (λ u. list_all (formed_fits side k u) vs) us) → IsTrue (list_all (λ v. list_all (formed_fits (other_side side) k v) us) vs)
   fits_turned side us vs all =
-      all_from (λ v. list_all (formed_fits (turned side) k v) us) vs
-      (λ v m. all_from (formed_fits (turned side) k v) us
+      all_from (λ v. list_all (formed_fits (other_side side) k v) us) vs
+      (λ v m. all_from (formed_fits (other_side side) k v) us
       (λ u n. fits_other side u v (all_at (formed_fits side k u) vs v (all_at (λ u. list_all (formed_fits side k u) vs) us u all n) m)))
 
   -- there are as many pairs as the product of both lengths
@@ -187,10 +187,10 @@ module _ {T : Type 0} (times : Times T) (k : ℕ) where
   each_none side (u ∷ us) = each_none side us
 
   -- so what is listed stands in for itself with the pairs
-  pub none_stands : (side : Side) (us vs old : List (Update T)) → vs ≡ [] → StandsIn old (old ++ formed_each side times k us vs)
+  pub none_stands : (side : Side) (us vs old : List (Update T)) → vs ≡ [] → TakesPlaceOf old (old ++ formed_each side times k us vs)
   none_stands side us vs old e =
-      subst (λ ps. StandsIn old (old ++ ps)) (sym (ap (formed_each side times k us) e ∙ each_none side us))
-      (subst (StandsIn old) (sym (append-nil old)) (stands_itself old))
+      subst (λ ps. TakesPlaceOf old (old ++ ps)) (sym (ap (formed_each side times k us) e ∙ each_none side us))
+      (subst (TakesPlaceOf old) (sym (append-nil old)) (stands_itself old))
 
   -- the updates of one key form their pairs with the run of that key
   pub all_is_each : (side : Side) (key : List ℤ) (us vs : List (Update T)) → IsTrue (list_all (is_keyed k key) us) → formed_all side times k us vs ≡ formed_each side times k us (filter (is_keyed k key) vs)
@@ -229,9 +229,9 @@ module _ {T : Type 0} (times : Times T) (k : ℕ) where
 
     -- what stands in for the pairs so far, with those of one more update, stands in for the pairs
     -- with that update
-    pub each_more : (old before new : List (Update T)) → i < length us → StandsIn before (old ++ so_far) → StandsIn new (before ++ ones u) → StandsIn new (old ++ formed_each side times k (slice_range us a (i + 1)) vs)
+    pub each_more : (old before new : List (Update T)) → i < length us → TakesPlaceOf before (old ++ so_far) → TakesPlaceOf new (before ++ ones u) → TakesPlaceOf new (old ++ formed_each side times k (slice_range us a (i + 1)) vs)
     each_more old before new h s t =
-        subst (StandsIn new)
+        subst (TakesPlaceOf new)
         (append_assoc old so_far (ones u) ∙ ap (λ ys. old ++ ys) (sym (each_grown h)))
         (stands_in_turn new (before ++ ones u) ((old ++ so_far) ++ ones u) t (stands_before before (old ++ so_far) (ones u) s))
 
@@ -263,14 +263,14 @@ module _ {T : Type 0} (times : Times T) (k : ℕ) where
 
     -- what stands in for the pairs so far, with those of the next part, stands in for the pairs
     -- with that part
-    pub parts_more : (old before new : List (Update T)) → StandsIn before (old ++ each_in a b) → StandsIn new (before ++ each_in b c) → StandsIn new (old ++ each_in a c)
+    pub parts_more : (old before new : List (Update T)) → TakesPlaceOf before (old ++ each_in a b) → TakesPlaceOf new (before ++ each_in b c) → TakesPlaceOf new (old ++ each_in a c)
     parts_more old before new s t =
-        subst (StandsIn new)
+        subst (TakesPlaceOf new)
         (append_assoc old (each_in a b) (each_in b c) ∙ ap (λ ys. old ++ ys) (sym each_joined))
         (stands_in_turn new (before ++ each_in b c) ((old ++ each_in a b) ++ each_in b c) t (stands_before before (old ++ each_in a b) (each_in b c) s))
 
     -- if they have too large a part, then all pairs have
-    parts_large : (old before : List (Update T)) → StandsIn before (old ++ each_in a b) → HasLargePartWith times before (each_in b c) → HasLargePartWith times old (each_in a c)
+    parts_large : (old before : List (Update T)) → TakesPlaceOf before (old ++ each_in a b) → HasLargePartWith times before (each_in b c) → HasLargePartWith times old (each_in a c)
     parts_large old before s large =
         subst (HasLargePartWith times old) (sym each_joined)
         (large_so_far times old (each_in a b) before (each_in b c) s large)
@@ -292,12 +292,12 @@ module _ {T : Type 0} (times : Times T) (k : ℕ) where
     next_up = run_place_up us run (run + 1) (omega arith)
 
     -- so it is from run to run
-    pub run_more : (old before new : List (Update T)) → StandsIn before (old ++ each_of start run) → StandsIn new (before ++ each_here) → StandsIn new (old ++ each_of start (run + 1))
+    pub run_more : (old before new : List (Update T)) → TakesPlaceOf before (old ++ each_of start run) → TakesPlaceOf new (before ++ each_here) → TakesPlaceOf new (old ++ each_of start (run + 1))
     run_more old before new s t =
         parts_more side us vs (run_place us start) (run_place us run) (run_place us (run + 1)) first_up next_up old before new s
-        (subst (λ ps. StandsIn new (before ++ ps)) here_is t)
+        (subst (λ ps. TakesPlaceOf new (before ++ ps)) here_is t)
 
-    pub run_large : (end : ℕ) → run < end → (old before : List (Update T)) → StandsIn before (old ++ each_of start run) → HasLargePartWith times before each_here → HasLargePartWith times old (each_of start end)
+    pub run_large : (end : ℕ) → run < end → (old before : List (Update T)) → TakesPlaceOf before (old ++ each_of start run) → HasLargePartWith times before each_here → HasLargePartWith times old (each_of start end)
     run_large end h old before s large =
         let last = run_place_up us (run + 1) end (omega (arith, h)) in
         let upto = run_place_up us start (run + 1) (omega (arith, g)) in
@@ -510,10 +510,10 @@ module _ {T : Type 0} (side : Side) (times : Times T) (k : ℕ) (us vs : List (U
 
   -- what stands in for the pairs so far, with those of the next run, stands in for the pairs with
   -- that run
-  pub runs_more : (a b : ℕ) (old before new : List (Update T)) → a ≤ b → StandsIn before (old ++ all (take a us)) → StandsIn new (before ++ all (slice_range us a b)) → StandsIn new (old ++ all (take b us))
+  pub runs_more : (a b : ℕ) (old before new : List (Update T)) → a ≤ b → TakesPlaceOf before (old ++ all (take a us)) → TakesPlaceOf new (before ++ all (slice_range us a b)) → TakesPlaceOf new (old ++ all (take b us))
   runs_more a b old before new g s t =
       let run = all (slice_range us a b) in
-      subst (StandsIn new)
+      subst (TakesPlaceOf new)
       (append_assoc old (all (take a us)) run ∙ ap (λ ys. old ++ ys) (sym (all_parts a b g)))
       (stands_in_turn new (before ++ run) ((old ++ all (take a us)) ++ run) t (stands_before before (old ++ all (take a us)) run s))
 
@@ -525,7 +525,7 @@ module _ {T : Type 0} (side : Side) (times : Times T) (k : ℕ) (us vs : List (U
 
   -- if the pairs so far, with those that are still to come, have too large a part, then all pairs
   -- have
-  pub runs_large : (a : ℕ) (old before : List (Update T)) → StandsIn before (old ++ all (take a us)) → HasLargePartWith times before (all (drop a us)) → HasLargePartWith times old (all us)
+  pub runs_large : (a : ℕ) (old before : List (Update T)) → TakesPlaceOf before (old ++ all (take a us)) → HasLargePartWith times before (all (drop a us)) → HasLargePartWith times old (all us)
   runs_large a old before s large =
       subst (HasLargePartWith times old)
       (sym (flat_map-append own (take a us) (drop a us)) ∙ ap all (take-append-drop a us))

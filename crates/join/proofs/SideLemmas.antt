@@ -20,7 +20,7 @@ use Rattle.plan.proofs.CountLemmas.{row_same, row_itself}
 use Rattle.plan.proofs.ReductionLemmas.{any_at}
 use Rattle.join.specs.declared.side.Side.{Side}
 use Rattle.join.specs.declared.side.Side.TheVariants.{Left, Right}
-use Rattle.join.specs.FormedPairs.{StandsIn, formed_pair, formed_fit, formed_all}
+use Rattle.join.specs.FormedPairs.{TakesPlaceOf, formed_pair, formed_fit, formed_all}
 use Rattle.join.specs.Pairs.{is_keyed, pair_of, pairs_with, pairs, is_wide}
 use Rattle.join.specs.Parts.{ArePartOf}
 use Rattle.join.specs.Sides.{all_rows_have, keys_among}
@@ -29,7 +29,7 @@ use Rattle.join.proofs.FitLemmas.{turned_fit}
 use Rattle.join.proofs.PairLemmas.{size_pairs}
 use Rattle.join.proofs.PartLemmas.{part_moved}
 use Rattle.join.proofs.StandLemmas.{moved_stands}
-use Rattle.join.proofs.TurnedLemmas.{row_turned, turned_moves}
+use Rattle.join.proofs.OtherSideLemmas.{row_turned, turned_moves}
 
 -- ---- how they are formed
 
@@ -40,7 +40,7 @@ module _ {T : Type 0} (times : Times T) (k : ℕ) where
   side_moves Right us vs = turned_moves times k us vs
 
   -- so what is formed stands in for the pairs
-  pub side_stands : (side : Side) (us vs : List (Update T)) → StandsIn (formed_all side times k us vs) (side_pairs side times k us vs)
+  pub side_stands : (side : Side) (us vs : List (Update T)) → TakesPlaceOf (formed_all side times k us vs) (side_pairs side times k us vs)
   side_stands side us vs = moved_stands (side_pairs side times k us vs) (formed_all side times k us vs) (side_moves side us vs)
 
   -- and it is a part of them

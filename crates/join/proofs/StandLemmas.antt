@@ -16,7 +16,7 @@ use Rattle.trace.specs.Readings.{all_content}
 use Rattle.trace.proofs.ReadLemmas.{size-append}
 use Rattle.join.specs.declared.side.Side.{Side}
 use Rattle.join.specs.Pairs.{is_keyed}
-use Rattle.join.specs.FormedPairs.{formed_pair, formed_with, formed_all, StandsIn}
+use Rattle.join.specs.FormedPairs.{formed_pair, formed_with, formed_all, TakesPlaceOf}
 use Rattle.lattice.specs.Times.{Times}
 
 module _ {T : Type 0} where
@@ -27,11 +27,11 @@ module _ {T : Type 0} where
   total-append p us vs = total_by-append _ us vs
 
   -- each list stands in for itself
-  pub stands_itself : (us : List (Update T)) → StandsIn us us
+  pub stands_itself : (us : List (Update T)) → TakesPlaceOf us us
   stands_itself us = record { totals = λ p. refl; among = λ p a. a; smaller = omega arith }
 
   -- what stands in for what stands in for a list stands in for that list
-  pub stands_in_turn : (us vs ws : List (Update T)) → StandsIn us vs → StandsIn vs ws → StandsIn us ws
+  pub stands_in_turn : (us vs ws : List (Update T)) → TakesPlaceOf us vs → TakesPlaceOf vs ws → TakesPlaceOf us ws
   stands_in_turn us vs ws a b = record {
     totals = λ p. a.totals p ∙ b.totals p;
     among = λ p h. a.among p (b.among p h);
@@ -39,7 +39,7 @@ module _ {T : Type 0} where
   }
 
   -- a list in another order stands in for it
-  pub moved_stands : (us vs : List (Update T)) → IsPermutation us vs → StandsIn vs us
+  pub moved_stands : (us vs : List (Update T)) → IsPermutation us vs → TakesPlaceOf vs us
   moved_stands us vs moves = record {
     totals = moved_total us vs moves;
     among = moved_among us vs moves;
@@ -47,7 +47,7 @@ module _ {T : Type 0} where
   }
 
   -- the same list may be put behind both
-  pub stands_before : (us vs ws : List (Update T)) → StandsIn us vs → StandsIn (us ++ ws) (vs ++ ws)
+  pub stands_before : (us vs ws : List (Update T)) → TakesPlaceOf us vs → TakesPlaceOf (us ++ ws) (vs ++ ws)
   stands_before us vs ws a = record {
     totals = λ p. total-append p us ws ∙ ap (λ n. n +ℤ total_where p ws) (a.totals p) ∙ sym (total-append p vs ws);
     among = λ p h.
@@ -61,7 +61,7 @@ module _ {T : Type 0} where
   }
 
   -- the same list may be put in front of both
-  pub stands_behind : (us vs ws : List (Update T)) → StandsIn us vs → StandsIn (ws ++ us) (ws ++ vs)
+  pub stands_behind : (us vs ws : List (Update T)) → TakesPlaceOf us vs → TakesPlaceOf (ws ++ us) (ws ++ vs)
   stands_behind us vs ws a = record {
     totals = λ p. total-append p ws us ∙ ap (λ n. total_where p ws +ℤ n) (a.totals p) ∙ sym (total-append p ws vs);
     among = λ p h.
@@ -134,21 +134,21 @@ module _ {T : Type 0} (side : Side) (times : Times T) (k : ℕ) where
       ∙ length-append (every us xs) (every us ys)
 
   -- they stand in for the pairs with both together
-  pub stands_pieces : (us xs ys : List (Update T)) → StandsIn (every us xs ++ every us ys) (every us (xs ++ ys))
+  pub stands_pieces : (us xs ys : List (Update T)) → TakesPlaceOf (every us xs ++ every us ys) (every us (xs ++ ys))
   stands_pieces us xs ys = moved_stands (every us (xs ++ ys)) (every us xs ++ every us ys) (pieces_moved us xs ys)
 
   module _ {B : Type 0} (content : B → List (Update T)) where
     -- what stands in for the pairs so far, with the pairs of one more batch, stands in for the
     -- pairs with that batch
-    pub one_more_batch : (us old before new : List (Update T)) (cs : List B) (i : ℕ) (c : B) → IsSomeAnd (slice_get cs i) (λ d. c ≡ d) → StandsIn before (old ++ every us (all_content content (take i cs))) → StandsIn new (before ++ every us (content c)) → StandsIn new (old ++ every us (all_content content (take (i + 1) cs)))
+    pub one_more_batch : (us old before new : List (Update T)) (cs : List B) (i : ℕ) (c : B) → IsSomeAnd (slice_get cs i) (λ d. c ≡ d) → TakesPlaceOf before (old ++ every us (all_content content (take i cs))) → TakesPlaceOf new (before ++ every us (content c)) → TakesPlaceOf new (old ++ every us (all_content content (take (i + 1) cs)))
     one_more_batch us old before new cs i c e a b =
         let xs = all_content content (take i cs) in
         let ys = content c in
-        subst (λ zs. StandsIn new (old ++ every us zs)) (sym (flat_map_more content cs i c e))
+        subst (λ zs. TakesPlaceOf new (old ++ every us zs)) (sym (flat_map_more content cs i c e))
         (stands_in_turn new (before ++ every us ys) (old ++ every us (xs ++ ys)) b
         (stands_in_turn (before ++ every us ys) ((old ++ every us xs) ++ every us ys) (old ++ every us (xs ++ ys))
         (stands_before before (old ++ every us xs) (every us ys) a)
-        (subst (λ zs. StandsIn zs (old ++ every us (xs ++ ys))) (sym (append_assoc old (every us xs) (every us ys)))
+        (subst (λ zs. TakesPlaceOf zs (old ++ every us (xs ++ ys))) (sym (append_assoc old (every us xs) (every us ys)))
         (stands_behind (every us xs ++ every us ys) (every us (xs ++ ys)) old (stands_pieces us xs ys)))))
 
     pub one_more_batch_looked : (us : List (Update T)) (cs : List B) (i old before new : ℕ) (c : B) → IsSomeAnd (slice_get cs i) (λ d. c ≡ d) → before ≡ min (old + length (every us (all_content content (take i cs)))) (2 ^ 64 - 1) → new ≡ min (before + length (every us (content c))) (2 ^ 64 - 1) → new ≡ min (old + length (every us (all_content content (take (i + 1) cs)))) (2 ^ 64 - 1)

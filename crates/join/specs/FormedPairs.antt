@@ -44,7 +44,7 @@ module _ {T : Type 0} where
   formed_all side times k us vs = flat_map (λ u. formed_with side times k u vs) us
 
   -- us stands in for vs: it has the same totals, no other rows or times, and is no larger
-  pub record StandsIn (us vs : List (Update T)) : Type 0 where
+  pub record TakesPlaceOf (us vs : List (Update T)) : Type 0 where
     pub totals : (p : List ℤ → T → Bool) → total_where p us ≡ total_where p vs
     pub among : (p : List ℤ → T → Bool)
         → IsTrue (list_all (λ u. p u.row u.time) vs)
@@ -57,4 +57,4 @@ module _ {T : Type 0} where
 
   -- whatever us stands in for: some part of that and of ws together has too large a total
   abbrev pub HasLargePartWith : Times T → List (Update T) → List (Update T) → Type 0
-  HasLargePartWith times us ws = (vs : List (Update T)) → StandsIn us vs → HasLargePart times (vs ++ ws)
+  HasLargePartWith times us ws = (vs : List (Update T)) → TakesPlaceOf us vs → HasLargePart times (vs ++ ws)

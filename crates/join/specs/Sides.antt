@@ -9,9 +9,9 @@ use Rattle.join.specs.declared.side.Side.TheVariants.{Left, Right}
 use Rattle.join.specs.Pairs.{is_keyed}
 
 -- the other side
-abbrev pub turned : Side → Side
-turned Left = Right
-turned Right = Left
+abbrev pub other_side : Side → Side
+other_side Left = Right
+other_side Right = Left
 
 -- the number of columns of the key, the boundary up to which each side was acknowledged, and how
 -- many updates of the other side were read

@@ -34,7 +34,7 @@ ghost use Rattle.batch.specs.Batches.{IsSealed, AllBefore};
 ghost use Rattle.trace.specs.Readings.{all_content};
 ghost use Rattle.join.specs.Pairs.{is_wide, pair_of, fits};
 ghost use Rattle.join.specs.Parts.{HasLargePart};
-ghost use Rattle.join.specs.FormedPairs.{formed_pair, formed_fits, formed_fit, formed_each, formed_all, updates_in, StandsIn, HasLargeDiff, HasLargePartWith};
+ghost use Rattle.join.specs.FormedPairs.{formed_pair, formed_fits, formed_fit, formed_each, formed_all, updates_in, TakesPlaceOf, HasLargeDiff, HasLargePartWith};
 
 use crate::side::Side;
 use batch::{BatchReader, copy_runs};
@@ -133,7 +133,7 @@ fn set_last<T: Lattice>(updates: &mut Vec<Update<T>>, sum: i64)
 
 // Pushes a pair, or adds it to the last update of the list if that has its row and time.
 fn push_or_add<T: Lattice>(updates: &mut Vec<Update<T>>, pair: Update<T>) -> Result<(), Refusal>
-    ensures stands { OnOk result (StandsIn updates.new.items (updates.old.items ++ pair ∷ [])) }
+    ensures stands { OnOk result (TakesPlaceOf updates.new.items (updates.old.items ++ pair ∷ [])) }
     ensures only { OnlyMemory result }
 {
     match sum_with_last(updates.as_slice(), &pair) {
@@ -154,7 +154,7 @@ fn push_pair<T: Lattice>(
     requires own { k ≤ length u.now.row }
     requires wide { k ≤ length v.now.row }
     requires fits { IsTrue (formed_fits side k u.now v.now) }
-    ensures stands { OnOk result (StandsIn formed.new.items
+    ensures stands { OnOk result (TakesPlaceOf formed.new.items
         (formed.old.items ++ formed_pair side T.times k u.now v.now ∷ [])) }
     ensures refused { IfErr result (IsMemoryOrOverflow
         (FitsSigned w64 (formed_pair side T.times k u.now v.now).diff → ⊥)) }
@@ -174,7 +174,7 @@ fn push_pairs<T: Lattice>(
     requires own { k ≤ length u.now.row }
     requires wide { IsTrue (list_all (λ v. is_wide k v.row) inner.now) }
     requires fits { IsTrue (list_all (formed_fits side k u.now) inner.now) }
-    ensures stands { OnOk result (StandsIn formed.new.items
+    ensures stands { OnOk result (TakesPlaceOf formed.new.items
         (formed.old.items ++ map (formed_pair side T.times k u.now) inner.now)) }
     ensures refused { IfErr result (IsMemoryOrOverflow
         (HasLargeDiff (map (formed_pair side T.times k u.now) inner.now))) }
@@ -236,7 +236,7 @@ impl<T: Lattice> Formed<T> {
     // Consolidates the list. On a refusal it is lost.
     fn consolidate(&mut self) -> Result<(), Refusal>
         ensures consolidated { OnOk result (IsConsolidated T.cmp self.new.updates.items) }
-        ensures stands { OnOk result (StandsIn self.new.updates.items self.old.updates.items) }
+        ensures stands { OnOk result (TakesPlaceOf self.new.updates.items self.old.updates.items) }
         ensures fits { OnOk result (HasLargeTotal T.times self.old.updates.items → ⊥) }
         ensures looked { OnOk result (self.new.looked ≡ self.old.looked) }
         ensures large { IsErr result → HasLargeTotal T.times self.old.updates.items }
@@ -251,8 +251,8 @@ impl<T: Lattice> Formed<T> {
     }
 
     // Consolidates the list if it is longer than its limit.
-    fn settle(&mut self) -> Result<(), Refusal>
-        ensures stands { OnOk result (StandsIn self.new.updates.items self.old.updates.items) }
+    fn consolidate_if_long(&mut self) -> Result<(), Refusal>
+        ensures stands { OnOk result (TakesPlaceOf self.new.updates.items self.old.updates.items) }
         ensures looked { OnOk result (self.new.looked ≡ self.old.looked) }
         ensures large { IsErr result → HasLargeTotal T.times self.old.updates.items }
         ensures only { IfErr result (λ refused. refused ≡ Refusal.Overflow) }
@@ -282,7 +282,7 @@ impl<T: Lattice> Formed<T> {
         requires inner_wide { IsTrue (list_all (λ v. is_wide k v.row) inner.now) }
         requires fits { IsTrue (list_all (λ u. list_all (formed_fits side k u) inner.now)
             (slice_range (B.content outer.now) part.start part.end)) }
-        ensures formed { OnOk result (StandsIn self.new.updates.items
+        ensures formed { OnOk result (TakesPlaceOf self.new.updates.items
             (self.old.updates.items ++ formed_each side T.times k
             (slice_range (B.content outer.now) part.start part.end) inner.now)) }
         ensures refused { IfErr result (IsMemoryOrOverflow (HasLargePartWith T.times
@@ -297,7 +297,7 @@ impl<T: Lattice> Formed<T> {
         for i in part.start..part.end {
             read_update(outer, i, &mut u);
             push_pairs(&mut self.updates, side, k, &u, inner)?;
-            self.settle()?;
+            self.consolidate_if_long()?;
         }
         Ok(())
     }
@@ -319,7 +319,7 @@ impl<T: Lattice> Formed<T> {
         requires inner_wide { IsTrue (list_all (λ v. is_wide k v.row) inner.now) }
         requires fits { IsTrue (list_all (λ u. list_all (formed_fits side k u) inner.now)
             (updates_in (B.content outer.now) runs.start runs.end)) }
-        ensures formed { OnOk result (StandsIn self.new.updates.items
+        ensures formed { OnOk result (TakesPlaceOf self.new.updates.items
             (self.old.updates.items ++ formed_each side T.times k
             (updates_in (B.content outer.now) runs.start runs.end) inner.now)) }
         ensures refused { IfErr result (IsMemoryOrOverflow (HasLargePartWith T.times
@@ -355,7 +355,7 @@ impl<T: Lattice> Formed<T> {
         requires fits { IsTrue (list_all (λ u. list_all (formed_fits side k u)
             (updates_in (C.content other.now) found.start found.end))
             (updates_in (B.content batch.now) runs.start runs.end)) }
-        ensures formed { OnOk result (StandsIn self.new.updates.items
+        ensures formed { OnOk result (TakesPlaceOf self.new.updates.items
             (self.old.updates.items ++ formed_each side T.times k
             (updates_in (B.content batch.now) runs.start runs.end)
             (updates_in (C.content other.now) found.start found.end))) }
@@ -370,7 +370,7 @@ impl<T: Lattice> Formed<T> {
             self.pair_runs(side, k, batch, runs, inner.as_slice())
         } else {
             copy_runs(&mut inner, batch, runs)?;
-            self.pair_runs(side.turned(), k, other, found, inner.as_slice())
+            self.pair_runs(side.other(), k, other, found, inner.as_slice())
         }
     }
 
@@ -396,7 +396,7 @@ impl<T: Lattice> Formed<T> {
         requires fits { IsTrue (list_all (λ u. list_all (formed_fits side k u)
             (updates_in (C.content other.now) found.start found.end))
             (updates_in (B.content batch.now) runs.start runs.end)) }
-        ensures formed { OnOk result (StandsIn self.new.updates.items
+        ensures formed { OnOk result (TakesPlaceOf self.new.updates.items
             (self.old.updates.items ++ formed_each side T.times k
             (updates_in (B.content batch.now) runs.start runs.end)
             (updates_in (C.content other.now) found.start found.end))) }
@@ -449,7 +449,7 @@ impl<T: Lattice> Formed<T> {
         ensures front { IfOk result (λ next. IsSomeAnd (slice_get (B.content batch.now)
             (run_place (B.content batch.now) at.batch)) (λ u. AllBefore (take k u.row)
             (take (run_place (C.content other.now) next.other) (C.content other.now)))) }
-        ensures formed { IfOk result (λ next. StandsIn self.new.updates.items
+        ensures formed { IfOk result (λ next. TakesPlaceOf self.new.updates.items
             (self.old.updates.items ++ formed_all side T.times k
             (updates_in (B.content batch.now) at.batch next.batch) (C.content other.now))) }
         ensures looked { IfOk result (λ next. self.new.looked ≡ min (self.old.looked
@@ -484,7 +484,7 @@ impl<T: Lattice> Formed<T> {
         requires wide { IsTrue (list_all (λ u. is_wide k u.row) (B.content batch.now)) }
         requires fits { IsTrue (formed_fit side k (B.content batch.now) (C.content other.now)) }
         requires counted { self.old.looked < 2 ^ 64 }
-        ensures formed { OnOk result (StandsIn self.new.updates.items
+        ensures formed { OnOk result (TakesPlaceOf self.new.updates.items
             (self.old.updates.items
             ++ formed_all side T.times k (B.content batch.now) (C.content other.now))) }
         ensures looked { OnOk result (self.new.looked ≡ min (self.old.looked
@@ -495,7 +495,7 @@ impl<T: Lattice> Formed<T> {
             (formed_all side T.times k (B.content batch.now) (C.content other.now)))) }
     {
         // (pairs with the batches before are in the list: it is settled between two batches alone)
-        self.settle()?;
+        self.consolidate_if_long()?;
         let end = batch.len();
         let mut at = Places {
             batch: first_run(batch),
@@ -518,7 +518,7 @@ impl<T: Lattice> Formed<T> {
         requires wide { IsTrue (list_all (λ u. is_wide k u.row) (B.content batch.now)) }
         requires fits { IsTrue (formed_fit side k (B.content batch.now)
             (all_content C.content others.now)) }
-        ensures formed { OnOk result (StandsIn self.new.updates.items
+        ensures formed { OnOk result (TakesPlaceOf self.new.updates.items
             (self.old.updates.items ++ formed_all side T.times k (B.content batch.now)
             (all_content C.content others.now))) }
         ensures looked { OnOk result (self.new.looked ≡ min (self.old.looked
@@ -557,7 +557,7 @@ fn pairs_of_key<B: BatchReader, C: BatchReader<Time = B::Time>>(
     requires fits { IsTrue (list_all (λ u. list_all (formed_fits side k u)
         (updates_in (C.content other.now) found.start found.end))
         (updates_in (B.content batch.now) runs.start runs.end)) }
-    ensures stands { IfOk result (λ made. StandsIn made.items (formed_each side B.Time.times k
+    ensures stands { IfOk result (λ made. TakesPlaceOf made.items (formed_each side B.Time.times k
         (updates_in (B.content batch.now) runs.start runs.end)
         (updates_in (C.content other.now) found.start found.end))) }
     ensures refused { IfErr result (IsMemoryOrOverflow (HasLargePart B.Time.times
@@ -569,7 +569,7 @@ fn pairs_of_key<B: BatchReader, C: BatchReader<Time = B::Time>>(
     let mut formed = Formed::none(alloc, 0, proportion.max(AT_LEAST));
     formed.pair_shorter(side, k, batch, runs, other, found)?;
     formed.limit = proportion;
-    formed.settle()?;
+    formed.consolidate_if_long()?;
     Ok(formed.updates)
 }
 
@@ -589,7 +589,7 @@ pub(crate) fn form_pairs<B: BatchReader, C: BatchReader<Time = B::Time>>(
     requires fits { IsTrue (formed_fit side k (B.content batch.now)
         (all_content C.content others.now)) }
     ensures consolidated { IfOk result (λ made. IsConsolidated B.Time.cmp made.updates.items) }
-    ensures stands { IfOk result (λ made. StandsIn made.updates.items
+    ensures stands { IfOk result (λ made. TakesPlaceOf made.updates.items
         (formed_all side B.Time.times k (B.content batch.now)
         (all_content C.content others.now))) }
     ensures exact { OnOk result (HasLargeTotal B.Time.times

@@ -10,11 +10,11 @@ pub enum Side {
 }
 
 impl Side {
-    ghost use Rattle.join.specs.Sides.{turned};
+    ghost use Rattle.join.specs.Sides.{other_side};
 
     // The other side.
-    pub(crate) fn turned(self) -> Side
-        ensures { result ≡ turned self }
+    pub(crate) fn other(self) -> Side
+        ensures { result ≡ other_side self }
     {
         match self {
             Side::Left => Side::Right,

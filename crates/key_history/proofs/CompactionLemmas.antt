@@ -19,7 +19,7 @@ use Rattle.joined_times.specs.Joined.{Member, IsJoinWith, JoinAlike}
 use Rattle.joined_times.specs.Additions.{SameMembers}
 use Rattle.joined_times.proofs.AlikeLemmas.{alike_moved}
 use Rattle.joined_times.proofs.MemberLemmas.{in_left, in_right, in_either}
-use Rattle.key_history.specs.Compaction.{IsCompacted, StandsBeyond, is_own, retimed}
+use Rattle.key_history.specs.Compaction.{IsCompacted, AgreeBeyond, is_own, retimed}
 use Rattle.key_history.specs.States.{HistoryState}
 use Rattle.key_history.proofs.ReplayLemmas.{append_rows, rows_append}
 
@@ -82,10 +82,10 @@ retimed_sum {T} times f t same (u ∷ us) = rw (same u.time) (step (times.below 
     step false ih = ih
 
 module _ {T : Type 0} (times : Times T) (since : List T) where
-  pub beyond_itself : (us : List (Update T)) → StandsBeyond times since us us
+  pub beyond_itself : (us : List (Update T)) → AgreeBeyond times since us us
   beyond_itself us = record { sums = λ t h row. refl; smaller = omega arith; among = λ p a. a }
 
-  pub beyond_through : (us vs ws : List (Update T)) → StandsBeyond times since us vs → StandsBeyond times since vs ws → StandsBeyond times since us ws
+  pub beyond_through : (us vs ws : List (Update T)) → AgreeBeyond times since us vs → AgreeBeyond times since vs ws → AgreeBeyond times since us ws
   beyond_through us vs ws a b = record {
     sums = λ t h row. b.sums t h row ∙ a.sums t h row;
     smaller = let x = a.smaller in let y = b.smaller in omega (arith, x, y);
@@ -93,7 +93,7 @@ module _ {T : Type 0} (times : Times T) (since : List T) where
   }
 
   -- two lists, one after the other
-  pub beyond_append : (us vs xs ys : List (Update T)) → StandsBeyond times since us vs → StandsBeyond times since xs ys → StandsBeyond times since (us ++ xs) (vs ++ ys)
+  pub beyond_append : (us vs xs ys : List (Update T)) → AgreeBeyond times since us vs → AgreeBeyond times since xs ys → AgreeBeyond times since (us ++ xs) (vs ++ ys)
   beyond_append us vs xs ys a b = record {
     sums = λ t h row. sum_at-append times t vs ys row ∙ (ap (λ z. z +ℤ sum_at times t ys row) (a.sums t h row) ∙ (ap (λ z. sum_at times t us row +ℤ z) (b.sums t h row) ∙ sym (sum_at-append times t us xs row)));
     smaller =
@@ -116,7 +116,7 @@ module _ {T : Type 0} {times : Times T} (o : PartialOrderLaws times) (l : Lattic
   pub beyond_moved : (us moved out : List (Update T)) → moved ≡ retimed (representative_of times since) us
       → ((t : T) → Alike (as_of times t out) (as_of times t moved)) → size out ≤ size moved
       → ((p : List ℤ → T → Bool) → IsTrue (list_all (λ u. p u.row u.time) moved) → IsTrue (list_all (λ u. p u.row u.time) out))
-      → StandsBeyond times since us out
+      → AgreeBeyond times since us out
   beyond_moved us moved out e sums smaller among = record {
     sums = λ t h row. sums t row ∙ ap (λ z. count_of z row) (ap (as_of times t) e ∙ retimed_sum times (representative_of times since) t (λ s. sym (representative_keeps o l since s t h)) us);
     smaller =

@@ -15,7 +15,7 @@ use Rattle.plan.specs.Operators.{reduction_output}
 use Rattle.plan.proofs.CountLemmas.{row_same, row_itself}
 use Rattle.plan.proofs.ReductionLemmas.{by_key_at}
 use Rattle.joined_times.specs.Joined.{Member, times_of, of_key, IsJoined}
-use Rattle.key_history.specs.Duties.{KeyStands, IsSettledAt, are_wide}
+use Rattle.key_history.specs.Duties.{RepresentsKey, IsSettledAt, are_wide}
 use Rattle.correction.specs.Corrections.{IsRight, AllAt}
 use Rattle.correction.proofs.JoinedLemmas.{sum_at, sum_at-append, through_is, none_comes, Floor, floor, given_same, on_below, on_none, taken_same, taken_none}
 use Rattle.joined_times.proofs.MemberLemmas.{in_either}
@@ -36,7 +36,7 @@ wider k a b e w = step (nat_le k (length b)) refl
 module _ {T : Type 0} {times : Times T} (o : PartialOrderLaws times) (l : LatticeLaws times) (k : ℕ) (reduce : List ℤ → List Entry → List Entry) where
   module _ (q : IsReducer k reduce) (taken given : List (Update T)) where
     -- where no time of its key is pending at or before t, what was given of a row is right at t
-    right_at : (row : List ℤ) (due : List T) → KeyStands times k reduce taken given (take k row) due → (t : T) → IsSettledAt times due t
+    right_at : (row : List ℤ) (due : List T) → RepresentsKey times k reduce taken given (take k row) due → (t : T) → IsSettledAt times due t
         → count_of (as_of times t given) row ≡ count_of (reduce (take k row) (filter (has_key k (take k row)) (as_of times t taken))) row
     right_at r due w t none = at (floor o l (times_of k (take k r) taken) t)
       where
@@ -58,11 +58,11 @@ module _ {T : Type 0} {times : Times T} (o : PartialOrderLaws times) (l : Lattic
                 ∙ ap (λ z. count_of (reduce (take k r) z) r) (taken_same o l k f.0 t (take k r) taken f.3))))
 
     -- so it is right of all rows of a key
-    pub key_right : (key : List ℤ) (due : List T) → KeyStands times k reduce taken given key due → (t : T) → IsSettledAt times due t → IsRight times k reduce taken given key t
+    pub key_right : (key : List ℤ) (due : List T) → RepresentsKey times k reduce taken given key due → (t : T) → IsSettledAt times due t → IsRight times k reduce taken given key t
     key_right key due w t none row d =
         let e : take k row ≡ key = row_same (take k row) key d in
         subst (λ z. count_of (as_of times t given) row ≡ count_of (reduce z (filter (has_key k z) (as_of times t taken))) row) e
-        (right_at row due (subst (λ z. KeyStands times k reduce taken given z due) (sym e) w) t none)
+        (right_at row due (subst (λ z. RepresentsKey times k reduce taken given z due) (sym e) w) t none)
 
     -- of a row that is no wider than a key nothing was taken
     narrow : (t : T) (row : List ℤ) (us : List (Update T)) → IsTrue (are_wide k us) → nat_le k (length row) ≡ false → filter (has_key k (take k row)) (as_of times t us) ≡ []
@@ -81,7 +81,7 @@ module _ {T : Type 0} {times : Times T} (o : PartialOrderLaws times) (l : Lattic
         step true false e w h = rw e h
 
     -- the law: at each time at or before which nothing is pending
-    pub law : (due : List ℤ → List T) → IsTrue (are_wide k taken) → ((key : List ℤ) → KeyStands times k reduce taken given key (due key))
+    pub law : (due : List ℤ → List T) → IsTrue (are_wide k taken) → ((key : List ℤ) → RepresentsKey times k reduce taken given key (due key))
         → (t : T) → ((key : List ℤ) → IsSettledAt times (due key) t) → Alike (as_of times t given) (reduction_output k reduce (as_of times t taken))
     law due wide w t none r =
         right_at r (due (take k r)) (w (take k r)) t (none (take k r))
@@ -108,14 +108,14 @@ module _ {T : Type 0} {times : Times T} (o : PartialOrderLaws times) (l : Lattic
 
   -- making it right at a pending time that no other one is at or before
   pub corrects_one : (taken given out : List (Update T)) (key : List ℤ) (old new : List T) (t : T)
-      → KeyStands times k reduce taken given key old
+      → RepresentsKey times k reduce taken given key old
       → Member t old
       → ((s : T) → Member s new → Member s old)
       → ((s : T) → Member s old → (s ≡ t) ⊎ Member s new)
       → ((s : T) → Member s new → times.below s t ≡ true → ⊥)
       → AllAt k key t out
       → IsRight times k reduce taken (given ++ out) key t
-      → KeyStands times k reduce taken (given ++ out) key new
+      → RepresentsKey times k reduce taken (given ++ out) key new
   corrects_one taken given out key old new t w here less rest least a right = record {
     given_joined = λ g m e. ⊎_elim (λ n. w.given_joined g n e) (λ n. subst (IsJoined times k taken key) (all_at_time out key t a g n) (w.pending t here)) (in_either g given out m);
     pending = λ s h. w.pending s (less s h);
@@ -138,10 +138,10 @@ module _ {T : Type 0} {times : Times T} (o : PartialOrderLaws times) (l : Lattic
   -- what was given may be written in another way: of the key, with the same sums at each time and
   -- at joined times
   pub given_replaced : (taken given other : List (Update T)) (key : List ℤ) (due : List T)
-      → KeyStands times k reduce taken given key due
+      → RepresentsKey times k reduce taken given key due
       → ((t : T) (row : List ℤ) → same_row (take k row) key ≡ true → count_of (as_of times t other) row ≡ count_of (as_of times t given) row)
       → ((g : Update T) → Member g other → of_key k key g ≡ true → IsJoined times k taken key g.time)
-      → KeyStands times k reduce taken other key due
+      → RepresentsKey times k reduce taken other key due
   given_replaced taken given other key due w same j = record {
     given_joined = j;
     pending = w.pending;

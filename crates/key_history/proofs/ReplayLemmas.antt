@@ -9,7 +9,7 @@ use Rattle.lattice.specs.Order.{PartialOrderLaws, LatticeLaws, ExtendsLaws}
 use Rattle.update.specs.Bags.{Entry, Alike, count_of}
 use Rattle.update.specs.Updates.{as_of, entry, size}
 use Rattle.update.specs.declared.change.Update.{Update}
-use Rattle.key_history.specs.Replays.{Ascends, Settles, StandsEver, StandsFrom, StandsOn, moved_to}
+use Rattle.key_history.specs.Replays.{Ascends, Settles, AgreeEver, AgreeFrom, AgreeOn, moved_to}
 use Rattle.plan.proofs.CountLemmas.{count_of-append}
 use Rattle.std.specs.List.Sorted.{IsPermutation}
 use Rattle.update.proofs.ConsolidatedLemmas.{moved_among, moved_size}
@@ -64,13 +64,13 @@ moved_rows times m (u ∷ us) p a =
     and_from (p u.row) (list_all (λ u. p u.row) (moved_to times m us)) h.0 (moved_rows times m us p h.1)
 
 module _ {T : Type 0} {times : Times T} (o : PartialOrderLaws times) (l : LatticeLaws times) (m : T) where
-  pub stands_itself : (us : List (Update T)) → StandsFrom times m us us
+  pub stands_itself : (us : List (Update T)) → AgreeFrom times m us us
   stands_itself us = record { sums = λ t h row. refl; smaller = omega arith; among = λ p a. a }
 
   pub stands_moved : (us moved out : List (Update T)) → moved ≡ moved_to times m us
       → ((t : T) → Alike (as_of times t out) (as_of times t moved)) → size out ≤ size moved
       → ((p : List ℤ → T → Bool) → IsTrue (list_all (λ u. p u.row u.time) moved) → IsTrue (list_all (λ u. p u.row u.time) out))
-      → StandsFrom times m us out
+      → AgreeFrom times m us out
   stands_moved us moved out e sums smaller among = record {
     sums = λ t h row. sums t row ∙ ap (λ z. count_of z row) (ap (as_of times t) e ∙ moved_sum o l m t h us);
     smaller =
@@ -93,7 +93,7 @@ rows_append p (u ∷ us) vs a b =
     and_from (p u.row) (list_all (λ u. p u.row) (us ++ vs)) h.0 (rows_append p us vs h.1 b)
 
 -- the same behind both
-pub stands_in_front : {T : Type 0} (times : Times T) (m : T) (us vs ws : List (Update T)) → StandsFrom times m us vs → StandsFrom times m (us ++ ws) (vs ++ ws)
+pub stands_in_front : {T : Type 0} (times : Times T) (m : T) (us vs ws : List (Update T)) → AgreeFrom times m us vs → AgreeFrom times m (us ++ ws) (vs ++ ws)
 stands_in_front times m us vs ws s = record {
   sums = λ t h row. sum_at-append times t vs ws row ∙ (ap (λ z. z +ℤ sum_at times t ws row) (s.sums t h row) ∙ sym (sum_at-append times t us ws row));
   smaller =
@@ -174,10 +174,10 @@ module _ {T : Type 0} {times : Times T} {cmp : T → T → Ordering} (o : Partia
       sym (as_of-append t near (drop i later) ∙ (ap (λ z. as_of times t near ++ z) none ∙ append-nil (as_of times t near)))
 
 module _ {T : Type 0} (times : Times T) where
-  pub fewer_times : (ts ss : List T) (us vs : List (Update T)) → ((t : T) → Member t ss → Member t ts) → StandsOn times ts us vs → StandsOn times ss us vs
+  pub fewer_times : (ts ss : List T) (us vs : List (Update T)) → ((t : T) → Member t ss → Member t ts) → AgreeOn times ts us vs → AgreeOn times ss us vs
   fewer_times ts ss us vs h s = record { sums = λ t i row. s.sums t (h t i) row; smaller = s.smaller; among = s.among }
 
-  pub stands_then : (ts : List T) (us vs ws : List (Update T)) → StandsOn times ts us vs → StandsOn times ts vs ws → StandsOn times ts us ws
+  pub stands_then : (ts : List T) (us vs ws : List (Update T)) → AgreeOn times ts us vs → AgreeOn times ts vs ws → AgreeOn times ts us ws
   stands_then ts us vs ws a b = record {
     sums = λ t i row. b.sums t i row ∙ a.sums t i row;
     smaller = let x = a.smaller in let y = b.smaller in omega (arith, x, y);
@@ -185,7 +185,7 @@ module _ {T : Type 0} (times : Times T) where
   }
 
   -- more in front of what comes in later, and behind what it stands for
-  pub stands_more : (ts : List T) (us near rest more : List (Update T)) → StandsOn times ts us (near ++ rest) → StandsOn times ts (us ++ more) ((near ++ more) ++ rest)
+  pub stands_more : (ts : List T) (us near rest more : List (Update T)) → AgreeOn times ts us (near ++ rest) → AgreeOn times ts (us ++ more) ((near ++ more) ++ rest)
   stands_more ts us near rest more s = record {
     sums = λ t i row.
         let a = sum_at-append times t (near ++ more) rest row in
@@ -215,20 +215,20 @@ module _ {T : Type 0} (times : Times T) where
       turned all front rest near more longer us short a b c d e = omega (arith, ints, a, b, c, d, e)
 
 module _ {T : Type 0} (times : Times T) where
-  pub ever_none : (us vs : List (Update T)) → us ≡ [] → vs ≡ [] → StandsEver times us vs
+  pub ever_none : (us vs : List (Update T)) → us ≡ [] → vs ≡ [] → AgreeEver times us vs
   ever_none us vs e f = rw (e, f) (record { sums = λ t row. refl; smaller = omega arith; among = λ p a. a })
 
   -- one more, in front of the later ones or behind them
-  pub ever_more : (us near later near2 later2 : List (Update T)) (u : Update T) → StandsEver times us (near ++ later)
+  pub ever_more : (us near later near2 later2 : List (Update T)) (u : Update T) → AgreeEver times us (near ++ later)
       → (((near2 ≡ near ++ u ∷ []) × (later2 ≡ later)) ⊎ ((near2 ≡ near) × (later2 ≡ later ++ u ∷ [])))
-      → StandsEver times (us ++ u ∷ []) (near2 ++ later2)
+      → AgreeEver times (us ++ u ∷ []) (near2 ++ later2)
   ever_more us near later near2 later2 u s (inl e) = rw (e.0, e.1) (record {
     sums = λ t. (stands_more times (t ∷ []) us near later (u ∷ []) (on t)).sums t (inl refl);
     smaller = smaller_by s.smaller;
     among = λ p a. let q = append_rows p us (u ∷ []) a in let r = append_rows p near later (s.among p q.0) in rows_append p (near ++ u ∷ []) later (rows_append p near (u ∷ []) r.0 q.1) r.1;
   })
     where
-      on : (t : T) → StandsOn times (t ∷ []) us (near ++ later)
+      on : (t : T) → AgreeOn times (t ∷ []) us (near ++ later)
       on t = record { sums = λ v i. s.sums v; smaller = s.smaller; among = s.among }
 
       smaller_by : size (near ++ later) ≤ size us → size ((near ++ u ∷ []) ++ later) ≤ size (us ++ u ∷ [])
@@ -242,7 +242,7 @@ module _ {T : Type 0} (times : Times T) where
           let g = weight_is us in
           let h = weight_is (near ++ later) in
           omega (arith, a, b, c, d, e, f, g, h, i)
-  ever_more us near later near2 later2 u s (inr e) = rw (e.0, e.1) (subst (StandsEver times (us ++ u ∷ [])) (append_assoc near later (u ∷ [])) (record {
+  ever_more us near later near2 later2 u s (inr e) = rw (e.0, e.1) (subst (AgreeEver times (us ++ u ∷ [])) (append_assoc near later (u ∷ [])) (record {
     sums = λ t row. sum_at-append times t (near ++ later) (u ∷ []) row ∙ (ap (λ z. z +ℤ sum_at times t (u ∷ []) row) (s.sums t row) ∙ sym (sum_at-append times t us (u ∷ []) row));
     smaller = smaller_by s.smaller;
     among = λ p a. let q = append_rows p us (u ∷ []) a in rows_append p (near ++ later) (u ∷ []) (s.among p q.0) q.1;
@@ -258,7 +258,7 @@ module _ {T : Type 0} (times : Times T) where
           let h = weight_is (near ++ later) in
           omega (arith, b, c, e, f, g, h, i)
 
-  pub ever_sorted : (us near later sorted : List (Update T)) → StandsEver times us (near ++ later) → IsPermutation later sorted → StandsEver times us (near ++ sorted)
+  pub ever_sorted : (us near later sorted : List (Update T)) → AgreeEver times us (near ++ later) → IsPermutation later sorted → AgreeEver times us (near ++ sorted)
   ever_sorted us near later sorted s q = record {
     sums = λ t row. sum_at-append times t near sorted row ∙ (ap (λ z. sum_at times t near row +ℤ z) (moving.moved_sum later sorted q times t row) ∙ (sym (sum_at-append times t near later row) ∙ s.sums t row));
     smaller =

@@ -22,7 +22,7 @@ use Rattle.update.specs.declared.change.Update.{Update}
 use Rattle.plan.specs.Changes.{has_passed}
 use Rattle.plan.specs.Reductions.{IsReducer}
 use Rattle.joined_times.specs.Joined.{Member, of_key}
-use Rattle.key_history.specs.Duties.{KeyStands, IsSettledAt, Shows}
+use Rattle.key_history.specs.Duties.{RepresentsKey, IsSettledAt, Shows}
 use Rattle.correction.specs.Corrections.{IsRight, AllAt, Corrects, IsTooMuch}
 use Rattle.key_history.specs.Debts.{IsOwed}
 use Rattle.key_history.specs.Settlements.{AreReadable, ReadsAs, Steps, Settling, IsOverfullFor}
@@ -179,7 +179,7 @@ module _ {T : Type 0} {times : Times T} (o : PartialOrderLaws times) (l : Lattic
   passed_each [] h = refl
   passed_each (u ∷ us) h = and_from (has_passed times front u.time) (list_all (λ u. has_passed times front u.time) us) (h u (inl refl)) (passed_each us (λ v m. h v (inr m)))
 
-  owed : IsReducer k reduce → (taken all : List (Update T)) (left : List T) → KeyStands times k reduce taken all key left → AreApart times all
+  owed : IsReducer k reduce → (taken all : List (Update T)) (left : List T) → RepresentsKey times k reduce taken all key left → AreApart times all
       → ((u : Update T) → Member u all → IsTrue (has_passed times front u.time)) → ((u : Update T) → Member u all → of_key k key u ≡ true → IsSettledAt times left u.time)
       → IsOwed times k reduce taken key front (filter (of_key k key) all)
   owed q taken all left w a p op = record {
@@ -196,7 +196,7 @@ module _ {T : Type 0} {times : Times T} (o : PartialOrderLaws times) (l : Lattic
     pub first_of : Settling times k reduce key content stored front due 0 [] []
     first_of = record {
       rest_is = refl;
-      stands = λ since taken given be rd sh w. subst (λ z. KeyStands times k reduce taken z key due) (sym (append-nil given)) w;
+      stands = λ since taken given be rd sh w. subst (λ z. RepresentsKey times k reduce taken z key due) (sym (append-nil given)) w;
       apart = tt;
       at = λ u m. absurd m;
       nonzero = λ u m. absurd m;
@@ -222,11 +222,11 @@ module _ {T : Type 0} {times : Times T} (o : PartialOrderLaws times) (l : Lattic
 
       -- with one more correction
       corrected : is_beyond times front t ≡ false → (new : List (Update T)) → Corrects times k reduce content (stored ++ more) key t new
-          → (since : List T) (taken given : List (Update T)) → AreReadable times since front due → ReadsAs times front due content taken → Shows times since k key stored given → KeyStands times k reduce taken given key due
-          → KeyStands times k reduce taken ((given ++ more) ++ new) key (rest ++ after)
+          → (since : List T) (taken given : List (Update T)) → AreReadable times since front due → ReadsAs times front due content taken → Shows times since k key stored given → RepresentsKey times k reduce taken given key due
+          → RepresentsKey times k reduce taken ((given ++ more) ++ new) key (rest ++ after)
       corrected p new c since taken given be rd sh w =
           let here : Member t due = member_at due i t lt e in
-          let old : KeyStands times k reduce taken (given ++ more) key (rest ++ t ∷ after) = subst (λ z. KeyStands times k reduce taken (given ++ more) key (rest ++ z)) (next due i t lt e) (s.stands since taken given be rd sh w) in
+          let old : RepresentsKey times k reduce taken (given ++ more) key (rest ++ t ∷ after) = subst (λ z. RepresentsKey times k reduce taken (given ++ more) key (rest ++ z)) (next due i t lt e) (s.stands since taken given be rd sh w) in
           corrects_one o l k reduce taken (given ++ more) new key (rest ++ t ∷ after) (rest ++ after) t old (member-here t rest after)
           (λ v m. member-weaken v t rest after m) (λ v m. member-rest v t rest after m)
           (least t rest after left p (later x total due ascending i t lt e)) c.at
@@ -245,7 +245,7 @@ module _ {T : Type 0} {times : Times T} (o : PartialOrderLaws times) (l : Lattic
       pub stepped : (more2 : List (Update T)) (rest2 : List T) → Steps times k reduce key content stored front t more more2 rest rest2 → Settling times k reduce key content stored front due (i + 1) more2 rest2
       stepped more2 rest2 (inl w) = record {
         rest_is = w.2 ∙ (ap (λ z. rest ++ z) (sym stays) ∙ sym rest_more);
-        stands = λ since taken given be rd sh st. subst (λ z. KeyStands times k reduce taken (given ++ z) key (rest2 ++ after)) (sym w.1) (subst (λ z. KeyStands times k reduce taken (given ++ more) key z) moved (s.stands since taken given be rd sh st));
+        stands = λ since taken given be rd sh st. subst (λ z. RepresentsKey times k reduce taken (given ++ z) key (rest2 ++ after)) (sym w.1) (subst (λ z. RepresentsKey times k reduce taken (given ++ more) key z) moved (s.stands since taken given be rd sh st));
         apart = subst (AreApart times) (sym w.1) s.apart;
         at = λ u m. still u (subst (Member u) w.1 m);
         nonzero = λ u m. s.nonzero u (subst (Member u) w.1 m);
@@ -259,8 +259,8 @@ module _ {T : Type 0} {times : Times T} (o : PartialOrderLaws times) (l : Lattic
       stepped more2 rest2 (inr w) = record {
         rest_is = w.1 ∙ (sym (append-nil rest) ∙ (ap (λ z. rest ++ z) (sym goes) ∙ sym rest_more));
         stands = λ since taken given be rd sh st.
-            subst (λ z. KeyStands times k reduce taken z key (rest2 ++ after)) (append_assoc given more new ∙ ap (λ z. given ++ z) (sym w.2.1))
-            (subst (λ z. KeyStands times k reduce taken ((given ++ more) ++ new) key (z ++ after)) (sym w.1) (corrected w.0 new c since taken given be rd sh st));
+            subst (λ z. RepresentsKey times k reduce taken z key (rest2 ++ after)) (append_assoc given more new ∙ ap (λ z. given ++ z) (sym w.2.1))
+            (subst (λ z. RepresentsKey times k reduce taken ((given ++ more) ++ new) key (z ++ after)) (sym w.1) (corrected w.0 new c since taken given be rd sh st));
         apart = subst (AreApart times) (sym w.2.1) (apart_new new c.at c.apart);
         at = λ u m. ⊎_elim (still u) (λ n. let a = all_at_is k key new t c.at u n in (a.0, subst (λ z. Member z (take (i + 1) due)) (sym a.1) here, ap (λ z. is_beyond times front z) a.1 ∙ w.0)) (in_either u more new (subst (Member u) w.2.1 m));
         nonzero = λ u m. ⊎_elim (s.nonzero u) (λ n. each_member (λ u. u.diff ≢ pos 0) new w.2.2 u n) (in_either u more new (subst (Member u) w.2.1 m));
@@ -301,7 +301,7 @@ module _ {T : Type 0} {times : Times T} (o : PartialOrderLaws times) (l : Lattic
           left_over : List T
           left_over = rest ++ drop i due
 
-          stands : KeyStands times k reduce taken all key left_over
+          stands : RepresentsKey times k reduce taken all key left_over
           stands = s.stands since taken given be rd sh st
 
           own_count : (v : T) (row : List ℤ) → same_row (take k row) key ≡ true → count_of (as_of times v (filter (of_key k key) all)) row ≡ count_of (as_of times v all) row

@@ -18,8 +18,8 @@ use Rattle.key_history.specs.declared.sweep.Sweep.{Sweep}
 use Rattle.joined_times.specs.Joined.{Member, of_key}
 use Rattle.correction.specs.Corrections.{Corrects, IsTooMuch}
 use Rattle.correction.specs.Evaluations.{IsEvaluation}
-use Rattle.key_history.specs.Replays.{Ascends, Settles, StandsEver, StandsFrom, StandsOn, on_the_way}
-use Rattle.key_history.specs.Sweeps.{AreMeets, IsLed, IsSweep, StandsWith, from_last}
+use Rattle.key_history.specs.Replays.{Ascends, Settles, AgreeEver, AgreeFrom, AgreeOn, on_the_way}
+use Rattle.key_history.specs.Sweeps.{AreMeets, IsLed, IsSweep, AgreeWith, from_last}
 use Rattle.correction.proofs.JoinedLemmas.{sum_at, sum_at-append}
 use Rattle.key_history.proofs.OverfullLemmas.{too_much_given}
 use Rattle.key_history.proofs.SettleLemmas.{take_whole}
@@ -66,10 +66,10 @@ module _ {T : Type 0} {times : Times T} (o : PartialOrderLaws times) where
 -- ---- what stands with a base
 
 module _ {T : Type 0} (times : Times T) where
-  fewer_with : (ts ss : List T) (us vs : List (Update T)) (base : List Entry) → ((t : T) → Member t ss → Member t ts) → StandsWith times ts us base vs → StandsWith times ss us base vs
+  fewer_with : (ts ss : List T) (us vs : List (Update T)) (base : List Entry) → ((t : T) → Member t ss → Member t ts) → AgreeWith times ts us base vs → AgreeWith times ss us base vs
   fewer_with ts ss us vs base h s = record { sums = λ t i. s.sums t (h t i); among = s.among }
 
-  from_on : (m : T) (ts : List T) (us vs : List (Update T)) → ((t : T) → Member t ts → IsTrue (times.below m t)) → StandsFrom times m us vs → StandsOn times ts us vs
+  from_on : (m : T) (ts : List T) (us vs : List (Update T)) → ((t : T) → Member t ts → IsTrue (times.below m t)) → AgreeFrom times m us vs → AgreeOn times ts us vs
   from_on m ts us vs h s = record { sums = λ t i. s.sums t (h t i); smaller = s.smaller; among = s.among }
 
 module _ {T : Type 0} where
@@ -105,8 +105,8 @@ module _ {T : Type 0} {times : Times T} {cmp : T → T → Ordering} (o : Partia
       → IsTrue (times.below behind meet) → IfSome s2.last (λ e. IsTrue (times.below behind e.time))
       → Settles times meet s.base s.rows.near.items s2.base near
       → later ≡ s.rows.later.items → entered ≡ s.rows.entered
-      → StandsFrom times meet (on_the_way near later entered) mid_rows
-      → StandsFrom times behind (on_the_way s.had.near.items s.had.later.items s.had.entered) mid_had
+      → AgreeFrom times meet (on_the_way near later entered) mid_rows
+      → AgreeFrom times behind (on_the_way s.had.near.items s.had.later.items s.had.entered) mid_had
       → on_the_way s2.rows.near.items s2.rows.later.items s2.rows.entered ≡ mid_rows
       → on_the_way s2.had.near.items s2.had.later.items s2.had.entered ≡ mid_had
       → s2.rows.later.items ≡ later
@@ -120,7 +120,7 @@ module _ {T : Type 0} {times : Times T} {cmp : T → T → Ordering} (o : Partia
       had_ascend = rw hl p.had_ascend;
       rows_stand = record { sums = λ t i row. whole t i row; among = λ q h. passes q h };
       had_stand =
-          subst (StandsOn times (from_last s2.last todo) given) (sym ha)
+          subst (AgreeOn times (from_last s2.last todo) given) (sym ha)
           (stands_then times (from_last s2.last todo) given had mid_had
           (fewer_times times (from_last s.last todo) (from_last s2.last todo) given had (kept_times s2.last s.last kept todo) p.had_stand)
           (from_on times behind (from_last s2.last todo) had mid_had (times_below o s2.last meet behind todo low bm bl) b));
@@ -140,8 +140,8 @@ module _ {T : Type 0} {times : Times T} {cmp : T → T → Ordering} (o : Partia
       rest : List (Update T)
       rest = drop s.rows.entered s.rows.later.items
 
-      stands : StandsFrom times meet (near ++ rest) mid_rows
-      stands = subst (λ z. StandsFrom times meet z mid_rows) (ap (λ ls. near ++ drop entered ls) l1 ∙ ap (λ n. near ++ drop n s.rows.later.items) en) a
+      stands : AgreeFrom times meet (near ++ rest) mid_rows
+      stands = subst (λ z. AgreeFrom times meet z mid_rows) (ap (λ ls. near ++ drop entered ls) l1 ∙ ap (λ n. near ++ drop n s.rows.later.items) en) a
 
       settled : (t : T) → Member t todo → (row : List ℤ) → count_of (s2.base ++ as_of times t (near ++ rest)) row ≡ count_of (as_of times t rows) row
       settled t i row =
@@ -198,7 +198,7 @@ module _ {T : Type 0} {times : Times T} {cmp : T → T → Ordering} (o : Partia
     last_here = step s.last d.before p.last p.had_stand
       where
         step : (l : Option (Evaluation T)) → IfSome l (λ e. IsTrue (times.below e.time time)) → IfSome l (IsEvaluation times given)
-            → StandsOn times (from_last l (time ∷ rest)) given (on_the_way s.had.near.items s.had.later.items s.had.entered)
+            → AgreeOn times (from_last l (time ∷ rest)) given (on_the_way s.had.near.items s.had.later.items s.had.entered)
             → IfSome l (IsEvaluation times s.had.near.items)
         step None b e y = tt
         step (Some e) b v y = λ row. v row ∙ sym (ap (λ z. count_of z row) (d.had_in e.time b) ∙ y.sums e.time (inl refl) row)
@@ -249,8 +249,8 @@ module _ {T : Type 0} {times : Times T} {cmp : T → T → Ordering} (o : Partia
   pub begun : (todo : List T) (rows given : List (Update T)) (s : Sweep T) → s.last ≡ None
       → Alike s.base [] → ((p : List ℤ → Bool) → IsTrue (list_all (λ u. p u.row) rows) → IsTrue (list_all (λ e. p e.row) s.base))
       → Ascends cmp s.rows.later.items → Ascends cmp s.had.later.items
-      → StandsEver times rows (on_the_way s.rows.near.items s.rows.later.items s.rows.entered)
-      → StandsOn times todo given (on_the_way s.had.near.items s.had.later.items s.had.entered)
+      → AgreeEver times rows (on_the_way s.rows.near.items s.rows.later.items s.rows.entered)
+      → AgreeOn times todo given (on_the_way s.had.near.items s.had.later.items s.had.entered)
       → IsSweep times cmp todo rows given s
   begun todo rows given s l none among ra ha r h = record {
     rows_ascend = ra;

@@ -21,7 +21,7 @@ module _ {T : Type 0} where
 module _ {T : Type 0} (times : Times T) where
   -- these updates stand in for others at each time beyond the since: they sum to the same there,
   -- they are no larger, and they have no other rows
-  pub record StandsBeyond (since : List T) (us vs : List (Update T)) : Type 0 where
+  pub record AgreeBeyond (since : List T) (us vs : List (Update T)) : Type 0 where
     pub sums : (t : T) → IsTrue (is_beyond times since t) → Alike (as_of times t vs) (as_of times t us)
     pub smaller : size vs ≤ size us
     pub among : (p : List ℤ → Bool) → IsTrue (list_all (λ u. p u.row) us) → IsTrue (list_all (λ u. p u.row) vs)
@@ -46,4 +46,4 @@ module _ {T : Type 0} (times : Times T) (cmp : T → T → Ordering) where
     pub due_is : new.due ≡ old.due
     pub alike : JoinAlike times since new.times old.times
     pub ascending : IsStrictlySortedBy cmp old.times → IsStrictlySortedBy cmp new.times
-    pub given : StandsBeyond times since old.given new.given
+    pub given : AgreeBeyond times since old.given new.given

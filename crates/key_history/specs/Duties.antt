@@ -16,7 +16,7 @@ are_wide k us = list_all (λ u. nat_le k (length u.row)) us
 
 module _ {T : Type 0} (times : Times T) where
   -- a key whose pending times these are, after these updates were taken and those given
-  pub record KeyStands (k : ℕ) (reduce : List ℤ → List Entry → List Entry)
+  pub record RepresentsKey (k : ℕ) (reduce : List ℤ → List Entry → List Entry)
       (taken given : List (Update T)) (key : List ℤ) (due : List T) : Type 0 where
     -- given only at joined times
     pub given_joined : (g : Update T) → Member g given → of_key k key g ≡ true → IsJoined times k taken key g.time

@@ -18,21 +18,21 @@ moved_to times m us = map (λ u. record { time = times.joined u.time m; row = u.
 module _ {T : Type 0} (times : Times T) where
   -- these updates stand in for others at each time at or after `m`: they sum to the same there,
   -- they are no larger, and they have no other rows
-  pub record StandsFrom (m : T) (us vs : List (Update T)) : Type 0 where
+  pub record AgreeFrom (m : T) (us vs : List (Update T)) : Type 0 where
     pub sums : (t : T) → IsTrue (times.below m t) → Alike (as_of times t vs) (as_of times t us)
     pub smaller : size vs ≤ size us
     pub among : (p : List ℤ → Bool) → IsTrue (list_all (λ u. p u.row) us) → IsTrue (list_all (λ u. p u.row) vs)
 
 module _ {T : Type 0} (times : Times T) where
   -- the same at each of these times
-  pub record StandsOn (ts : List T) (us vs : List (Update T)) : Type 0 where
+  pub record AgreeOn (ts : List T) (us vs : List (Update T)) : Type 0 where
     pub sums : (t : T) → Member t ts → Alike (as_of times t vs) (as_of times t us)
     pub smaller : size vs ≤ size us
     pub among : (p : List ℤ → Bool) → IsTrue (list_all (λ u. p u.row) us) → IsTrue (list_all (λ u. p u.row) vs)
 
 module _ {T : Type 0} (times : Times T) where
   -- the same at every time
-  pub record StandsEver (us vs : List (Update T)) : Type 0 where
+  pub record AgreeEver (us vs : List (Update T)) : Type 0 where
     pub sums : (t : T) → Alike (as_of times t vs) (as_of times t us)
     pub smaller : size vs ≤ size us
     pub among : (p : List ℤ → Bool) → IsTrue (list_all (λ u. p u.row) us) → IsTrue (list_all (λ u. p u.row) vs)

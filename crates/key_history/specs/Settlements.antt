@@ -9,7 +9,7 @@ use Rattle.update.specs.Updates.{as_of, AreApart}
 use Rattle.update.specs.declared.change.Update.{Update}
 use Rattle.plan.specs.Changes.{has_passed}
 use Rattle.joined_times.specs.Joined.{Member, of_key}
-use Rattle.key_history.specs.Duties.{KeyStands, IsSettledAt, Shows}
+use Rattle.key_history.specs.Duties.{RepresentsKey, IsSettledAt, Shows}
 use Rattle.correction.specs.Corrections.{Corrects}
 use Rattle.key_history.specs.Debts.{IsOverfull}
 
@@ -41,8 +41,8 @@ module _ {T : Type 0} (times : Times T) (k : ℕ) (reduce : List ℤ → List En
       pub rest_is : rest ≡ filter (λ t. is_beyond times front t) (take i due)
       pub stands : (since : List T) (taken given : List (Update T)) → AreReadable times since front due
           → ReadsAs times front due content taken
-          → Shows times since k key stored given → KeyStands times k reduce taken given key due
-          → KeyStands times k reduce taken (given ++ more) key (rest ++ drop i due)
+          → Shows times since k key stored given → RepresentsKey times k reduce taken given key due
+          → RepresentsKey times k reduce taken (given ++ more) key (rest ++ drop i due)
       pub apart : AreApart times more
       pub at : (u : Update T) → Member u more
           → (of_key k key u ≡ true) × Member u.time (take i due) × (is_beyond times front u.time ≡ false)
@@ -52,7 +52,7 @@ module _ {T : Type 0} (times : Times T) (k : ℕ) (reduce : List ℤ → List En
     abbrev pub IsOverfullFor : Type 0
     IsOverfullFor = (since : List T) (taken given : List (Update T)) → AreReadable times since front due
         → ReadsAs times front due content taken
-        → Shows times since k key stored given → KeyStands times k reduce taken given key due
+        → Shows times since k key stored given → RepresentsKey times k reduce taken given key due
         → AreApart times given
         → ((g : Update T) → Member g given → of_key k key g ≡ true → IsSettledAt times due g.time)
         → ((g : Update T) → Member g given → IsTrue (has_passed times front g.time))

@@ -10,7 +10,7 @@ use Rattle.correction.specs.declared.evaluation.Evaluation.{Evaluation}
 use Rattle.key_history.specs.declared.sweep.Sweep.{Sweep}
 use Rattle.correction.specs.Evaluations.{IsEvaluation}
 use Rattle.joined_times.specs.Joined.{Member}
-use Rattle.key_history.specs.Replays.{Ascends, StandsOn, on_the_way}
+use Rattle.key_history.specs.Replays.{Ascends, AgreeOn, on_the_way}
 use Rattle.lattice.specs.Times.{Times}
 
 module _ {T : Type 0} where
@@ -26,7 +26,7 @@ module _ {T : Type 0} (times : Times T) where
     pub before : (i : ℕ) (s d : T) → i < length ts → Member s (drop i ts) → IsTrue (times.below (get_or meets i d) s)
 
   -- what all times to come see, and other updates, stand in for a list at each of these times
-  pub record StandsWith (ts : List T) (us : List (Update T)) (base : List Entry) (vs : List (Update T)) : Type 0 where
+  pub record AgreeWith (ts : List T) (us : List (Update T)) (base : List Entry) (vs : List (Update T)) : Type 0 where
     pub sums : (t : T) → Member t ts → Alike (base ++ as_of times t vs) (as_of times t us)
     pub among : (p : List ℤ → Bool) → IsTrue (list_all (λ u. p u.row) us)
         → IsTrue (list_all (λ e. p e.row) base) × IsTrue (list_all (λ u. p u.row) vs)
@@ -37,8 +37,8 @@ module _ {T : Type 0} (times : Times T) (cmp : T → T → Ordering) where
   pub record IsSweep (todo : List T) (rows given : List (Update T)) (s : Sweep T) : Type 0 where
     pub rows_ascend : Ascends cmp s.rows.later.items
     pub had_ascend : Ascends cmp s.had.later.items
-    pub rows_stand : StandsWith times todo rows s.base (on_the_way s.rows.near.items s.rows.later.items s.rows.entered)
-    pub had_stand : StandsOn times (from_last s.last todo) given (on_the_way s.had.near.items s.had.later.items s.had.entered)
+    pub rows_stand : AgreeWith times todo rows s.base (on_the_way s.rows.near.items s.rows.later.items s.rows.entered)
+    pub had_stand : AgreeOn times (from_last s.last todo) given (on_the_way s.had.near.items s.had.later.items s.had.entered)
     pub last : IfSome s.last (IsEvaluation times given)
 
   -- all that matters at the time has come in

@@ -17,7 +17,7 @@ ghost use Rattle.update.specs.Refusals.{OnlyMemory, IsMemoryOrOverflow};
 ghost use Rattle.update.specs.Updates.{HasLargeTotal, IsConsolidated};
 ghost use Rattle.update.specs.declared.refusal.Refusal.{Refusal};
 ghost use Rattle.joined_times.specs.Joined.{JoinAlike};
-ghost use Rattle.key_history.specs.Compaction.{StandsBeyond, is_own, retimed};
+ghost use Rattle.key_history.specs.Compaction.{AgreeBeyond, is_own, retimed};
 ghost use Rattle.key_history.specs.Pasts.{IsPast};
 
 use crate::pack::Pack;
@@ -92,7 +92,7 @@ fn updates_as_of<T: Lattice>(
     since: &[T],
 ) -> Result<Pack<T>, Refusal>
     ensures stands { IfOk result
-        (λ out. StandsBeyond T.times since.now updates.now out) }
+        (λ out. AgreeBeyond T.times since.now updates.now out) }
     ensures own { IfOk result (λ out.
         IsTrue (list_all (λ u. is_own T.times since.now u.time) out)) }
     ensures once { IfOk result (λ out. IsConsolidated T.cmp out) }
@@ -138,7 +138,7 @@ pub(crate) fn compact_given<T: Lattice>(
 ) -> Result<(), Refusal>
     requires past { IsPast T.times given.old past.old }
     ensures past { IsPast T.times given.new past.new }
-    ensures stands { StandsBeyond T.times since.now given.old given.new }
+    ensures stands { AgreeBeyond T.times since.now given.old given.new }
     ensures own { OnOk result (IsTrue
         (list_all (λ u. is_own T.times since.now u.time) given.new)) }
     ensures once { OnOk result (IsConsolidated T.cmp given.new) }

@@ -13,7 +13,7 @@
 ghost use Rattle.std.specs.Prelude.{◌≡◌, ◌≤◌, ◌++◌, [], IfErr, IfOk, OnErr, OnOk, drop, length, slice_range};
 ghost use Rattle.update.specs.declared.refusal.Refusal.{Refusal};
 ghost use Rattle.key_history.specs.States.{HistoryState, given_more, given_less, due_left, times_put};
-ghost use Rattle.key_history.specs.Replays.{StandsFrom};
+ghost use Rattle.key_history.specs.Replays.{AgreeFrom};
 ghost use Rattle.key_history.specs.Compaction.{IsCompacted, IsFolded, retimed};
 ghost use Rattle.lattice.specs.Representatives.{representative_of};
 ghost use Rattle.update.specs.Refusals.{OnlyMemory, IsMemoryOrOverflow};
@@ -116,7 +116,7 @@ impl<T: Lattice> KeyHistory<T> {
     pub(crate) fn seen_from(&self, meet: T) -> (&[Update<T>], &Pack<T>, usize)
         ensures within { result.2 ≤ length result.1.now }
         ensures whole { result.1.now ≡ self.now.given }
-        ensures stands { StandsFrom T.times meet self.now.given
+        ensures stands { AgreeFrom T.times meet self.now.given
             (result.0.now ++ drop result.2 result.1.now) }
     {
         if self.past.since.less_equal(&meet) {

@@ -18,7 +18,7 @@ ghost use Rattle.update.specs.Refusals.{OnlyMemory};
 ghost use Rattle.update.specs.declared.change.Update.{Update};
 ghost use Rattle.update.specs.declared.refusal.Refusal.{Refusal};
 ghost use Rattle.key_history.specs.Pasts.{IsPast};
-ghost use Rattle.key_history.specs.Replays.{StandsFrom};
+ghost use Rattle.key_history.specs.Replays.{AgreeFrom};
 
 use crate::pack::Pack;
 use crate::replay::{append_copies, nearer};
@@ -60,7 +60,7 @@ impl<T: Lattice> Past<T> {
     // half as many.
     fn if_short(alloc: Global, near: Vec<Update<T>>, count: usize, since: T) -> Past<T>
         ensures past { (given : List (Update T)) → count ≡ length given
-            → StandsFrom T.times since given near.items → IsPast T.times given result }
+            → AgreeFrom T.times since given near.items → IsPast T.times given result }
     {
         let half = count / 2;
         if near.len() > half {
@@ -92,7 +92,7 @@ impl<T: Lattice> Past<T> {
     ) -> Result<Past<T>, Refusal>
         requires { from ≤ length given.now }
         ensures past { IfOk result (λ p.
-            StandsFrom T.times since given.now (folded.now ++ drop from given.now)
+            AgreeFrom T.times since given.now (folded.now ++ drop from given.now)
             → IsPast T.times given.now p) }
         ensures only { OnlyMemory result }
     {

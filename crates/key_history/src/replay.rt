@@ -8,7 +8,7 @@
 //! time looks at that list alone.
 //!
 //! The invariant: what has come in, with what comes in later, sums at each time to come to what the
-//! whole list sums to (`StandsOn` in `specs/Replays.antt`).
+//! whole list sums to (`AgreeOn` in `specs/Replays.antt`).
 ghost use Rattle.std.specs.Prelude.{◌≡◌, ◌⊎◌, ◌≤◌, ◌<◌, ◌+◌, ◌++◌, ◌∷◌, [], List, ℤ, Bool, true, IsTrue, IfOk, OnOk, IsSomeAnd, drop, length, slice_get, false};
 ghost use Rattle.std.specs.List.{list_all};
 ghost use Rattle.update.specs.Refusals.{OnlyMemory};
@@ -17,7 +17,7 @@ ghost use Rattle.update.specs.Updates.{as_of, entry};
 ghost use Rattle.update.specs.declared.change.Update.{Update};
 ghost use Rattle.update.specs.declared.refusal.Refusal.{Refusal};
 ghost use Rattle.std.specs.declared.cmp.Ordering.{Ordering};
-ghost use Rattle.key_history.specs.Replays.{Ascends, Settles, StandsEver, StandsFrom, moved_to, on_the_way};
+ghost use Rattle.key_history.specs.Replays.{Ascends, Settles, AgreeEver, AgreeFrom, moved_to, on_the_way};
 
 use crate::pack::Pack;
 use lattice::Lattice;
@@ -72,7 +72,7 @@ pub(crate) fn nearer<T: Lattice>(
     updates: Vec<Update<T>>,
     meet: T,
 ) -> Result<Vec<Update<T>>, Refusal>
-    ensures stands { IfOk result (λ out. StandsFrom T.times meet updates.items out.items) }
+    ensures stands { IfOk result (λ out. AgreeFrom T.times meet updates.items out.items) }
     ensures only { OnlyMemory result }
 {
     let list = moved(alloc, updates.as_slice(), meet)?;
@@ -152,8 +152,8 @@ impl<T: Lattice> Replay<T> {
     // Puts updates with those that have come in, unless their time comes after the first one.
     fn put_all(&mut self, updates: &[Update<T>], first: T) -> Result<(), Refusal>
         ensures put { OnOk result ((before : List (Update T))
-            → StandsEver T.times before (self.old.near.items ++ self.old.later.items)
-            → StandsEver T.times (before ++ updates.now)
+            → AgreeEver T.times before (self.old.near.items ++ self.old.later.items)
+            → AgreeEver T.times (before ++ updates.now)
             (self.new.near.items ++ self.new.later.items)) }
         ensures entered { self.new.entered ≡ self.old.entered }
         ensures only { OnlyMemory result }
@@ -171,8 +171,8 @@ impl<T: Lattice> Replay<T> {
     fn put_from(&mut self, given: &Pack<T>, from: usize, first: T) -> Result<(), Refusal>
         requires { from ≤ length given.now }
         ensures put { OnOk result ((before : List (Update T))
-            → StandsEver T.times before (self.old.near.items ++ self.old.later.items)
-            → StandsEver T.times (before ++ drop from given.now)
+            → AgreeEver T.times before (self.old.near.items ++ self.old.later.items)
+            → AgreeEver T.times (before ++ drop from given.now)
             (self.new.near.items ++ self.new.later.items)) }
         ensures entered { self.new.entered ≡ self.old.entered }
         ensures only { OnlyMemory result }
@@ -203,7 +203,7 @@ impl<T: Lattice> Replay<T> {
         times: usize,
     ) -> Result<Replay<T>, Refusal>
         requires { from ≤ length given.now }
-        ensures stands { IfOk result (λ p. StandsEver T.times (updates.now ++ drop from given.now)
+        ensures stands { IfOk result (λ p. AgreeEver T.times (updates.now ++ drop from given.now)
             (on_the_way p.near.items p.later.items p.entered)) }
         ensures ascending { IfOk result (λ p. Ascends T.cmp p.later.items) }
         ensures only { OnlyMemory result }
@@ -276,7 +276,7 @@ impl<T: Lattice> Replay<T> {
     /// Cost: that of [`nearer`]. All moves of one way together cost n log n in the number of
     /// updates that come in.
     pub(crate) fn advance(&mut self, alloc: Global, meet: T) -> Result<(), Refusal>
-        ensures stands { OnOk result (StandsFrom T.times meet
+        ensures stands { OnOk result (AgreeFrom T.times meet
             (on_the_way self.old.near.items self.old.later.items self.old.entered)
             (on_the_way self.new.near.items self.new.later.items self.new.entered)) }
         ensures later { self.new.later ≡ self.old.later }
@@ -303,7 +303,7 @@ impl<T: Lattice> Replay<T> {
 
     // Adds an update to a tally if it is at or before `meet`, and else puts it with those that have
     // come in.
-    fn settle(&mut self, update: Update<T>, base: &mut Tally, meet: T) -> Result<(), Refusal>
+    fn fold_or_keep(&mut self, update: Update<T>, base: &mut Tally, meet: T) -> Result<(), Refusal>
         ensures settles { OnOk result (Settles T.times meet base.old
             (self.old.near.items ++ update ∷ []) base.new self.new.near.items) }
         ensures later { self.new.later ≡ self.old.later }
@@ -323,7 +323,7 @@ impl<T: Lattice> Replay<T> {
     ///
     /// Cost: a look at each of those that have come in; if some are added, a binary search in the
     /// tally for each of these, and a move of the others.
-    pub(crate) fn settle_into(
+    pub(crate) fn fold_into(
         &mut self,
         alloc: Global,
         base: &mut Tally,
@@ -341,7 +341,7 @@ impl<T: Lattice> Replay<T> {
         let room = Vec::with_capacity(alloc, self.near.len())?;
         let near = mem::replace(&mut self.near, room);
         for update in near {
-            self.settle(update, base, meet)?;
+            self.fold_or_keep(update, base, meet)?;
         }
         Ok(())
     }

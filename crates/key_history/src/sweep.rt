@@ -135,7 +135,7 @@ fn lead<T: Lattice>(alloc: Global, time: T, meet: T, sweep: &mut Sweep<T>) -> Re
     let behind = meet_with_last(&sweep.last, meet);
     // What all times to come see goes into the tally first: then it need not be moved and sorted
     // with the rest.
-    sweep.rows.settle_into(alloc, &mut sweep.base, meet)?;
+    sweep.rows.fold_into(alloc, &mut sweep.base, meet)?;
     sweep.rows.advance(alloc, meet)?;
     sweep.had.advance(alloc, behind)?;
     sweep.rows.reach(time)?;

@@ -1,5 +1,5 @@
 -- What a contract sees of a board, what each event makes of it, and which histories it may stand
--- for. `Stands` is the invariant of this room: the board has at each place what the history leaves
+-- for. `Represents` is the invariant of this room: the board has at each place what the history leaves
 -- there. Several histories may leave the same, so a contract speaks of every history that the board
 -- may stand for.
 pub mod Reads
@@ -137,9 +137,9 @@ module _ {T : Type 0} where
   abbrev pub after_give : Emission T → List T → List (Bundle T) → BoardState T → BoardState T
   after_give g ts sent b = record (give_output g ts sent b) { last = Give g ts sent }
 
-  -- the board after a worker turned to the times that it holds at a node
-  abbrev pub after_turn : ℕ → ℕ → BoardState T → BoardState T
-  after_turn worker n b = record b { hand = set b.hand worker (Some n); last = TakeHeld worker n }
+  -- the board after a worker was notified at a node
+  abbrev pub after_notification : ℕ → ℕ → BoardState T → BoardState T
+  after_notification worker n b = record b { hand = set b.hand worker (Some n); last = TakeHeld worker n }
 
   -- the board after a worker took a bundle
   abbrev pub after_take : ℕ → Bundle T → BoardState T → BoardState T
@@ -220,7 +220,7 @@ module _ {T : Type 0} (times : Times T) where
 
   -- the board may stand for a history: the history is legal, and at each place the board has what
   -- the history leaves there. The board may keep the places in any order
-  pub record Stands (b : BoardState T) (h : List (Event T)) : Type 0 where
+  pub record Represents (b : BoardState T) (h : List (Event T)) : Type 0 where
     pub legal : IsLegal times (opened_dataflow b) h
     pub queues : (site : Site) → queue_of b.stations site ≡ queue site (state_on b h).in_flight
     pub held : (n k : ℕ) → (lot_of b.stations n k).held ≡ held_at n k (state_on b h).held

@@ -4,14 +4,14 @@
 //! that wait at each place, the times that workers hold, the frontiers of the inputs, each worker's
 //! piece in hand, what views captured, and how many changes each input accepted. There is no list
 //! of the changes. The first three lie in its accounts, together with the tally that counts them.
-//! `Stands` says which histories a board may stand for. Every event keeps one invariant: if the
+//! `Represents` says which histories a board may stand for. Every event keeps one invariant: if the
 //! board may stand for a history before the call, it stands afterwards for that history with one
 //! event more.
 ghost use Rattle.std.specs.Prelude.{◌≡◌, ◌≤◌, List, [], ◌∷◌, None, IfOk, replicate};
 ghost use Rattle.update.specs.Refusals.{OnlyMemory};
 ghost use Rattle.histories.specs.Histories.Dataflows.{IsDataflow};
 ghost use Rattle.histories.specs.declared.event.Event.{Event};
-ghost use Rattle.machine.specs.Boards.{BoardState, IsBoard, Stands, first_board, after_look};
+ghost use Rattle.machine.specs.Boards.{BoardState, IsBoard, Represents, first_board, after_look};
 
 pub(crate) mod arrivals;
 pub(crate) mod clients;
@@ -82,7 +82,7 @@ impl<T: Minimum> Board<T> {
         requires { 1 ≤ workers }
         ensures first { IfOk result (λ board.
             board ≡ first_board T.times.least (record { nodes = plan; workers = workers })) }
-        ensures stands { IfOk result (λ board. Stands T.times board []) }
+        ensures stands { IfOk result (λ board. Represents T.times board []) }
         ensures refused { OnlyMemory result }
     {
         Board::first(alloc, plan, workers)
@@ -152,8 +152,8 @@ impl<T: Minimum> Board<T> {
     /// A client or worker looks, and the board stays as it is. Takes no memory.
     pub fn look(&mut self, actor: usize)
         ensures looked { self.new ≡ after_look actor self.old }
-        ensures stands { (h : List (Event T)) → Stands T.times self.old h
-            → Stands T.times self.new (self.new.last ∷ h) }
+        ensures stands { (h : List (Event T)) → Represents T.times self.old h
+            → Represents T.times self.new (self.new.last ∷ h) }
     {
         self.note(Snapshot::of(&Event::Look { actor }));
     }

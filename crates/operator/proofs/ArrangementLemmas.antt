@@ -23,7 +23,7 @@ use Rattle.trace.proofs.BatchListLemmas.{reached_boundary}
 use Rattle.trace.proofs.BoundaryLemmas.{end-append}
 use Rattle.spine.specs.HoldRules.{AreSameHolds, IsMoved, IsSinceOf}
 use Rattle.levels.specs.Levels.{Change}
-use Rattle.spine.specs.Spines.{SpineState, Stands, AreAllowed, IsWorked, after, boundaries, stored}
+use Rattle.spine.specs.Spines.{SpineState, Represents, AreAllowed, IsWorked, after, boundaries, stored}
 use Rattle.spine.proofs.HoldersLemmas.{all_same, hold_begun}
 use Rattle.spine.proofs.StandLemmas.{end_changed}
 use Rattle.operator.specs.Arrangements.{ArrangementState, IsArrangement, IsNew, IsReader, rows_have, times_from, upper_of}
@@ -257,13 +257,13 @@ module _ {T : Type 0} (times : Times T) (o : PartialOrderLaws times) where
         }
 
   -- room for a batch changes nothing that a spine stands for
-  pub stands_reserved : (s t : SpineState T) (reserved : Bool) → t ≡ record s { list = record s.list { reserved = reserved } } → (h : List (Insertion T)) → Stands times s h → Stands times t h
-  stands_reserved s t reserved e h st = subst (λ (x : SpineState T). Stands times x h) (sym e) (record { upper = st.upper; ended = st.ended; reads = st.reads })
+  pub stands_reserved : (s t : SpineState T) (reserved : Bool) → t ≡ record s { list = record s.list { reserved = reserved } } → (h : List (Insertion T)) → Represents times s h → Represents times t h
+  stands_reserved s t reserved e h st = subst (λ (x : SpineState T). Represents times x h) (sym e) (record { upper = st.upper; ended = st.ended; reads = st.reads })
 
   -- a new arrangement with one more reader
   pub new_held : (worker node width n : ℕ) (a b : ArrangementState T) → IsNew times worker node width n a
       → b ≡ record a { spine = record a.spine { holds = b.spine.holds }; holds = a.holds ++ record { logical = a.spine.since; physical = upper_of a.spine } ∷ [] }
-      → Stands times b.spine [] → IsNew times worker node width (n + 1) b
+      → Represents times b.spine [] → IsNew times worker node width (n + 1) b
   new_held worker node width n a b new e stands =
       let P : HoldState T → Type 0 = λ h. h ≡ record { logical = times.least ∷ []; physical = times.least ∷ [] } in
       let list : b.spine.list ≡ a.spine.list = ap (λ (x : ArrangementState T). x.spine.list) e in

@@ -19,7 +19,7 @@ use Rattle.trace.specs.BatchLists.{BatchListState, IsBatchList, IsLink, AreLinke
 use Rattle.trace.proofs.BatchListLemmas.{is_boundary}
 use Rattle.trace.proofs.BoundaryLemmas.{end_first, none_some, some_same, where_it_ends}
 use Rattle.spine.specs.HoldRules.{forbids}
-use Rattle.spine.specs.Spines.{SpineState, Stands}
+use Rattle.spine.specs.Spines.{SpineState, Represents}
 use Rattle.operator_laws.specs.JoinNodes.{on_top}
 use Rattle.operator.specs.Arrangements.{IsInTurn, AreInTurn, IsOpen}
 use Rattle.operator.proofs.TurnLemmas.{firsts, none_between}
@@ -177,7 +177,7 @@ module _ {T : Type 0} {times : Times T} (o : PartialOrderLaws times) (cmp : T �
 -- ---- what is next at a spine
 
 module _ {T : Type 0} {times : Times T} {cmp : T → T → Ordering} (o : PartialOrderLaws times) (total : IsTotalOrder cmp) (s : SpineState T) (list : IsBatchList times cmp s.list) where
-  module _ (inserted later taken : List (Insertion T)) (next : Insertion T) (u : List T) (stands : Stands times s inserted) (all : AreInTurn times s.list.start inserted) (is : IsOpen times s inserted) (split : inserted ≡ on_top later (next ∷ taken)) (here : u ≡ reached s.list.start taken) (asked : IsTrue (forbids times s.holds u)) where
+  module _ (inserted later taken : List (Insertion T)) (next : Insertion T) (u : List T) (stands : Represents times s inserted) (all : AreInTurn times s.list.start inserted) (is : IsOpen times s inserted) (split : inserted ≡ on_top later (next ∷ taken)) (here : u ≡ reached s.list.start taken) (asked : IsTrue (forbids times s.holds u)) where
     turn : IsInTurn times (reached s.list.start taken) next
     turn = (firsts o s.list.start later (next ∷ taken) (subst (AreInTurn times s.list.start) split all)).0
 

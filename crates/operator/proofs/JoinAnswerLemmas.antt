@@ -20,11 +20,11 @@ use Rattle.update.specs.declared.change.Update.{Update}
 use Rattle.update.specs.Refusals.{IsMemoryOrOverflow}
 use Rattle.batch.specs.Intervals.{all_times_beyond}
 use Rattle.trace.specs.Readings.{all_updates}
-use Rattle.spine.specs.Spines.{SpineState, Stands, stored}
+use Rattle.spine.specs.Spines.{SpineState, Represents, stored}
 use Rattle.join.specs.declared.side.Side.{Side}
 use Rattle.join.specs.declared.side.Side.TheVariants.{Left, Right}
 use Rattle.join.specs.Pairs.{pairs_fit, fits, is_keyed, is_wide}
-use Rattle.join.specs.Sides.{Acknowledged, WereInserted, acknowledged_to, all_rows_have, boundary_of, turned}
+use Rattle.join.specs.Sides.{Acknowledged, WereInserted, acknowledged_to, all_rows_have, boundary_of, other_side}
 use Rattle.join.specs.Takes.{side_pairs, side_pairs_fit, side_width, CanTake, IsTakeAnswer, IsTakeRefusal}
 use Rattle.join.proofs.LargeLemmas.{refused_by}
 use Rattle.join.proofs.VisibleLemmas.{side_compacted}
@@ -123,7 +123,7 @@ rows_of_batch times w us bs batch h = batch.among (λ row t. eqb (length row) w)
 
 module _ {T : Type 0} {times : Times T} (o : PartialOrderLaws times) (join_below : (a b s : T) → times.below (times.joined a b) s ≡ (times.below a s && times.below b s)) (side : Side) (j : JoiningView T) (us bs : List (Update T)) (batch : IsBatchOf times us bs) (other : SpineState T) where
   abbrev WasInserted : List (Update T) → Type 0
-  WasInserted got = WereInserted (Stands times other) other.list.start (boundary_of (turned side) j.state) got
+  WasInserted got = WereInserted (Represents times other) other.list.start (boundary_of (other_side side) j.state) got
 
   module _ (fitting : IsFitting j.state.key j.left_width j.right_width) (upper : List T) (can : CanTakeTo times side j us upper other) where
     -- the rows of the batch
@@ -134,7 +134,7 @@ module _ {T : Type 0} {times : Times T} (o : PartialOrderLaws times) (join_below
     key_within Left = fitting.left_key
     key_within Right = fitting.right_key
 
-    rows_fit_at : (side : Side) → IsTrue (all_rows_have (columns_of side j) bs) → IsTrue (all_rows_have (columns_of (turned side) j) (stored other)) → IsTrue (side_pairs_fit side j.state.key bs (stored other))
+    rows_fit_at : (side : Side) → IsTrue (all_rows_have (columns_of side j) bs) → IsTrue (all_rows_have (columns_of (other_side side) j) (stored other)) → IsTrue (side_pairs_fit side j.state.key bs (stored other))
     rows_fit_at Left own others = rows_fit j.state.key j.left_width j.right_width fitting.right_key fitting.narrow bs (stored other) own others
     rows_fit_at Right own others = rows_fit j.state.key j.left_width j.right_width fitting.right_key fitting.narrow (stored other) bs others own
 
@@ -145,25 +145,25 @@ module _ {T : Type 0} {times : Times T} (o : PartialOrderLaws times) (join_below
       narrow = rows_fit_at side own_rows can.other_rows;
     }
 
-    pair_columns : (side : Side) → side_width side j.state.key (columns_of side j) (columns_of (turned side) j) ≡ j.left_width + j.right_width - j.state.key
+    pair_columns : (side : Side) → side_width side j.state.key (columns_of side j) (columns_of (other_side side) j) ≡ j.left_width + j.right_width - j.state.key
     pair_columns Left = let key = fitting.right_key in omega (arith, key)
     pair_columns Right = let key = fitting.right_key in omega (arith, key)
 
     pub batch_answered : {cmp : T → T → Ordering} (out : List (Update T)) → IsTakeAnswer side times cmp j.state.key bs (stored other) WasInserted out → IsSideAnswer times side cmp j us other out
     batch_answered out is = record {
       answer = λ inserted taken mine.
-          let got = side_inserted o other inserted taken (boundary_of (turned side) j.state) mine in
+          let got = side_inserted o other inserted taken (boundary_of (other_side side) j.state) mine in
           let made = is.joined (all_updates taken) got in
           side_answer o join_below j.state.key us bs (all_updates taken) out batch is.beyond side made.sums made.load;
       consolidated = is.consolidated;
-      width = subst (λ n. IsTrue (all_rows_have n out)) (pair_columns side) (is.width (columns_of side j) (columns_of (turned side) j) own_rows can.other_rows);
+      width = subst (λ n. IsTrue (all_rows_have n out)) (pair_columns side) (is.width (columns_of side j) (columns_of (other_side side) j) own_rows can.other_rows);
     }
 
   pub batch_refused : (found : List (Update T)) (refused : Refusal) → IsTakeRefusal side times j.state.key bs found WasInserted refused → IsMemoryOrOverflow (IsTakeLarge times side j us other) refused
   batch_refused found refused is =
       refused_by _ _ refused is.cause
       (λ over inserted taken mine.
-      let got = side_inserted o other inserted taken (boundary_of (turned side) j.state) mine in
+      let got = side_inserted o other inserted taken (boundary_of (other_side side) j.state) mine in
       let large = is.large over (all_updates taken) got in
       let more = mul-le-mul_right (size (all_updates taken)) batch.smaller in
       inr (omega (arith, large, more)))

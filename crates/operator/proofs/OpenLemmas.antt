@@ -14,7 +14,7 @@ use Rattle.trace.specs.BatchLists.{BatchListState, ends_of, insertion_of}
 use Rattle.trace.proofs.BatchListLemmas.{reached_boundary}
 use Rattle.trace.proofs.BoundaryLemmas.{end-append, none_some, some_same}
 use Rattle.spine.specs.HoldRules.{IsMoved, forbids}
-use Rattle.spine.specs.Spines.{SpineState, IsWorked, Stands, boundaries}
+use Rattle.spine.specs.Spines.{SpineState, IsWorked, Represents, boundaries}
 use Rattle.operator_laws.specs.JoinNodes.{on_top}
 use Rattle.operator.specs.Arrangements.{AreInTurn, IsOpen, upper_of}
 use Rattle.operator.proofs.ArrangementLemmas.{boundary_more, with_batch}
@@ -112,7 +112,7 @@ module _ {T : Type 0} {times : Times T} (o : PartialOrderLaws times) where
         absurd (turn.some (none_between o i.upper (reached start taken) over i.updates turn.between))
 
   -- with one more hold, which begins at the frontier that the spine has reached
-  pub open_held : (s t : SpineState T) (k : HoldState T) (h : List (Insertion T)) → k.physical ≡ upper_of s → t ≡ record s { holds = s.holds ++ k ∷ [] } → Stands times s h → AreInTurn times s.list.start h → IsOpen times s h → IsOpen times t h
+  pub open_held : (s t : SpineState T) (k : HoldState T) (h : List (Insertion T)) → k.physical ≡ upper_of s → t ≡ record s { holds = s.holds ++ k ∷ [] } → Represents times s h → AreInTurn times s.list.start h → IsOpen times s h → IsOpen times t h
   open_held s t k h at e stands in_turn is =
       subst (λ (x : SpineState T). IsOpen times x h) (sym e) now
     where

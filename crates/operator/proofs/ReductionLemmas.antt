@@ -38,7 +38,7 @@ use Rattle.reduce.specs.Histories.{HistoryState, due_of, IsWaiting}
 use Rattle.reduce.specs.Duties.{are_wide}
 use Rattle.reduce.specs.Debts.{IsOwed, IsOverfull}
 use Rattle.reduce.specs.Kinds.{kind_answer, kind_reduces}
-use Rattle.reduce.specs.Reductions.{StandsFor, IsOpenTo, IsQuietAt, SumsToTaken}
+use Rattle.reduce.specs.Reductions.{RepresentsUpdates, IsOpenTo, IsQuietAt, SumsToTaken}
 use Rattle.key_history.proofs.ApartLemmas.{doubled, doubled_is, own_total, apart_both}
 use Rattle.key_history.proofs.OverfullLemmas.{overfull_is_large}
 use Rattle.reduce.proofs.HeldLemmas.{under_in, pending_under}
@@ -329,7 +329,7 @@ module _ {T : Type 0} {times : Times T} (o : PartialOrderLaws times) (l : Lattic
 
   pub took : (r : ReducingView T) (content us received emitted : List (Update T)) (hs : List (HistoryState T)) (waiting : List ℕ) → StandIn times content us
       → (w : IsReduced times r received emitted) → IsTrue (have_width r.width us)
-      → StandsFor times (times.least ∷ []) r.state.key (kind_answer r.state.reducer) hs (content ++ w.taken) emitted → IsOpenTo times r.state.key emitted hs
+      → RepresentsUpdates times (times.least ∷ []) r.state.key (kind_answer r.state.reducer) hs (content ++ w.taken) emitted → IsOpenTo times r.state.key emitted hs
       → IsReduced times (record r { state = record r.state { histories = hs; waiting = waiting } }) (us ++ received) emitted
   took r content us received emitted hs waiting same w wide st ahead = record {
     taken = content ++ w.taken;
@@ -429,7 +429,7 @@ sums_taken times since frontier inserted received taken h same t s f row = h t (
 module _ {T : Type 0} {times : Times T} {cmp : T → T → Ordering} (o : PartialOrderLaws times) (l : LatticeLaws times) (total : IsTotalOrder cmp) where
   pub gave : (r : ReducingView T) (received emitted out : List (Update T)) (frontier : List T) (hs : List (HistoryState T)) (waiting : List ℕ) (looked : ℕ)
       → r.state.key ≡ state_key r.state.reducer r.key r.width → (w : IsReduced times r received emitted)
-      → StandsFor times (times.least ∷ []) r.state.key (kind_answer r.state.reducer) hs w.taken (emitted ++ out)
+      → RepresentsUpdates times (times.least ∷ []) r.state.key (kind_answer r.state.reducer) hs w.taken (emitted ++ out)
       → AreApart times (emitted ++ out) → IsOpenTo times r.state.key (emitted ++ out) hs
       → ((t : T) → IsTrue (has_passed times frontier t) → IsQuietAt times hs t)
       → AreApart times out → AllByRecursion (λ u. u.diff ≢ pos 0) out → IsTrue (list_all (λ u. has_passed times frontier u.time) out)

@@ -10,7 +10,7 @@ use Rattle.trace.specs.Readings.{Insertion, reached}
 use Rattle.trace.specs.BatchLists.{end_of}
 use Rattle.trace.specs.Holds.{HoldState}
 use Rattle.spine.specs.HoldRules.{AreSameHolds, forbids}
-use Rattle.spine.specs.Spines.{SpineState, Stands, boundaries, stored}
+use Rattle.spine.specs.Spines.{SpineState, Represents, boundaries, stored}
 use Rattle.operator_laws.specs.JoinNodes.{on_top}
 
 -- how many columns the rows have, the batches that were inserted, the updates whose times the input
@@ -69,7 +69,7 @@ module _ {T : Type 0} (times : Times T) where
     pub nothing_waits : a.waiting ≡ []
     pub readers : length a.holds ≡ count
     pub begin : All (λ hold. hold ≡ record { logical = times.least ∷ []; physical = times.least ∷ [] }) a.holds
-    pub stands : Stands times a.spine []
+    pub stands : Represents times a.spine []
     pub since : a.spine.since ≡ times.least ∷ []
 
   -- the insertion goes on from a frontier: it ends at one beyond it, and has updates, all with
@@ -99,4 +99,4 @@ pub record IsWithReader {T : Type 0} (times : Times T) (a b : ArrangementState T
   pub waiting : b.waiting ≡ a.waiting
   pub holds : b.holds ≡ a.holds ++ record { logical = a.spine.since; physical = upper_of a.spine } ∷ []
   pub since : b.spine.since ≡ a.spine.since
-  pub stands : (h : List (Insertion T)) → Stands times a.spine h → Stands times b.spine h
+  pub stands : (h : List (Insertion T)) → Represents times a.spine h → Represents times b.spine h

@@ -7,10 +7,10 @@ use Rattle.update.specs.Updates.{as_of, size, IsConsolidated}
 use Rattle.update.specs.declared.change.Update.{Update}
 use Rattle.batch.specs.Intervals.{all_times_beyond, is_interval_of}
 use Rattle.trace.specs.Readings.{Insertion, all_updates, reached}
-use Rattle.spine.specs.Spines.{SpineState, Stands, boundaries, stored}
+use Rattle.spine.specs.Spines.{SpineState, Represents, boundaries, stored}
 use Rattle.join.specs.declared.side.Side.{Side}
 use Rattle.join.specs.declared.side.Side.TheVariants.{Left, Right}
-use Rattle.join.specs.Sides.{Acknowledged, all_rows_have, boundary_of, turned}
+use Rattle.join.specs.Sides.{Acknowledged, all_rows_have, boundary_of, other_side}
 use Rattle.join.specs.Takes.{side_pairs}
 use Rattle.operator.specs.Arrangements.{AreInTurn, times_from}
 use Rattle.operator_laws.specs.JoinNodes.{IsAnswer, on_top}
@@ -51,7 +51,7 @@ module _ {T : Type 0} (times : Times T) where
   -- a side of a join has taken the oldest of the insertions for which its spine stands, up to its
   -- boundary
   pub record IsSide (s : SpineState T) (inserted taken : List (Insertion T)) (boundary : List T) : Type 0 where
-    pub stands : Stands times s inserted
+    pub stands : Represents times s inserted
     pub start : s.list.start ≡ times.least ∷ []
     pub in_turn : AreInTurn times (times.least ∷ []) inserted
     pub later : List (Insertion T)
@@ -65,15 +65,15 @@ module _ {T : Type 0} (times : Times T) where
     pub rows : IsTrue (all_rows_have (columns_of side j) us)
     pub begun : IsTrue (times_from times us)
     pub interval : IsTrue (is_interval_of times (boundary_of side j.state) upper us)
-    pub readable : Contains (boundaries other) (boundary_of (turned side) j.state)
-    pub other_rows : IsTrue (all_rows_have (columns_of (turned side) j) (stored other))
+    pub readable : Contains (boundaries other) (boundary_of (other_side side) j.state)
+    pub other_rows : IsTrue (all_rows_have (columns_of (other_side side) j) (stored other))
     pub later : IsTrue (all_times_beyond times other.since us)
 
   -- out answers a side's take of us: it is consolidated, has the width of pairs, and is an answer
   -- of the pairs with all that the other side has taken
   pub record IsSideAnswer (side : Side) (cmp : T → T → Ordering) (j : JoiningView T) (us : List (Update T)) (other : SpineState T) (out : List (Update T)) : Type 0 where
     pub answer : (inserted taken : List (Insertion T))
-        → IsSide other inserted taken (boundary_of (turned side) j.state)
+        → IsSide other inserted taken (boundary_of (other_side side) j.state)
         → IsAnswer times (side_pairs side times j.state.key us (all_updates taken)) us (all_updates taken) out
     pub consolidated : IsConsolidated cmp out
     pub width : IsTrue (all_rows_have (j.left_width + j.right_width - j.state.key) out)
@@ -82,5 +82,5 @@ module _ {T : Type 0} (times : Times T) where
   abbrev pub IsTakeLarge : Side → JoiningView T → List (Update T) → SpineState T → Type 0
   IsTakeLarge side j us other =
       (inserted taken : List (Insertion T))
-      → IsSide other inserted taken (boundary_of (turned side) j.state)
+      → IsSide other inserted taken (boundary_of (other_side side) j.state)
       → (2 ^ 63 ≤ size us) ⊎ (2 ^ 63 ≤ size us * size (all_updates taken))

@@ -13,7 +13,7 @@ use Rattle.plan.specs.declared.kind.Kind.{Kind}
 use Rattle.histories.specs.Histories.States.{update_times}
 use Rattle.reduce.specs.Histories.{HistoryState, ReduceView}
 use Rattle.reduce.specs.Kinds.{kind_answer}
-use Rattle.reduce.specs.Reductions.{StandsFor, IsOpenTo}
+use Rattle.reduce.specs.Reductions.{RepresentsUpdates, IsOpenTo}
 
 -- a reduction of a plan's kind: its state, the number of columns by which the plan reduces, and the
 -- number of columns of the rows that it takes. The state goes by `state.key` columns, those of the
@@ -106,7 +106,7 @@ module _ {T : Type 0} (times : Times T) where
   pub record IsReduced (r : ReducingView T) (received emitted : List (Update T)) : Type 0 where
     pub taken : List (Update T)
     pub same : StandIn times taken received
-    pub stands : StandsFor times (times.least ∷ []) r.state.key (kind_answer r.state.reducer) r.state.histories taken emitted
+    pub stands : RepresentsUpdates times (times.least ∷ []) r.state.key (kind_answer r.state.reducer) r.state.histories taken emitted
     pub apart : AreApart times emitted
     pub ahead : IsOpenTo times r.state.key emitted r.state.histories
     pub wide : IsTrue (have_width r.width received)

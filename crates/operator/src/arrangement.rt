@@ -22,7 +22,7 @@ ghost use Rattle.batch.specs.Intervals.{all_between, is_interval_of, passed_upda
 ghost use Rattle.trace.specs.Readings.{Insertion, all_updates};
 ghost use Rattle.trace.specs.BatchLists.{Continues, insertion_of};
 ghost use Rattle.trace.specs.Holds.{HoldState};
-ghost use Rattle.spine.specs.Spines.{IsDone, Stands, boundaries};
+ghost use Rattle.spine.specs.Spines.{IsDone, Represents, boundaries};
 ghost use Rattle.operator.specs.Arrangements.{AreInTurn, IsArrangement, IsNew, IsOpen, rows_have, times_from, times_of, upper_of};
 
 mod boundary;
@@ -181,9 +181,9 @@ impl<T: Minimum> Arrangement<T> {
             physical = upper_of self.old.spine;
           } ∷ [];
         }) }
-        ensures stands { OnOk result ((h : List (Insertion T)) → Stands T.times self.old.spine h
-            → Stands T.times self.new.spine h) }
-        ensures open { OnOk result ((h : List (Insertion T)) → Stands T.times self.old.spine h
+        ensures stands { OnOk result ((h : List (Insertion T)) → Represents T.times self.old.spine h
+            → Represents T.times self.new.spine h) }
+        ensures open { OnOk result ((h : List (Insertion T)) → Represents T.times self.old.spine h
             → AreInTurn T.times self.old.spine.list.start h → IsOpen T.times self.old.spine h
             → IsOpen T.times self.new.spine h) }
         ensures same { OnErr result (self.new ≡ self.old) }
@@ -282,8 +282,8 @@ impl<T: Minimum> Arrangement<T> {
             list = record self.old.spine.list { reserved = true };
           };
         }) }
-        ensures stands { (h : List (Insertion T)) → Stands T.times self.old.spine h
-            → Stands T.times self.new.spine h }
+        ensures stands { (h : List (Insertion T)) → Represents T.times self.old.spine h
+            → Represents T.times self.new.spine h }
         ensures open { (h : List (Insertion T)) → IsOpen T.times self.old.spine h
             → IsOpen T.times self.new.spine h }
         ensures same { OnErr result (self.new ≡ self.old) }
@@ -312,8 +312,8 @@ impl<T: Minimum> Arrangement<T> {
           };
         } }
         ensures upper { upper_of self.new.spine ≡ batch.description.upper }
-        ensures stands { (h : List (Insertion T)) → Stands T.times self.old.spine h
-            → Stands T.times self.new.spine (insertion_of batch ∷ h) }
+        ensures stands { (h : List (Insertion T)) → Represents T.times self.old.spine h
+            → Represents T.times self.new.spine (insertion_of batch ∷ h) }
         ensures open { (h : List (Insertion T)) → IsOpen T.times self.old.spine h
             → IsOpen T.times self.new.spine (insertion_of batch ∷ h) }
     {
@@ -339,8 +339,8 @@ impl<T: Minimum> Arrangement<T> {
           };
         } }
         ensures upper { upper_of self.new.spine ≡ upper_of self.old.spine }
-        ensures stands { (h : List (Insertion T)) → Stands T.times self.old.spine h
-            → Stands T.times self.new.spine h }
+        ensures stands { (h : List (Insertion T)) → Represents T.times self.old.spine h
+            → Represents T.times self.new.spine h }
         ensures open { (h : List (Insertion T)) → IsOpen T.times self.old.spine h
             → IsOpen T.times self.new.spine h }
     {
@@ -371,14 +371,14 @@ impl<T: Minimum> Arrangement<T> {
           };
         } }
         ensures upper { upper_of self.new.spine ≡ upper_of self.old.spine }
-        ensures stands { (h : List (Insertion T)) → Stands T.times self.old.spine h
-            → Stands T.times self.new.spine h }
+        ensures stands { (h : List (Insertion T)) → Represents T.times self.old.spine h
+            → Represents T.times self.new.spine h }
         ensures open { (h : List (Insertion T)) → IsOpen T.times self.old.spine h
             → IsOpen T.times self.new.spine h }
         ensures done { IfOk result (λ done. (done ≡ true) ↔ IsDone T.times self.new.spine) }
         ensures idle { fuel ≡ 0 → self.new ≡ self.old }
         ensures refused { IfErr result (IsMemoryOrOverflow ((h : List (Insertion T))
-            → Stands T.times self.old.spine h → 2 ^ 63 ≤ size (all_updates h))) }
+            → Represents T.times self.old.spine h → 2 ^ 63 ≤ size (all_updates h))) }
     {
         self.spine.work(fuel)
     }
@@ -425,8 +425,8 @@ impl<T: Minimum> Arrangement<T> {
             physical = boundary.now;
           };
         }) }
-        ensures stands { (h : List (Insertion T)) → Stands T.times self.old.spine h
-            → Stands T.times self.new.spine h }
+        ensures stands { (h : List (Insertion T)) → Represents T.times self.old.spine h
+            → Represents T.times self.new.spine h }
         ensures open { OnOk result ((h : List (Insertion T)) → IsOpen T.times self.old.spine h
             → IsOpen T.times self.new.spine h) }
         ensures same { OnErr result (self.new ≡ self.old) }
@@ -460,8 +460,8 @@ impl<T: Minimum> Arrangement<T> {
             physical = upper_of self.old.spine;
           };
         }) }
-        ensures stands { (h : List (Insertion T)) → Stands T.times self.old.spine h
-            → Stands T.times self.new.spine h }
+        ensures stands { (h : List (Insertion T)) → Represents T.times self.old.spine h
+            → Represents T.times self.new.spine h }
         ensures open { OnOk result ((h : List (Insertion T)) → IsOpen T.times self.old.spine h
             → IsOpen T.times self.new.spine h) }
         ensures same { OnErr result (self.new ≡ self.old) }

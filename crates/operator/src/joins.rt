@@ -14,7 +14,7 @@ ghost use Rattle.update.specs.Updates.{size};
 ghost use Rattle.update.specs.Refusals.{OnlyMemory, IsMemoryOrOverflow};
 ghost use Rattle.batch.specs.Intervals.{is_interval_of};
 ghost use Rattle.join.specs.declared.side.Side.TheVariants.{Left, Right};
-ghost use Rattle.join.specs.Sides.{WereInserted, acknowledged_to, boundary_of, turned};
+ghost use Rattle.join.specs.Sides.{WereInserted, acknowledged_to, boundary_of, other_side};
 ghost use Rattle.join.specs.Takes.{CanTake, IsTakeAnswer, IsTakeRefusal};
 ghost use Rattle.operator.specs.Joins.{CanTakeTo, IsBatchOf, IsFitting, IsSideAnswer, IsTakeLarge};
 
@@ -97,21 +97,21 @@ fn take_batch<T: Lattice, S: Trace<Time = T>>(
     other: &S,
 ) -> Result<Vec<Update<T>>, Refusal>
     requires own { (S.Batch.described batch.now).lower ≡ boundary_of side state.old }
-    requires readable { Contains (S.ends other.now) (boundary_of (turned side) state.old) }
+    requires readable { Contains (S.ends other.now) (boundary_of (other_side side) state.old) }
     requires takeable { CanTake side T.times state.old.key (S.Batch.content batch.now)
         (S.held other.now) (S.content other.now) }
     ensures answer { IfOk result (λ out. IsTakeAnswer side T.times T.cmp state.old.key
         (S.Batch.content batch.now) (S.content other.now)
         (WereInserted (S.stands other.now) (S.start other.now)
-        (boundary_of (turned side) state.old)) out.items) }
+        (boundary_of (other_side side) state.old)) out.items) }
     ensures boundary { OnOk result (state.new ≡ acknowledged_to side
         (S.Batch.described batch.now).upper state.new.looked state.old) }
     ensures same { OnErr result (state.new ≡ state.old) }
     ensures refused { IfErr result (IsTakeRefusal side T.times state.old.key
         (S.Batch.content batch.now)
-        (S.stored_to other.now (boundary_of (turned side) state.old))
+        (S.stored_to other.now (boundary_of (other_side side) state.old))
         (WereInserted (S.stands other.now) (S.start other.now)
-        (boundary_of (turned side) state.old))) }
+        (boundary_of (other_side side) state.old))) }
 {
     match side {
         Side::Left => state.take_left(alloc, batch, other),

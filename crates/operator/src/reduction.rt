@@ -22,7 +22,7 @@ ghost use Rattle.plan.specs.Changes.{has_passed};
 ghost use Rattle.plan.specs.Kinds.{state_key};
 ghost use Rattle.histories.specs.Histories.States.{update_times};
 ghost use Rattle.trace.specs.Readings.{Insertion, all_updates};
-ghost use Rattle.spine.specs.Spines.{Stands};
+ghost use Rattle.spine.specs.Spines.{Represents};
 ghost use Rattle.operator_laws.specs.ReduceNodes.{IsPendingWith};
 ghost use Rattle.operator.specs.Reductions.{HasRoom, StandIn, SumsToReceived, IsAnswerAt, IsPendingAfter, IsOverfullWith, IsReduced, pending_of, have_width};
 
@@ -195,13 +195,13 @@ impl<T: Minimum> Reducing<T> {
         requires held { IsTrue (all_beyond T.times trace.now.since (pending_of self.old)) }
         ensures stands { IfOk result (λ out. (inserted : List (Insertion T))
             (received emitted : List (Update T))
-            → Stands T.times trace.now inserted
+            → Represents T.times trace.now inserted
             → SumsToReceived T.times frontier.now (all_updates inserted) received
             → IsReduced T.times self.old received emitted
             → IsReduced T.times self.new received (out ++ emitted)) }
         ensures law { IfOk result (λ out. (inserted : List (Insertion T))
             (received emitted : List (Update T))
-            → Stands T.times trace.now inserted
+            → Represents T.times trace.now inserted
             → SumsToReceived T.times frontier.now (all_updates inserted) received
             → IsReduced T.times self.old received emitted
             → (t : T) → IsTrue (has_passed T.times (pending_of self.new) t)
@@ -226,7 +226,7 @@ impl<T: Minimum> Reducing<T> {
         ensures same { OnErr result (self.new ≡ self.old) }
         ensures refused { IfErr result (IsMemoryOrOverflow ((inserted : List (Insertion T))
             (received emitted : List (Update T))
-            → Stands T.times trace.now inserted
+            → Represents T.times trace.now inserted
             → SumsToReceived T.times frontier.now (all_updates inserted) received
             → IsReduced T.times self.old received emitted
             → IsTrue (list_all (λ u. has_passed T.times frontier.now u.time) emitted)

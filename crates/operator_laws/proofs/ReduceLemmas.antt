@@ -44,8 +44,8 @@ module _ {T : Type 0} (times : Times T) (o : PartialOrderLaws times) (p : Datafl
   all_still_were w n k e us h = all_more (λ u. was_passed times n k w.observed u.time) (λ u. was_passed times n k (next_state times p w e).observed u.time) (λ u. still_was w n k e u.time) us h
 
   -- the law for turning to held times
-  pub turned_was : (w : State T) (n k : ℕ) (t : T) → has_passed times (input_frontier times p w n) t ≡ true → was_passed times n k (next_state times p w (TakeHeld k n)).observed t ≡ true
-  turned_was w n k t h = or_left ((eqb n n && eqb k k) && has_passed times (input_frontier times p w n) t) (was_passed times n k w.observed t) (and_from (eqb n n && eqb k k) (has_passed times (input_frontier times p w n) t) (own_place n k) h)
+  pub notified_was : (w : State T) (n k : ℕ) (t : T) → has_passed times (input_frontier times p w n) t ≡ true → was_passed times n k (next_state times p w (TakeHeld k n)).observed t ≡ true
+  notified_was w n k t h = or_left ((eqb n n && eqb k k) && has_passed times (input_frontier times p w n) t) (was_passed times n k w.observed t) (and_from (eqb n n && eqb k k) (has_passed times (input_frontier times p w n) t) (own_place n k) h)
 
   -- the law for the state before the first event
   pub first_reducing : (n k source : ℕ) (kind : Kind) → node_of p n ≡ Reduce kind source → IsReducing times p (initial_state times p) n k (times.least ∷ []) []

@@ -47,7 +47,7 @@ use Rattle.operator_laws.specs.GatheredUpdates.{IsCut, is_of, IsGathering}
 use Rattle.operator_laws.specs.ArrangeNodes.{IsArranging}
 use Rattle.operator_laws.specs.JoinNodes.{is_at_port, IsJoining, IsQueued}
 use Rattle.operator_laws.specs.ReduceNodes.{IsReducing}
-use Rattle.operator_laws.specs.Workers.{Works, IsWorkingAt, IsWorking, IsSameBut, IsForNoJoin, first_works, is_by, still_to_give}
+use Rattle.operator_laws.specs.Workers.{Holdings, IsWorkingAt, IsWorking, IsSameBut, IsForNoJoin, first_holdings, is_by, still_to_give}
 use Rattle.operator_laws.proofs.GatheredLemmas.{own_place, same_after, same_gathering, first_gathering}
 use Rattle.operator_laws.proofs.ArrangeLemmas.{same_arranging, first_arranging}
 use Rattle.operator_laws.proofs.JoinLemmas.{same_joining}
@@ -80,10 +80,10 @@ module _ {T : Type 0} (times : Times T) (o : PartialOrderLaws times) (p : Datafl
   first_queue n port k = record { later = []; all = refl; queued = refl }
 
   -- the law for the state before the first event
-  pub first_working : (k : ℕ) → IsWorking times p (initial_state times p) k (first_works times.least)
+  pub first_working : (k : ℕ) → IsWorking times p (initial_state times p) k (first_holdings times.least)
   first_working k n l = step (node_of p n) refl
     where
-      step : (node : Node) → node_of p n ≡ node → IsWorkingAt times p (initial_state times p) k (first_works times.least) n node
+      step : (node : Node) → node_of p n ≡ node → IsWorkingAt times p (initial_state times p) k (first_holdings times.least) n node
       step (Arrange source key) e = first_arranging times o p n k source key e
       step (Join left right) e = (
         record {
@@ -101,7 +101,7 @@ module _ {T : Type 0} (times : Times T) (o : PartialOrderLaws times) (p : Datafl
       step node e = first_gathering times p n k (ap is_reduction e)
 
   -- the law for events of clients and other workers
-  pub same_working : IsDataflow p → (w : State T) (k : ℕ) (works : Works T) → IsWorking times p w k works → (e : Event T) → IsAllowed times p w e → is_by k e ≡ false → IsWorking times p (next_state times p w e) k works
+  pub same_working : IsDataflow p → (w : State T) (k : ℕ) (works : Holdings T) → IsWorking times p w k works → (e : Event T) → IsAllowed times p w e → is_by k e ≡ false → IsWorking times p (next_state times p w e) k works
   same_working q w k works is e a d n l = step (node_of p n) refl (is n l)
     where
       still : IsGathering times p w n k (works.waiting n) → IsGathering times p (next_state times p w e) n k (works.waiting n)
@@ -147,7 +147,7 @@ module _ {T : Type 0} (times : Times T) (o : PartialOrderLaws times) (p : Datafl
 pub elsewhere_node : (n m : ℕ) (b : Bool) → m ≢ n → (eqb n m && b) ≡ false
 elsewhere_node n m b d = ap (λ c. c && b) (ne_eqb n m (λ e. d (sym e)))
 
-module _ {T : Type 0} (times : Times T) (o : PartialOrderLaws times) (p : Dataflow) (q : IsDataflow p) (w : State T) (k : ℕ) (works next : Works T) (is : IsWorking times p w k works) (e : Event T) (allowed : IsAllowed times p w e)
+module _ {T : Type 0} (times : Times T) (o : PartialOrderLaws times) (p : Dataflow) (q : IsDataflow p) (w : State T) (k : ℕ) (works next : Holdings T) (is : IsWorking times p w k works) (e : Event T) (allowed : IsAllowed times p w e)
     (n : ℕ) (but : IsSameBut n works next) (other : (m : ℕ) → m ≢ n → is_of m k e ≡ false) where
   abbrev v : State T
   v = next_state times p w e
@@ -198,7 +198,7 @@ reader_within p m i s e = has_source p.nodes m i s e
 
 module _ {T : Type 0} (times : Times T) (o : PartialOrderLaws times) (p : Dataflow) (q : IsDataflow p) (w : State T) where
   -- the law for takes
-  pub takes_lem : (number : ℕ) (bundle : Bundle T) (works next : Works T) → IsWorking times p w bundle.place.worker works → IsTake times p w number bundle → IsSameBut bundle.place.node works next → ((m : ℕ) → next.inserted m ≡ works.inserted m)
+  pub takes_lem : (number : ℕ) (bundle : Bundle T) (works next : Holdings T) → IsWorking times p w bundle.place.worker works → IsTake times p w number bundle → IsSameBut bundle.place.node works next → ((m : ℕ) → next.inserted m ≡ works.inserted m)
       → IsWorkingAt times p (next_state times p w (Take number bundle)) bundle.place.worker next bundle.place.node (node_of p bundle.place.node) → IsWorking times p (next_state times p w (Take number bundle)) bundle.place.worker next
   takes_lem number bundle works next is take but inserted here =
       let n = bundle.place.node in
@@ -211,7 +211,7 @@ module _ {T : Type 0} (times : Times T) (o : PartialOrderLaws times) (p : Datafl
       ))
       here
 
-  module _ (g : Emission T) (ts : List T) (works next : Works T) (is : IsWorking times p w g.worker works) (but : IsSameBut g.node works next) where
+  module _ (g : Emission T) (ts : List T) (works next : Holdings T) (is : IsWorking times p w g.worker works) (but : IsSameBut g.node works next) where
     other_give : (sent : List (Bundle T)) (m : ℕ) → m ≢ g.node → is_of m g.worker (Give g ts sent) ≡ false
     other_give sent m d = elsewhere_node g.node m (eqb g.worker g.worker) d
 
@@ -280,7 +280,7 @@ held_has {T} m (x ∷ ms) a = ⊎_elim (λ e. first e) (λ b. later (eqb x.node 
 
 module _ {T : Type 0} (times : Times T) (o : PartialOrderLaws times) (p : Dataflow) (q : IsDataflow p) where
   -- with nothing in hand, each time that a worker holds is beyond those that it has still to give
-  held_waits : (w : State T) (k : ℕ) (works : Works T) (n : ℕ) → w.hand k ≡ None → IsWorkingAt times p w k works n (node_of p n) → all_beyond times (still_to_give works n (node_of p n)) (held_at n k w.held) ≡ true
+  held_waits : (w : State T) (k : ℕ) (works : Holdings T) (n : ℕ) → w.hand k ≡ None → IsWorkingAt times p w k works n (node_of p n) → all_beyond times (still_to_give works n (node_of p n)) (held_at n k w.held) ≡ true
   held_waits w k works n free = step (node_of p n)
     where
       idle : w.hand k ≢ Some n
@@ -293,7 +293,7 @@ module _ {T : Type 0} (times : Times T) (o : PartialOrderLaws times) (p : Datafl
       step node g = g.tight idle
 
   -- the law for quiet
-  pub quiet_lem : (h : List (Event T)) → IsLegal times p h → (works : ℕ → Works T) → ((k : ℕ) → k < p.workers → IsWorking times p (state_after times p h) k (works k))
+  pub quiet_lem : (h : List (Event T)) → IsLegal times p h → (works : ℕ → Holdings T) → ((k : ℕ) → k < p.workers → IsWorking times p (state_after times p h) k (works k))
       → (state_after times p h).in_flight ≡ [] → ((k : ℕ) → k < p.workers → (state_after times p h).hand k ≡ None)
       → ((k n : ℕ) → k < p.workers → n < length p.nodes → all_beyond times (input_frontier times p (state_after times p h) n) (still_to_give (works k) n (node_of p n)) ≡ true)
       → IsQuiet times p (state_after times p h)

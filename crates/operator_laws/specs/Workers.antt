@@ -16,7 +16,7 @@ use Rattle.operator_laws.specs.ReduceNodes.{IsReducing}
 use Rattle.lattice.specs.Times.{Times}
 
 -- what a worker keeps, by node
-pub record Works (T : Type 0) : Type 0 where
+pub record Holdings (T : Type 0) : Type 0 where
   -- the updates that wait to be given
   pub waiting : ℕ → List (Update T)
   -- at an arrange node: where its trace began, and what was inserted, the newest first
@@ -30,8 +30,8 @@ pub record Works (T : Type 0) : Type 0 where
   pub pending : ℕ → List T
 
 -- what a worker keeps before the first event
-abbrev pub first_works : {T : Type 0} → T → Works T
-first_works minimum = record {
+abbrev pub first_holdings : {T : Type 0} → T → Holdings T
+first_holdings minimum = record {
   waiting = λ _. [];
   start = λ _. minimum ∷ [];
   inserted = λ _. [];
@@ -47,7 +47,7 @@ is_by k (Take number bundle) = eqb bundle.place.worker k
 is_by k (Give g ts sent) = eqb g.worker k
 is_by k other = false
 
-module _ {T : Type 0} (times : Times T) (p : Dataflow) (w : State T) (k : ℕ) (works : Works T) where
+module _ {T : Type 0} (times : Times T) (p : Dataflow) (w : State T) (k : ℕ) (works : Holdings T) where
   -- what the worker keeps at a node is right. A join takes from the traces of its sources, in order
   abbrev pub IsWorkingAt : ℕ → Node → Type 0
   IsWorkingAt n (Arrange source key) =
@@ -65,7 +65,7 @@ module _ {T : Type 0} (times : Times T) (p : Dataflow) (w : State T) (k : ℕ) (
 
 -- at all nodes but one the same is kept. What was inserted is left out: gives that insert say more
 -- of it
-pub record IsSameBut {T : Type 0} (n : ℕ) (works next : Works T) : Type 0 where
+pub record IsSameBut {T : Type 0} (n : ℕ) (works next : Holdings T) : Type 0 where
   pub waiting : (m : ℕ) → m ≢ n → next.waiting m ≡ works.waiting m
   pub start : (m : ℕ) → m ≢ n → next.start m ≡ works.start m
   pub left : (m : ℕ) → m ≢ n → next.left m ≡ works.left m
@@ -79,6 +79,6 @@ IsForNoJoin p k sent = (m l r : ℕ) → node_of p m ≡ Join l r
     → (queue (place m 0 k) sent ≡ []) × (queue (place m 1 k) sent ≡ [])
 
 -- the times that a worker still has to give at a node
-abbrev pub still_to_give : {T : Type 0} → Works T → ℕ → Node → List T
+abbrev pub still_to_give : {T : Type 0} → Holdings T → ℕ → Node → List T
 still_to_give works n (Reduce kind source) = works.pending n
 still_to_give works n other = update_times (works.waiting n)

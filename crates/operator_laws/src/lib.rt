@@ -46,7 +46,7 @@ pub use join_nodes::{
 };
 pub use reduce_nodes::{
     reduced_elsewhere, reduced_gives, reduced_holds_back, reduced_takes, reducing_begins,
-    turning_leaves_it,
+    a_notification_leaves_it,
 };
 pub use workers::{
     gives_at_one_node, inserts_at_one_node, joins_read_arranged_nodes, quiet_while_it_waits,

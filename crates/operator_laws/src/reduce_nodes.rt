@@ -43,8 +43,8 @@ pub fn reduced_takes<T: Minimum>()
         bundle.place.node bundle.place.worker upper more }
 {}
 
-/// Once the worker has turned to held times, what the input frontier has passed is recorded.
-pub fn turning_leaves_it<T: Minimum>()
+/// Once the worker was notified of held times, what the input frontier has passed is recorded.
+pub fn a_notification_leaves_it<T: Minimum>()
     ensures { (p : Dataflow) (w : State T) (n k : ℕ) (t : T)
         → IsTrue (has_passed T.times (input_frontier T.times p w n) t)
         → IsTrue (was_passed T.times n k (next_state T.times p w (TakeHeld k n)).observed t) }

@@ -16,20 +16,20 @@ ghost use Rattle.histories.specs.Histories.NodeLaws.{received_at};
 ghost use Rattle.histories.specs.Histories.Readings.{IsQuiet};
 ghost use Rattle.histories.specs.Histories.{initial_state, next_state, give_state, state_after, input_frontier_after, IsTake, IsGive, IsAllowed, IsLegal};
 ghost use Rattle.operator_laws.specs.GatheredUpdates.{IsCut};
-ghost use Rattle.operator_laws.specs.Workers.{Works, IsWorking, IsWorkingAt, IsSameBut, IsForNoJoin, first_works, is_by, still_to_give};
+ghost use Rattle.operator_laws.specs.Workers.{Holdings, IsWorking, IsWorkingAt, IsSameBut, IsForNoJoin, first_holdings, is_by, still_to_give};
 
 use lattice::Minimum;
 
 /// Before the first event each worker keeps nothing.
 pub fn working_begins<T: Minimum>()
     ensures { (p : Dataflow) (k : ℕ)
-        → IsWorking T.times p (initial_state T.times p) k (first_works T.times.least) }
+        → IsWorking T.times p (initial_state T.times p) k (first_holdings T.times.least) }
 {}
 
 /// What clients and other workers do leaves what a worker keeps.
 pub fn workers_are_apart<T: Minimum>()
     ensures { (p : Dataflow) → IsDataflow p
-        → (w : State T) (k : ℕ) (works : Works T) → IsWorking T.times p w k works
+        → (w : State T) (k : ℕ) (works : Holdings T) → IsWorking T.times p w k works
         → (e : Event T) → IsAllowed T.times p w e → is_by k e ≡ false
         → IsWorking T.times p (next_state T.times p w e) k works }
 {}
@@ -50,7 +50,7 @@ pub fn reader_has_all<T: Minimum>()
 /// A worker's own take leaves what it keeps at all other nodes.
 pub fn takes_at_one_node<T: Minimum>()
     ensures { (p : Dataflow) → IsDataflow p
-        → (w : State T) (number : ℕ) (bundle : Bundle T) (works next : Works T)
+        → (w : State T) (number : ℕ) (bundle : Bundle T) (works next : Holdings T)
         → IsWorking T.times p w bundle.place.worker works → IsTake T.times p w number bundle
         → IsSameBut bundle.place.node works next → ((m : ℕ) → next.inserted m ≡ works.inserted m)
         → IsWorkingAt T.times p (next_state T.times p w (Take number bundle))
@@ -64,7 +64,7 @@ pub fn takes_at_one_node<T: Minimum>()
 pub fn gives_at_one_node<T: Minimum>()
     ensures { (p : Dataflow) → IsDataflow p
         → (w : State T) (g : Emission T) (ts : List T) (sent : List (Bundle T))
-        → (works next : Works T)
+        → (works next : Holdings T)
         → IsWorking T.times p w g.worker works → IsGive T.times p w g ts sent
         → IsSameBut g.node works next → ((m : ℕ) → next.inserted m ≡ works.inserted m)
         → IsForNoJoin p g.worker sent
@@ -77,7 +77,7 @@ pub fn gives_at_one_node<T: Minimum>()
 /// waits as one more bundle at each join that reads the node.
 pub fn inserts_at_one_node<T: Minimum>()
     ensures { (p : Dataflow) → IsDataflow p
-        → (w : State T) (g : Emission T) (ts upper : List T) (works next : Works T)
+        → (w : State T) (g : Emission T) (ts upper : List T) (works next : Holdings T)
         → IsWorking T.times p w g.worker works → IsGive T.times p w g ts (cut T.times p g)
         → g.updates ≢ []
         → IsSameBut g.node works next
@@ -93,7 +93,7 @@ pub fn inserts_at_one_node<T: Minimum>()
 /// still has to give could still receive input.
 pub fn quiet_while_it_waits<T: Minimum>()
     ensures { (p : Dataflow) → IsDataflow p
-        → (h : List (Event T)) → IsLegal T.times p h → (works : ℕ → Works T)
+        → (h : List (Event T)) → IsLegal T.times p h → (works : ℕ → Holdings T)
         → ((k : ℕ) → k < p.workers
         → IsWorking T.times p (state_after T.times p h) k (works k))
         → (state_after T.times p h).in_flight ≡ []

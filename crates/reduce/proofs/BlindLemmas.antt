@@ -19,7 +19,7 @@ use Rattle.reducer.specs.Refusals.{HasLargeSum}
 use Rattle.reduce.specs.Seen.{as_seen, without_rows}
 use Rattle.joined_times.specs.Joined.{Member, of_key, times_of, IsJoined}
 use Rattle.correction.specs.Corrections.{IsRight, IsTooLarge, IsTooMuch}
-use Rattle.key_history.specs.Duties.{KeyStands}
+use Rattle.key_history.specs.Duties.{RepresentsKey}
 use Rattle.key_history.specs.Settlements.{Settling, ReadsAs, IsOverfullFor}
 use Rattle.lattice.specs.Times.{Times}
 
@@ -198,7 +198,7 @@ module _ (key : List ℤ) where
 
         -- a key stands after updates of the same times that are right where the others are
         stands_alike : (a b given : List (Update T)) (due : List T) → times_of k key a ≡ times_of k key b → ((t : T) → IsRight times k reduce a given key t → IsRight times k reduce b given key t)
-            → KeyStands times k reduce a given key due → KeyStands times k reduce b given key due
+            → RepresentsKey times k reduce a given key due → RepresentsKey times k reduce b given key due
         stands_alike a b given due same right s = record {
           given_joined = λ g m e. there g.time (s.given_joined g m e);
           pending = λ t m. there t (s.pending t m);
@@ -212,10 +212,10 @@ module _ (key : List ℤ) where
             back : (t : T) → IsJoined times k b key t → IsJoined times k a key t
             back t j = subst (λ z. Member t (joins_of times z)) (sym same) j
 
-        stands_without : (taken given : List (Update T)) (due : List T) → KeyStands times k reduce taken given key due → KeyStands times k reduce (without_rows k key taken) given key due
+        stands_without : (taken given : List (Update T)) (due : List T) → RepresentsKey times k reduce taken given key due → RepresentsKey times k reduce (without_rows k key taken) given key due
         stands_without taken given due = stands_alike taken (without_rows k key taken) given due (sym (same_times key taken)) (right_without taken given key)
 
-        stands_with : (taken given : List (Update T)) (due : List T) → KeyStands times k reduce (without_rows k key taken) given key due → KeyStands times k reduce taken given key due
+        stands_with : (taken given : List (Update T)) (due : List T) → RepresentsKey times k reduce (without_rows k key taken) given key due → RepresentsKey times k reduce taken given key due
         stands_with taken given due = stands_alike (without_rows k key taken) taken given due (same_times key taken) (right_with taken given key)
 
         module _ (content stored : List (Update T)) (front due : List T) where

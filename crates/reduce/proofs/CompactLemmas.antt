@@ -14,12 +14,12 @@ use Rattle.update.specs.Joins.{joins_of}
 use Rattle.update.specs.declared.change.Update.{Update}
 use Rattle.joined_times.specs.Joined.{JoinAlike, of_key, times_of}
 use Rattle.joined_times.proofs.AlikeLemmas.{alike_later}
-use Rattle.key_history.specs.Compaction.{IsCompacted, StandsBeyond}
-use Rattle.key_history.specs.Duties.{KeyStands}
+use Rattle.key_history.specs.Compaction.{IsCompacted, AgreeBeyond}
+use Rattle.key_history.specs.Duties.{RepresentsKey}
 use Rattle.key_history.proofs.CompactionLemmas.{alike_itself, alike_through, alike_append, beyond_itself, beyond_append, compacted_itself, compacted_through}
 use Rattle.reduce.specs.Compacted.{AreCompacted}
 use Rattle.reduce.specs.Histories.{HistoryState, AreHistories, IsWaiting, due_of, given_of, joined_of}
-use Rattle.reduce.specs.Reductions.{StandsFor}
+use Rattle.reduce.specs.Reductions.{RepresentsUpdates}
 
 module _ {T : Type 0} where
   -- a history with other joined times and another list of what was given
@@ -82,15 +82,15 @@ module _ {T : Type 0} (times : Times T) (cmp : T → T → Ordering) (since : Li
       step false = alike_itself times since []
 
   -- what was given of each key sums to the same
-  pub compacted_given : (key : List ℤ) (hs gs : List (HistoryState T)) → AreCompacted times cmp since hs gs → StandsBeyond times since (given_of key hs) (given_of key gs)
+  pub compacted_given : (key : List ℤ) (hs gs : List (HistoryState T)) → AreCompacted times cmp since hs gs → AgreeBeyond times since (given_of key hs) (given_of key gs)
   compacted_given key [] [] a = beyond_itself times since []
   compacted_given key [] (g ∷ gs) a = absurd a
   compacted_given key (h ∷ hs) [] a = absurd a
   compacted_given key (h ∷ hs) (g ∷ gs) a =
-      subst (λ z. StandsBeyond times since (given_of key (h ∷ hs)) (cond (same_row z key) g.given [] ++ given_of key gs)) (sym a.0.key_is)
+      subst (λ z. AgreeBeyond times since (given_of key (h ∷ hs)) (cond (same_row z key) g.given [] ++ given_of key gs)) (sym a.0.key_is)
       (beyond_append times since (cond (same_row h.key key) h.given []) (cond (same_row h.key key) g.given []) (given_of key hs) (given_of key gs) (step (same_row h.key key)) (compacted_given key hs gs a.1))
     where
-      step : (b : Bool) → StandsBeyond times since (cond b h.given []) (cond b g.given [])
+      step : (b : Bool) → AgreeBeyond times since (cond b h.given []) (cond b g.given [])
       step true = a.0.given
       step false = beyond_itself times since []
 
@@ -181,13 +181,13 @@ module _ {T : Type 0} (P : HistoryState T → Type 0) where
 module _ {T : Type 0} {times : Times T} (cmp : T → T → Ordering) (o : PartialOrderLaws times) (l : LatticeLaws times) (since : List T) (hs gs : List (HistoryState T)) (all : AreCompacted times cmp since hs gs) where
   -- what stood as of an earlier since stands as of this one
   pub stands_compacted : (k : ℕ) (reduce : List ℤ → List Entry → List Entry) (earlier : List T) (taken given : List (Update T)) → IsTrue (all_beyond times earlier since)
-      → StandsFor times earlier k reduce hs taken given → StandsFor times since k reduce gs taken given
+      → RepresentsUpdates times earlier k reduce hs taken given → RepresentsUpdates times since k reduce gs taken given
   stands_compacted k reduce earlier taken given a st = record {
     wide = st.wide;
     joins = λ key.
         alike_through times since (joined_of key gs) (joined_of key hs) (joins_of times (times_of k key taken)) (compacted_joined times cmp since key hs gs all)
         (alike_later o l earlier since (joined_of key hs) (joins_of times (times_of k key taken)) a (st.joins key));
-    keys = λ key. subst (KeyStands times k reduce taken given key) (sym (compacted_due times cmp since key hs gs all)) (st.keys key);
+    keys = λ key. subst (RepresentsKey times k reduce taken given key) (sym (compacted_due times cmp since key hs gs all)) (st.keys key);
     shown = λ key.
         let s = compacted_given times cmp since key hs gs all in
         record {

@@ -19,9 +19,9 @@ use Rattle.plan.proofs.CountLemmas.{row_same}
 use Rattle.trace.specs.Readings.{IsReadable}
 use Rattle.joined_times.specs.Joined.{Member, AreOnce}
 use Rattle.reduce.specs.Histories.{HistoryState, AreHistories, AreKeysApart, IsWaiting, due_of}
-use Rattle.key_history.specs.Duties.{KeyStands, Shows}
+use Rattle.key_history.specs.Duties.{RepresentsKey, Shows}
 use Rattle.key_history.specs.Debts.{IsOverfull}
-use Rattle.reduce.specs.Reductions.{StandsFor, IsOpenTo, IsQuietAt, SumsToTaken, all_reads}
+use Rattle.reduce.specs.Reductions.{RepresentsUpdates, IsOpenTo, IsQuietAt, SumsToTaken, all_reads}
 use Rattle.key_history.specs.Settlements.{AreReadable, ReadsAs, IsOverfullFor}
 use Rattle.reduce.specs.Visits.{Visit, ChangeState, Gathers, AreWithin, AreCut, all_renewed, all_changed, changes_of}
 use Rattle.reduce.proofs.HistoryLemmas.{at_place, of_there}
@@ -43,7 +43,7 @@ module _ {T : Type 0} {times : Times T} (cmp : T → T → Ordering) (total : Is
     (content : List (Update T)) (front : List T) (hs : List (HistoryState T)) (known : AreHistories cmp k hs) (apart : AreKeysApart hs) (places : List ℕ) (waits : IsWaiting hs places) where
   -- a key for which a number is too large
   pub overfull_of : (i : ℕ) → IsSomeAnd (slice_get hs i) (λ h. IsOverfullFor times (length h.key) reduce h.key content h.given front h.due)
-      → (since : List T) (taken given : List (Update T)) → ((key : List ℤ) → AreReadable times since front (due_of key hs)) → ((key : List ℤ) → ReadsAs times front (due_of key hs) content taken) → StandsFor times since k reduce hs taken given → AreApart times given → IsOpenTo times k given hs
+      → (since : List T) (taken given : List (Update T)) → ((key : List ℤ) → AreReadable times since front (due_of key hs)) → ((key : List ℤ) → ReadsAs times front (due_of key hs) content taken) → RepresentsUpdates times since k reduce hs taken given → AreApart times given → IsOpenTo times k given hs
       → ((g : Update T) → Member g given → IsTrue (has_passed times front g.time)) → IsOverfull times k reduce taken front
   overfull_of i s since taken given be rd st ag op ps =
       let p = at_place (slice_get hs i) s in
@@ -54,7 +54,7 @@ module _ {T : Type 0} {times : Times T} (cmp : T → T → Ordering) (total : Is
       let due = of_there (λ h. h.due) hs i h apart p.1 in
       let stored = of_there (λ h. h.given) hs i h apart p.1 in
       cause since taken given (subst (AreReadable times since front) due (be key)) (subst (λ z. ReadsAs times front z content taken) due (rd key)) (subst (λ z. Shows times since k key z given) stored (st.shown key))
-      (subst (KeyStands times k reduce taken given key) due (st.keys key)) ag
+      (subst (RepresentsKey times k reduce taken given key) due (st.keys key)) ag
       (λ g m e v n b. op g m v (subst (Member v) (sym (ap (λ z. due_of z hs) (row_same (take k g.row) key e) ∙ due)) n) b) ps
 
   module _ (visits : List (Visit T)) (gathered : List (Update T)) (changes : List (ChangeState T)) (waiting : List ℕ) (reads : ℕ) (g : Gathers times front reduce content hs places visits gathered changes waiting reads) where
@@ -107,12 +107,12 @@ module _ {T : Type 0} {times : Times T} (cmp : T → T → Ordering) (total : Is
       pub reads_are : reads ≡ all_reads times front content hs places
       reads_are = g.reads_are ∙ (reads_are_all times front reduce content visits hs g.visits_are ∙ ap (all_reads times front content hs) g.places_are)
 
-      pub final_stands : (since : List T) (taken given : List (Update T)) → ((key : List ℤ) → AreReadable times since front (due_of key hs)) → ((key : List ℤ) → ReadsAs times front (due_of key hs) content taken) → StandsFor times since k reduce hs taken given → StandsFor times since k reduce new taken (given ++ gathered)
+      pub final_stands : (since : List T) (taken given : List (Update T)) → ((key : List ℤ) → AreReadable times since front (due_of key hs)) → ((key : List ℤ) → ReadsAs times front (due_of key hs) content taken) → RepresentsUpdates times since k reduce hs taken given → RepresentsUpdates times since k reduce new taken (given ++ gathered)
       final_stands since taken given be rd st =
-          subst (λ z. StandsFor times since k reduce new taken (given ++ z)) (sym g.out_is)
-          (subst (λ z. StandsFor times since k reduce z taken (given ++ flat_map (λ v. v.more) visits)) (sym renewed_is) (stands_after cmp o l k reduce content front hs known apart visits g.visits_are once since taken given be rd st))
+          subst (λ z. RepresentsUpdates times since k reduce new taken (given ++ z)) (sym g.out_is)
+          (subst (λ z. RepresentsUpdates times since k reduce z taken (given ++ flat_map (λ v. v.more) visits)) (sym renewed_is) (stands_after cmp o l k reduce content front hs known apart visits g.visits_are once since taken given be rd st))
 
-      pub final_law : (since : List T) (taken given : List (Update T)) → ((key : List ℤ) → AreReadable times since front (due_of key hs)) → ((key : List ℤ) → ReadsAs times front (due_of key hs) content taken) → StandsFor times since k reduce hs taken given
+      pub final_law : (since : List T) (taken given : List (Update T)) → ((key : List ℤ) → AreReadable times since front (due_of key hs)) → ((key : List ℤ) → ReadsAs times front (due_of key hs) content taken) → RepresentsUpdates times since k reduce hs taken given
           → (t : T) → IsQuietAt times new t → Alike (as_of times t (given ++ gathered)) (reduction_output k reduce (as_of times t taken))
       final_law since taken given be rd st t none =
           let s = final_stands since taken given be rd st in

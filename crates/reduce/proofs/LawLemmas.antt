@@ -19,7 +19,7 @@ use Rattle.plan.specs.Operators.{reduction_output}
 use Rattle.plan.specs.Reductions.{IsReducer, has_key}
 use Rattle.joined_times.specs.Joined.{IsJoined, times_of}
 use Rattle.reduce.specs.Histories.{HistoryState, due_of, joined_of}
-use Rattle.reduce.specs.Reductions.{StandsFor, IsQuietAt}
+use Rattle.reduce.specs.Reductions.{RepresentsUpdates, IsQuietAt}
 use Rattle.joined_times.proofs.AlikeLemmas.{alike_later}
 use Rattle.correction.proofs.JoinedLemmas.{Floor, floor, floor_joins, taken_same, taken_none}
 use Rattle.key_history.proofs.DutyLemmas.{law}
@@ -37,13 +37,13 @@ module _ {T : Type 0} {times : Times T} (o : PartialOrderLaws times) (l : Lattic
       at (inl a) = inl (λ row. ap (λ z. count_of (reduce key z) row) (taken_none o l k t key us a) ∙ q.nothing key row)
       at (inr f) = inr (f.0, f.1, f.2, (λ r j b. floor_joins o l (times_of k key us) f.0 t f.3 r j ∙ b), taken_same o l k f.0 t key us f.3)
 
-  pub settled_law : (k : ℕ) (reduce : List ℤ → List Entry → List Entry) → IsReducer k reduce → (since : List T) (hs : List (HistoryState T)) (taken given : List (Update T)) → StandsFor times since k reduce hs taken given
+  pub settled_law : (k : ℕ) (reduce : List ℤ → List Entry → List Entry) → IsReducer k reduce → (since : List T) (hs : List (HistoryState T)) (taken given : List (Update T)) → RepresentsUpdates times since k reduce hs taken given
       → (t : T) → IsQuietAt times hs t → Alike (as_of times t given) (reduction_output k reduce (as_of times t taken))
   settled_law k reduce q since hs taken given st t quiet = law o l k reduce q taken given (λ key. due_of key hs) st.wide st.keys t quiet
 
   -- what stands as of a since stands as of each later one
   pub stands_later : (k : ℕ) (reduce : List ℤ → List Entry → List Entry) (since later : List T) (hs : List (HistoryState T)) (taken given : List (Update T)) → IsTrue (all_beyond times since later)
-      → StandsFor times since k reduce hs taken given → StandsFor times later k reduce hs taken given
+      → RepresentsUpdates times since k reduce hs taken given → RepresentsUpdates times later k reduce hs taken given
   stands_later k reduce since later hs taken given a st = record {
     wide = st.wide;
     joins = λ key. alike_later o l since later (joined_of key hs) (joins_of times (times_of k key taken)) a (st.joins key);

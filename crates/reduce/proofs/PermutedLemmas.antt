@@ -18,8 +18,8 @@ use Rattle.joined_times.specs.Joined.{Member, of_key, times_of, IsJoined, JoinAl
 use Rattle.joined_times.specs.Additions.{SameMembers}
 use Rattle.reduce.specs.Histories.{HistoryState, due_of, joined_of, given_of}
 use Rattle.correction.specs.Corrections.{IsRight}
-use Rattle.key_history.specs.Duties.{KeyStands}
-use Rattle.reduce.specs.Reductions.{StandsFor}
+use Rattle.key_history.specs.Duties.{RepresentsKey}
+use Rattle.reduce.specs.Reductions.{RepresentsUpdates}
 use Rattle.joined_times.proofs.MemberLemmas.{member_from_contains, contains_from_member, image_in, image_of}
 use Rattle.joined_times.proofs.JoinLemmas.{joins_same}
 use Rattle.correction.proofs.JoinedLemmas.{value, through_is}
@@ -113,7 +113,7 @@ module _ {T : Type 0} {times : Times T} (o : PartialOrderLaws times) (l : Lattic
       ∙ (h row d ∙ q.alike key (filter (λ e. same_row (take k e.row) key) (as_of times t taken)) (filter (λ e. same_row (take k e.row) key) (as_of times t taken2))
       (had-alike times k key t taken taken2 (sum_same times t taken taken2 p)) row)
 
-  same_key : (key : List ℤ) (due : List T) → KeyStands times k reduce taken given key due → KeyStands times k reduce taken2 given2 key due
+  same_key : (key : List ℤ) (due : List T) → RepresentsKey times k reduce taken given key due → RepresentsKey times k reduce taken2 given2 key due
   same_key key due h = record {
     given_joined = λ g m d. (same_joined key g.time).0 (h.given_joined g ((permuted given given2 r g).1 m) d);
     pending = λ t m. (same_joined key t).0 (h.pending t m);
@@ -121,7 +121,7 @@ module _ {T : Type 0} {times : Times T} (o : PartialOrderLaws times) (l : Lattic
     settled = λ t j. ⊎_elim inl (λ x. inr (same_right key t x)) (h.settled t ((same_joined key t).1 j));
   }
 
-  pub stands_permuted : (since : List T) → StandsFor times since k reduce hs taken given → StandsFor times since k reduce hs taken2 given2
+  pub stands_permuted : (since : List T) → RepresentsUpdates times since k reduce hs taken given → RepresentsUpdates times since k reduce hs taken2 given2
   stands_permuted since h = record {
     wide = all_from (λ u. nat_le k (length u.row)) taken2 (λ u m. all_to (λ u. nat_le k (length u.row)) taken h.wide u ((permuted taken taken2 p u).1 m));
     joins = λ key. alike_same since (joined_of key hs) (joins_of times (times_of k key taken)) (joins_of times (times_of k key taken2)) (same_joined key) (h.joins key);

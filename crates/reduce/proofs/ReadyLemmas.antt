@@ -19,11 +19,11 @@ use Rattle.update.specs.declared.change.Update.{Update}
 use Rattle.plan.specs.Changes.{has_passed}
 use Rattle.plan.proofs.CountLemmas.{row_same, row_itself}
 use Rattle.joined_times.specs.Joined.{Member, AreOnce, of_key, times_of, JoinAlike}
-use Rattle.key_history.specs.Duties.{KeyStands, Shows}
+use Rattle.key_history.specs.Duties.{RepresentsKey, Shows}
 use Rattle.reduce.specs.Histories.{HistoryState, AreHistories, AreKeysApart, due_of, joined_of, given_of}
 use Rattle.key_history.specs.Settlements.{Settling, AreReadable, ReadsAs}
 use Rattle.reduce.specs.Visits.{Visit, AreVisits, all_renewed}
-use Rattle.reduce.specs.Reductions.{StandsFor, IsOpenTo, IsQuietAt}
+use Rattle.reduce.specs.Reductions.{RepresentsUpdates, IsOpenTo, IsQuietAt}
 use Rattle.key_history.proofs.ApartLemmas.{apart_both, doubled_is}
 use Rattle.correction.proofs.CorrectionLemmas.{as_of-keyed, count-had}
 use Rattle.correction.proofs.JoinedLemmas.{sum_at, sum_at-append}
@@ -75,14 +75,14 @@ module _ {T : Type 0} {times : Times T} (cmp : T → T → Ordering) (o : Partia
         (of_this key)
 
     pub mine_stands : (since : List T) (taken given : List (Update T)) → AreReadable times since front (due_of key hs) → ReadsAs times front (due_of key hs) content taken → Shows times since k key (given_of key hs) given
-        → KeyStands times k reduce taken given key (due_of key hs) → KeyStands times k reduce taken (given ++ mine) key (due_of key after)
+        → RepresentsKey times k reduce taken given key (due_of key hs) → RepresentsKey times k reduce taken (given ++ mine) key (due_of key after)
     mine_stands since taken given be rd sh st = ⊎_elim
-        (λ c. subst (λ z. KeyStands times k reduce taken (given ++ z) key (due_of key after)) (sym c.none) (subst (λ z. KeyStands times k reduce taken z key (due_of key after)) (sym (append-nil given)) (subst (KeyStands times k reduce taken given key) (sym c.due) st)))
+        (λ c. subst (λ z. RepresentsKey times k reduce taken (given ++ z) key (due_of key after)) (sym c.none) (subst (λ z. RepresentsKey times k reduce taken z key (due_of key after)) (sym (append-nil given)) (subst (RepresentsKey times k reduce taken given key) (sym c.due) st)))
         (λ c.
         let d = c.visit.history.due in
-        let all = (settled_k c).stands since taken given (subst (AreReadable times since front) c.old_due be) (subst (λ z. ReadsAs times front z content taken) c.old_due rd) (subst (λ z. Shows times since k key z given) c.old_given sh) (subst (KeyStands times k reduce taken given key) c.old_due st) in
-        subst (λ z. KeyStands times k reduce taken (given ++ z) key (due_of key after)) (sym c.out)
-        (subst (KeyStands times k reduce taken (given ++ c.visit.more) key) (ap (λ z. c.visit.rest ++ z) (drop_whole d) ∙ (append-nil c.visit.rest ∙ sym c.due)) all))
+        let all = (settled_k c).stands since taken given (subst (AreReadable times since front) c.old_due be) (subst (λ z. ReadsAs times front z content taken) c.old_due rd) (subst (λ z. Shows times since k key z given) c.old_given sh) (subst (RepresentsKey times k reduce taken given key) c.old_due st) in
+        subst (λ z. RepresentsKey times k reduce taken (given ++ z) key (due_of key after)) (sym c.out)
+        (subst (RepresentsKey times k reduce taken (given ++ c.visit.more) key) (ap (λ z. c.visit.rest ++ z) (drop_whole d) ∙ (append-nil c.visit.rest ∙ sym c.due)) all))
         (of_this key)
 
     pub mine_shown : (since : List T) (given : List (Update T)) → Shows times since k key (given_of key hs) given → Shows times since k key (given_of key after) (given ++ mine)
@@ -170,7 +170,7 @@ module _ {T : Type 0} {times : Times T} (cmp : T → T → Ordering) (o : Partia
       ∙ sym (sum_at-append times t given (mine key) row))
 
   key_stands : (since : List T) (taken given : List (Update T)) (key : List ℤ) → AreReadable times since front (due_of key hs) → ReadsAs times front (due_of key hs) content taken → Shows times since k key (given_of key hs) given
-      → KeyStands times k reduce taken given key (due_of key hs) → KeyStands times k reduce taken (given ++ raw) key (due_of key after)
+      → RepresentsKey times k reduce taken given key (due_of key hs) → RepresentsKey times k reduce taken (given ++ raw) key (due_of key after)
   key_stands since taken given key be rd sh st =
       given_replaced o l k reduce taken (given ++ mine key) (given ++ raw) key (due_of key after) (mine_stands key since taken given be rd sh st) (raw_sum key given)
       (λ g m e. ⊎_elim
@@ -200,7 +200,7 @@ module _ {T : Type 0} {times : Times T} (cmp : T → T → Ordering) (o : Partia
           ∙ (ap (λ z. filter (of_key k key) given ++ z) (twice raw)
           ∙ sym (filter-append (of_key k key) given raw))
 
-  pub stands_after : (since : List T) (taken given : List (Update T)) → ((key : List ℤ) → AreReadable times since front (due_of key hs)) → ((key : List ℤ) → ReadsAs times front (due_of key hs) content taken) → StandsFor times since k reduce hs taken given → StandsFor times since k reduce after taken (given ++ raw)
+  pub stands_after : (since : List T) (taken given : List (Update T)) → ((key : List ℤ) → AreReadable times since front (due_of key hs)) → ((key : List ℤ) → ReadsAs times front (due_of key hs) content taken) → RepresentsUpdates times since k reduce hs taken given → RepresentsUpdates times since k reduce after taken (given ++ raw)
   stands_after since taken given be rd st = record {
     wide = st.wide;
     joins = λ key. subst (λ z. JoinAlike times since z (joins_of times (times_of k key taken))) (sym (times_stay key)) (st.joins key);

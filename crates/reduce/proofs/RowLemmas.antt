@@ -21,7 +21,7 @@ use Rattle.plan.proofs.CountLemmas.{count_of-filter, row_same}
 use Rattle.reduce.specs.Histories.{HistoryState}
 use Rattle.joined_times.specs.Joined.{Member}
 use Rattle.key_history.proofs.ApartLemmas.{own_total}
-use Rattle.reduce.specs.Reductions.{StandsFor, IsQuietAt}
+use Rattle.reduce.specs.Reductions.{RepresentsUpdates, IsQuietAt}
 use Rattle.correction.proofs.JoinedLemmas.{sum_at-append}
 use Rattle.correction.proofs.KeyedLemmas.{absent_row}
 use Rattle.reduce.proofs.LawLemmas.{passed_down, settled_law}
@@ -82,7 +82,7 @@ module _ {T : Type 0} {times : Times T} {cmp : T → T → Ordering}
     (o : PartialOrderLaws times) (l : LatticeLaws times) (total : IsTotalOrder cmp)
     (k : ℕ) (reduce : List ℤ → List Entry → List Entry) (q : IsReducer k reduce) (p : List ℤ → Bool) (frontier since : List T)
     (hs : List (HistoryState T)) (taken given out : List (Update T))
-    (st : StandsFor times since k reduce hs taken (given ++ out))
+    (st : RepresentsUpdates times since k reduce hs taken (given ++ out))
     (quiet : (t : T) → IsTrue (has_passed times frontier t) → IsQuietAt times hs t)
     (once : AreApart times out) (nonzero : AllByRecursion (λ u. u.diff ≢ pos 0) out) (passed : IsTrue (list_all (λ u. has_passed times frontier u.time) out))
     (before : IsTrue (list_all (λ u. p u.row) given))

@@ -19,9 +19,9 @@ use Rattle.plan.proofs.CountLemmas.{row_same}
 use Rattle.joined_times.specs.Joined.{Member, of_key, times_of, IsJoined, IsFresh, JoinAlike}
 use Rattle.joined_times.specs.Additions.{IsFreshBy}
 use Rattle.correction.specs.Corrections.{IsRight}
-use Rattle.key_history.specs.Duties.{are_wide, KeyStands, Shows}
+use Rattle.key_history.specs.Duties.{are_wide, RepresentsKey, Shows}
 use Rattle.reduce.specs.Histories.{HistoryState, due_of, joined_of, given_of, history_of}
-use Rattle.reduce.specs.Reductions.{StandsFor, IsOpenTo}
+use Rattle.reduce.specs.Reductions.{RepresentsUpdates, IsOpenTo}
 use Rattle.reduce.specs.Intake.{AreRenewed, or_else}
 use Rattle.joined_times.proofs.AlikeLemmas.{alike_more, fresh_alike, fresh_by_above}
 use Rattle.joined_times.proofs.FreshLemmas.{none_fresh}
@@ -120,7 +120,7 @@ module _ {T : Type 0} {times : Times T} (cmp : T → T → Ordering) (o : Partia
       (λ u. true≢false (sym (o.transitive u.0.time s g.time u.3 b) ∙ n u.0 g u.1 m u.2))
       (later_now (take k g.row) s d)
 
-  module _ (reduce : List ℤ → List Entry → List Entry) (since : List T) (beyond : IsTrue (list_all (λ u. is_beyond times since u.time) us)) (taken given : List (Update T)) (wide : IsTrue (are_wide k us)) (st : StandsFor times since k reduce hs taken given) where
+  module _ (reduce : List ℤ → List Entry → List Entry) (since : List T) (beyond : IsTrue (list_all (λ u. is_beyond times since u.time) us)) (taken given : List (Update T)) (wide : IsTrue (are_wide k us)) (st : RepresentsUpdates times since k reduce hs taken given) where
     -- each new time is beyond the since
     new_beyond : (key : List ℤ) (n : T) → Member n (times_of k key us) → IsTrue (is_beyond times since n)
     new_beyond key n m =
@@ -169,7 +169,7 @@ module _ {T : Type 0} {times : Times T} (cmp : T → T → Ordering) (o : Partia
               past : times.below n t ≡ false → list_any (λ n. times.below n t) (n ∷ ns) ≡ list_any (λ n. times.below n t) ns
               past e = rw e refl
 
-      key_now : KeyStands times k reduce (us ++ taken) given key (due_of key new)
+      key_now : RepresentsKey times k reduce (us ++ taken) given key (due_of key new)
       key_now = record {
         given_joined = λ g m e. is_joined g.time (inr ((st.keys key).given_joined g m e));
         pending = λ t m. is_joined t (⊎_elim (λ a. inr ((st.keys key).pending t a)) inl ((pending_now key t).0 m));
@@ -192,7 +192,7 @@ module _ {T : Type 0} {times : Times T} (cmp : T → T → Ordering) (o : Partia
               (λ r. inr (λ row d. r row d ∙ ap (λ z. count_of (reduce key z) row) (sym (as_before t us e))))
               ((st.keys key).settled t j)
 
-    pub stands_now : StandsFor times since k reduce new (us ++ taken) given
+    pub stands_now : RepresentsUpdates times since k reduce new (us ++ taken) given
     stands_now = record {
       wide = list_all-append (λ (u : Update T). nat_le k (length u.row)) us taken ∙ and_from (are_wide k us) (are_wide k taken) wide st.wide;
       joins = λ key. subst (λ z. JoinAlike times since (joined_of key new) (joins_of times z)) (sym (times-append k key us taken))

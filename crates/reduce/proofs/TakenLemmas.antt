@@ -29,14 +29,14 @@ module _ {T : Type 0} where
   -- ---- one history
 
   -- what the histories have of a key is what this one has
-  pub record StandsFor (hs : List (HistoryState T)) (key : List ℤ) (old : HistoryState T) : Type 0 where
+  pub record RepresentsHistory (hs : List (HistoryState T)) (key : List ℤ) (old : HistoryState T) : Type 0 where
     pub key_is : old.key ≡ key
     pub times_are : old.times ≡ joined_of key hs
     pub due_are : old.due ≡ due_of key hs
     pub given_is : old.given ≡ given_of key hs
 
   -- the history that was found stands for its key
-  pub stands_found : (hs : List (HistoryState T)) (key : List ℤ) (i : ℕ) (old : HistoryState T) → AreKeysApart hs → IsSomeAnd (slice_get hs i) (λ h. h.key ≡ key) → IsSomeAnd (slice_get hs i) (λ h. old ≡ h) → StandsFor hs key old
+  pub stands_found : (hs : List (HistoryState T)) (key : List ℤ) (i : ℕ) (old : HistoryState T) → AreKeysApart hs → IsSomeAnd (slice_get hs i) (λ h. h.key ≡ key) → IsSomeAnd (slice_get hs i) (λ h. old ≡ h) → RepresentsHistory hs key old
   stands_found hs key i old apart same is =
       let there = at_place (slice_get hs i) is in
       let at : slice_get hs i ≡ Some old = there.1 ∙ ap (λ h. Some h) (sym there.2) in
@@ -49,7 +49,7 @@ module _ {T : Type 0} where
       }
 
   -- an empty one stands for a key without a history
-  pub stands_none : (hs : List (HistoryState T)) (key : List ℤ) (old : HistoryState T) → list_any (λ h. same_row key h.key) hs ≡ false → old.key ≡ key → old.times ≡ [] → old.due ≡ [] → old.given ≡ [] → StandsFor hs key old
+  pub stands_none : (hs : List (HistoryState T)) (key : List ℤ) (old : HistoryState T) → list_any (λ h. same_row key h.key) hs ≡ false → old.key ≡ key → old.times ≡ [] → old.due ≡ [] → old.given ≡ [] → RepresentsHistory hs key old
   stands_none hs key old none own elements due given = record {
     key_is = own;
     times_are = elements ∙ sym (of_absent (λ h. h.times) key hs none);
@@ -78,7 +78,7 @@ module _ {T : Type 0} where
 
   -- new times that were made from those of the history that stands for a key make the key's new
   -- history
-  pub renewed_from : (times : Times T) (cmp : T → T → Ordering) (hs : List (HistoryState T)) (key : List ℤ) (old : HistoryState T) (new : List T) (r : Renewal T) → StandsFor hs key old → IsHistory cmp (length old.key) old → r.key ≡ key
+  pub renewed_from : (times : Times T) (cmp : T → T → Ordering) (hs : List (HistoryState T)) (key : List ℤ) (old : HistoryState T) (new : List T) (r : Renewal T) → RepresentsHistory hs key old → IsHistory cmp (length old.key) old → r.key ≡ key
       → IsStrictlySortedBy cmp r.times.items → IsStrictlySortedBy cmp r.due.items
       → ((t : T) → Member t r.times.items ↔ (Member t old.times ⊎ IsFreshBy times new old.times t))
       → ((t : T) → Member t r.due.items ↔ (Member t old.due ⊎ IsFreshBy times new old.times t))

@@ -11,7 +11,7 @@ use Rattle.lattice.specs.Frontiers.{is_beyond}
 use Rattle.update.specs.Bags.{Entry}
 use Rattle.update.specs.declared.change.Update.{Update}
 use Rattle.joined_times.specs.Joined.{of_key}
-use Rattle.key_history.specs.Duties.{KeyStands}
+use Rattle.key_history.specs.Duties.{RepresentsKey}
 use Rattle.reduce.specs.Histories.{HistoryState, IsHistory, AreHistories}
 use Rattle.key_history.specs.Settlements.{Settling}
 use Rattle.reduce.specs.Visits.{Visit, IsVisit, AreVisits, ChangeState, Gathers, changes_of, waits_on, waiting_at, reads_of}
@@ -71,8 +71,8 @@ module _ {T : Type 0} (times : Times T) (k : ℕ) (reduce : List ℤ → List En
   untouched due none = record {
     rest_is = sym (all_late due none) ∙ ap (filter (λ t. is_beyond times front t)) (sym (take_whole due));
     stands = λ since taken given be rd sh w.
-        subst (λ z. KeyStands times k reduce taken z key (due ++ drop (length due) due)) (sym (append-nil given))
-        (subst (λ z. KeyStands times k reduce taken given key z) (sym (ap (λ z. due ++ z) (drop_whole due) ∙ append-nil due)) w);
+        subst (λ z. RepresentsKey times k reduce taken z key (due ++ drop (length due) due)) (sym (append-nil given))
+        (subst (λ z. RepresentsKey times k reduce taken given key z) (sym (ap (λ z. due ++ z) (drop_whole due) ∙ append-nil due)) w);
     apart = tt;
     at = λ u m. absurd m;
     nonzero = λ u m. absurd m;

@@ -14,7 +14,7 @@ use Rattle.joined_times.specs.Joined.{Member, AreOnce}
 use Rattle.key_history.specs.Debts.{IsOverfull}
 use Rattle.reduce.specs.Histories.{HistoryState, AreHistories, IsWaiting, due_of}
 use Rattle.reduce.specs.Visits.{ChangeState, AreWithin, AreCut, all_changed}
-use Rattle.reduce.specs.Reductions.{StandsFor, IsOpenTo, IsQuietAt, SumsToTaken}
+use Rattle.reduce.specs.Reductions.{RepresentsUpdates, IsOpenTo, IsQuietAt, SumsToTaken}
 
 module _ {T : Type 0} (times : Times T) (front : List T) where
   -- the times of each key that the frontier has not passed stay pending, and no others
@@ -42,7 +42,7 @@ module _ {T : Type 0} (times : Times T) (k : ℕ) (reduce : List ℤ → List En
   abbrev pub WhenRight : (List T → List (Update T) → List (Update T) → Type 0) → Type 0
   WhenRight fact = (since : List T) (h : List (Insertion T)) (taken given : List (Update T))
       → IsTrue (all_beyond times since held) → holds h → SumsToTaken times held front (all_updates h) taken
-      → StandsFor times since k reduce hs taken given → fact since taken given
+      → RepresentsUpdates times since k reduce hs taken given → fact since taken given
 
   -- the cause of a refusal for a number that is too large
   abbrev pub IsTooLarge : Type 0
@@ -52,8 +52,8 @@ module _ {T : Type 0} (times : Times T) (k : ℕ) (reduce : List ℤ → List En
 
   module _ (hs2 : List (HistoryState T)) (out : List (Update T)) where
     -- the new histories stand for what was given with the output
-    abbrev pub StandsWithOutput : Type 0
-    StandsWithOutput = WhenRight (λ since taken given. StandsFor times since k reduce hs2 taken (given ++ out))
+    abbrev pub RepresentsWithOutput : Type 0
+    RepresentsWithOutput = WhenRight (λ since taken given. RepresentsUpdates times since k reduce hs2 taken (given ++ out))
 
     -- at quiet times what was given sums to the reduction of what was taken
     abbrev pub SumsToReduction : Type 0
@@ -64,7 +64,7 @@ module _ {T : Type 0} (times : Times T) (k : ℕ) (reduce : List ℤ → List En
     pub record IsOutput : Type 0 where
       pub once : AreApart times out
       pub nonzero : AllByRecursion (λ u. u.diff ≢ pos 0) out
-      pub stands : StandsWithOutput
+      pub stands : RepresentsWithOutput
       pub law : SumsToReduction
       pub rest : OthersStayDue times front hs hs2
       pub quiet : IsQuietWherePassed times front hs2

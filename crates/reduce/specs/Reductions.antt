@@ -8,20 +8,20 @@ use Rattle.update.specs.Joins.{joins_of}
 use Rattle.update.specs.Updates.{as_of}
 use Rattle.update.specs.declared.change.Update.{Update}
 use Rattle.joined_times.specs.Joined.{Member, of_key, times_of, JoinAlike}
-use Rattle.key_history.specs.Duties.{are_wide, KeyStands, IsSettledAt, Shows}
+use Rattle.key_history.specs.Duties.{are_wide, RepresentsKey, IsSettledAt, Shows}
 use Rattle.reduce.specs.Histories.{HistoryState, due_of, joined_of, given_of}
 use Rattle.reduce.specs.Visits.{is_due}
 
 module _ {T : Type 0} (times : Times T) where
   -- as of a since, these histories are those of all keys, after these updates were taken and those
   -- given
-  pub record StandsFor (since : List T) (k : ℕ) (reduce : List ℤ → List Entry → List Entry)
+  pub record RepresentsUpdates (since : List T) (k : ℕ) (reduce : List ℤ → List Entry → List Entry)
       (hs : List (HistoryState T)) (taken given : List (Update T)) : Type 0 where
     -- each row that was taken has a key
     pub wide : IsTrue (are_wide k taken)
     -- joined with any time beyond the since, the kept times make what the joined times make
     pub joins : (key : List ℤ) → JoinAlike times since (joined_of key hs) (joins_of times (times_of k key taken))
-    pub keys : (key : List ℤ) → KeyStands times k reduce taken given key (due_of key hs)
+    pub keys : (key : List ℤ) → RepresentsKey times k reduce taken given key (due_of key hs)
     pub shown : (key : List ℤ) → Shows times since k key (given_of key hs) given
 
   -- no pending time of its key is at or before the time of an update that was given

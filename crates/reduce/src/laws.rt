@@ -14,7 +14,7 @@ ghost use Rattle.plan.specs.Reductions.{IsReducer, has_key};
 ghost use Rattle.joined_times.specs.Joined.{Member, IsJoined};
 ghost use Rattle.key_history.specs.Debts.{IsOwed, IsOverfull};
 ghost use Rattle.reduce.specs.Histories.{HistoryState};
-ghost use Rattle.reduce.specs.Reductions.{StandsFor, IsQuietAt};
+ghost use Rattle.reduce.specs.Reductions.{RepresentsUpdates, IsQuietAt};
 
 use lattice::Lattice;
 
@@ -48,7 +48,7 @@ pub fn joined_times_are_closed<T: Lattice>()
 pub fn settled_is_right<T: Lattice>()
     ensures sums { (k : ℕ) (reduce : List ℤ → List Entry → List Entry) → IsReducer k reduce
         → (since : List T) (hs : List (HistoryState T)) (taken given : List (Update T))
-        → StandsFor T.times since k reduce hs taken given
+        → RepresentsUpdates T.times since k reduce hs taken given
         → (t : T) → IsQuietAt T.times hs t
         → Alike (as_of T.times t given) (reduction_output k reduce (as_of T.times t taken)) }
 {}
@@ -62,7 +62,7 @@ pub fn answers_are_the_differences<T: Lattice>()
     ensures one { (k : ℕ) (reduce : List ℤ → List Entry → List Entry) → IsReducer k reduce
         → (frontier since : List T) (hs : List (HistoryState T))
         (taken given us vs : List (Update T))
-        → StandsFor T.times since k reduce hs taken given
+        → RepresentsUpdates T.times since k reduce hs taken given
         → ((t : T) → IsTrue (has_passed T.times frontier t) → IsQuietAt T.times hs t)
         → IsConsolidated T.cmp us
         → IsTrue (list_all (λ u. has_passed T.times frontier u.time) us)
@@ -82,8 +82,8 @@ pub fn order_does_not_matter<T: Lattice>()
         → (since : List T) (hs : List (HistoryState T))
         (taken taken2 given given2 : List (Update T))
         → IsPermutation taken taken2 → IsPermutation given given2
-        → StandsFor T.times since k reduce hs taken given
-        → StandsFor T.times since k reduce hs taken2 given2 }
+        → RepresentsUpdates T.times since k reduce hs taken given
+        → RepresentsUpdates T.times since k reduce hs taken2 given2 }
 {}
 
 /// What stands as of a since stands as of each later one. So kept times and kept answers may be
@@ -92,8 +92,8 @@ pub fn stands_as_of_later_frontiers<T: Lattice>()
     ensures stands { (k : ℕ) (reduce : List ℤ → List Entry → List Entry) (since later : List T)
         (hs : List (HistoryState T)) (taken given : List (Update T))
         → IsTrue (all_beyond T.times since later)
-        → StandsFor T.times since k reduce hs taken given
-        → StandsFor T.times later k reduce hs taken given }
+        → RepresentsUpdates T.times since k reduce hs taken given
+        → RepresentsUpdates T.times later k reduce hs taken given }
 {}
 
 /// No row is given that no answer has. If a test passes for each row of the answers at the times
@@ -104,7 +104,7 @@ pub fn rows_given_are_answered<T: Lattice>()
     ensures rows { (k : ℕ) (reduce : List ℤ → List Entry → List Entry) → IsReducer k reduce
         → (p : List ℤ → Bool) (frontier since : List T) (hs : List (HistoryState T))
         (taken given out : List (Update T))
-        → StandsFor T.times since k reduce hs taken (given ++ out)
+        → RepresentsUpdates T.times since k reduce hs taken (given ++ out)
         → ((t : T) → IsTrue (has_passed T.times frontier t) → IsQuietAt T.times hs t)
         → AreApart T.times out → AllByRecursion (λ u. u.diff ≢ pos 0) out
         → IsTrue (list_all (λ u. has_passed T.times frontier u.time) out)

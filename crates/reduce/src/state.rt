@@ -32,9 +32,9 @@ ghost use Rattle.reduce.specs.Compacted.{AreCompacted, AreFolded, HasLargeGiven}
 ghost use Rattle.reduce.specs.Histories.{AreHistories, IsWaiting, due_of};
 ghost use Rattle.key_history.specs.Debts.{IsOverfull};
 ghost use Rattle.key_history.specs.Duties.{are_wide};
-ghost use Rattle.reduce.specs.Outputs.{AreApplicable, IsAtDueTimes, IsOutput, IsQuietWherePassed, IsTooLarge, OthersStayDue, StandsWithOutput, StaysApart, SumsToReduction};
+ghost use Rattle.reduce.specs.Outputs.{AreApplicable, IsAtDueTimes, IsOutput, IsQuietWherePassed, IsTooLarge, OthersStayDue, RepresentsWithOutput, StaysApart, SumsToReduction};
 ghost use Rattle.reduce.specs.Visits.{all_changed};
-ghost use Rattle.reduce.specs.Reductions.{StandsFor, IsOpenTo, IsQuietAt, SumsToTaken, all_reads};
+ghost use Rattle.reduce.specs.Reductions.{RepresentsUpdates, IsOpenTo, IsQuietAt, SumsToTaken, all_reads};
 
 use crate::histories::{Histories, compact_all};
 use crate::intake::{put_all, renewed_by};
@@ -124,7 +124,7 @@ impl<T: Lattice, R: Reducer> ReduceState<T, R> {
           looked = 0;
         } }
         ensures stands { (since : List T)
-            → StandsFor T.times since key (R.reduces reducer) result.histories [] [] }
+            → RepresentsUpdates T.times since key (R.reduces reducer) result.histories [] [] }
     {
         ReduceState {
             key,
@@ -211,13 +211,13 @@ impl<T: Lattice, R: Reducer> ReduceState<T, R> {
         requires wide { IsTrue (are_wide self.old.key (B.content batch.now)) }
         ensures stands { OnOk result ((since : List T) (taken given : List (Update T))
             → IsTrue (list_all (λ u. is_beyond T.times since u.time) (B.content batch.now))
-            → StandsFor T.times since self.old.key (R.reduces self.old.reducer)
+            → RepresentsUpdates T.times since self.old.key (R.reduces self.old.reducer)
             self.old.histories taken given
-            → StandsFor T.times since self.old.key (R.reduces self.old.reducer)
+            → RepresentsUpdates T.times since self.old.key (R.reduces self.old.reducer)
             self.new.histories (B.content batch.now ++ taken) given) }
         ensures pending { OnOk result ((since : List T) (taken given : List (Update T))
             → IsTrue (list_all (λ u. is_beyond T.times since u.time) (B.content batch.now))
-            → StandsFor T.times since self.old.key (R.reduces self.old.reducer)
+            → RepresentsUpdates T.times since self.old.key (R.reduces self.old.reducer)
             self.old.histories taken given
             → (key : List ℤ) (t : T) → Member t (due_of key self.new.histories)
             ↔ (Member t (due_of key self.old.histories)
@@ -264,9 +264,9 @@ impl<T: Lattice, R: Reducer> ReduceState<T, R> {
     pub fn compact(&mut self, alloc: Global, since: &[T]) -> Result<(), Refusal>
         ensures stands { (earlier : List T) (taken given : List (Update T))
             → IsTrue (all_beyond T.times earlier since.now)
-            → StandsFor T.times earlier self.old.key (R.reduces self.old.reducer)
+            → RepresentsUpdates T.times earlier self.old.key (R.reduces self.old.reducer)
             self.old.histories taken given
-            → StandsFor T.times since.now self.old.key (R.reduces self.old.reducer)
+            → RepresentsUpdates T.times since.now self.old.key (R.reduces self.old.reducer)
             self.new.histories taken given }
         ensures due { (key : List ℤ)
             → due_of key self.new.histories ≡ due_of key self.old.histories }
@@ -339,16 +339,16 @@ impl<T: Lattice, R: Reducer> ReduceState<T, R> {
             → IsTrue (all_beyond T.times since (S.held trace.now))
             → S.stands trace.now h
             → SumsToTaken T.times (S.held trace.now) frontier.now (all_updates h) taken
-            → StandsFor T.times since self.old.key (R.reduces self.old.reducer)
+            → RepresentsUpdates T.times since self.old.key (R.reduces self.old.reducer)
             self.old.histories taken given
-            → StandsFor T.times since self.old.key (R.reduces self.old.reducer)
+            → RepresentsUpdates T.times since self.old.key (R.reduces self.old.reducer)
             self.new.histories taken (given ++ out.items)) }
         ensures law { IfOk result (λ out. (since : List T)
             (h : List (Insertion T)) (taken given : List (Update T))
             → IsTrue (all_beyond T.times since (S.held trace.now))
             → S.stands trace.now h
             → SumsToTaken T.times (S.held trace.now) frontier.now (all_updates h) taken
-            → StandsFor T.times since self.old.key (R.reduces self.old.reducer)
+            → RepresentsUpdates T.times since self.old.key (R.reduces self.old.reducer)
             self.old.histories taken given
             → (t : T) → IsQuietAt T.times self.new.histories t
             → Alike (as_of T.times t (given ++ out.items))
@@ -381,7 +381,7 @@ impl<T: Lattice, R: Reducer> ReduceState<T, R> {
             → IsTrue (all_beyond T.times since (S.held trace.now))
             → S.stands trace.now h
             → SumsToTaken T.times (S.held trace.now) frontier.now (all_updates h) taken
-            → StandsFor T.times since self.old.key (R.reduces self.old.reducer)
+            → RepresentsUpdates T.times since self.old.key (R.reduces self.old.reducer)
             self.old.histories taken given
             → AreApart T.times given → IsOpenTo T.times self.old.key given self.old.histories
             → ((g : Update T) → Member g given → IsTrue (has_passed T.times frontier.now g.time))
@@ -418,7 +418,7 @@ impl<T: Lattice, R: Reducer> ReduceState<T, R> {
             → IsTrue (is_beyond T.times (S.held trace.now) t) }
         ensures once { IfOk result (λ out. AreApart T.times out) }
         ensures nonzero { IfOk result (λ out. AllByRecursion (λ u. u.diff ≢ pos 0) out) }
-        ensures stands { IfOk result (StandsWithOutput T.times
+        ensures stands { IfOk result (RepresentsWithOutput T.times
             self.old.key (R.reduces self.old.reducer) (S.held trace.now) frontier.now
             (S.stands trace.now) self.old.histories self.new.histories) }
         ensures law { IfOk result (SumsToReduction T.times

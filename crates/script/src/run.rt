@@ -11,7 +11,7 @@ ghost use Rattle.session.specs.Openings.{AreCounts};
 ghost use Rattle.script.specs.Ends.{TookBeginning, TookTextBefore, TookTextBeforeOverflow};
 ghost use Rattle.script.specs.RunEnds.{IsCrewEnd, IsEnd, IsRunEnd, failures};
 ghost use Rattle.output.specs.Outs.{Wrote, Broke};
-ghost use Rattle.crews.specs.BoardStates.{StandsAs};
+ghost use Rattle.crews.specs.BoardStates.{HasSessionOf};
 ghost use Rattle.engines.specs.Bitemporal.{BitemporalSession};
 ghost use Rattle.script.specs.Text.{HoldsAlong, after_command, lines_text, piece, text};
 ghost use Rattle.engines.specs.Bounds.{EndsByBound};
@@ -106,17 +106,17 @@ fn run_crew_line<R: Threads + Wait + Sync, G: Gate + Sync, W: Out>(
     requires plan { script.now.plan ≡ (dataflow_of crew.old).nodes }
     requires about { IsAbout (dataflow_of crew.old).nodes line.now.command }
     ensures plan { (dataflow_of crew.new).nodes ≡ (dataflow_of crew.old).nodes }
-    ensures ran { (s : BitemporalSession) → StandsAs bitime_times crew.old s
-        → OnOk result (StandsAs bitime_times crew.new
+    ensures ran { (s : BitemporalSession) → HasSessionOf bitime_times crew.old s
+        → OnOk result (HasSessionOf bitime_times crew.new
         (after_command script.now.plan s line.now.command) × Wrote W.took out.old buffer.old
         (piece script.now s line.now.line line.now.command) out.new buffer.new) }
-    ensures broke { (s : BitemporalSession) → StandsAs bitime_times crew.old s
+    ensures broke { (s : BitemporalSession) → HasSessionOf bitime_times crew.old s
         → IfErr result (λ fault. Broke W.took out.old buffer.old
         (piece script.now s line.now.line line.now.command) (failures fault) out.new) }
-    ensures overflow { (s : BitemporalSession) → StandsAs bitime_times crew.old s
+    ensures overflow { (s : BitemporalSession) → HasSessionOf bitime_times crew.old s
         → IfErr result (λ fault. fault ≡ Refused 10
         → IsQuestion line.now.command × W.took out.old buffer.old 0 out.new) }
-    ensures known { (s : BitemporalSession) → StandsAs bitime_times crew.old s
+    ensures known { (s : BitemporalSession) → HasSessionOf bitime_times crew.old s
         → IfErr result (IsCrewEnd (EndsByBound script.now.plan s)) }
 {
     if let Command::View(_) = line.command {
@@ -138,16 +138,16 @@ fn run_crew_lines<R: Threads + Wait + Sync, G: Gate + Sync, W: Out, V: Watch>(
     watch: &mut V,
 ) -> Result<(), RunFault>
     requires plan { script.now.plan ≡ (dataflow_of crew.old).nodes }
-    ensures wrote { (s : BitemporalSession) → StandsAs bitime_times crew.old s
+    ensures wrote { (s : BitemporalSession) → HasSessionOf bitime_times crew.old s
         → OnOk result (Wrote W.took out.old buffer.old
         (lines_text script.now s script.now.commands) out.new buffer.new) }
-    ensures broke { (s : BitemporalSession) → StandsAs bitime_times crew.old s
+    ensures broke { (s : BitemporalSession) → HasSessionOf bitime_times crew.old s
         → IfErr result (λ fault. Broke W.took out.old buffer.old
         (lines_text script.now s script.now.commands) (failures fault) out.new) }
-    ensures overflow { (s : BitemporalSession) → StandsAs bitime_times crew.old s
+    ensures overflow { (s : BitemporalSession) → HasSessionOf bitime_times crew.old s
         → IfErr result (TookTextBefore W.took out.old out.new
         (λ now. EndsByBound script.now.plan now Overflow) script.now s buffer.old) }
-    ensures known { (s : BitemporalSession) → StandsAs bitime_times crew.old s
+    ensures known { (s : BitemporalSession) → HasSessionOf bitime_times crew.old s
         → IfErr result (IsCrewEnd (λ refusal. HoldsAlong
         (λ now. EndsByBound script.now.plan now refusal) script.now.plan s script.now.commands)) }
 {
@@ -168,15 +168,15 @@ fn run_crew<R: Threads + Wait + Sync, G: Gate + Sync, W: Out, V: Watch>(
     watch: &mut V,
 ) -> Result<(), RunFault>
     requires plan { script.now.plan ≡ (dataflow_of crew.old).nodes }
-    ensures wrote { (s : BitemporalSession) → StandsAs bitime_times crew.old s
+    ensures wrote { (s : BitemporalSession) → HasSessionOf bitime_times crew.old s
         → OnOk result (W.took out.old (lines_text script.now s script.now.commands) 0 out.new) }
-    ensures broke { (s : BitemporalSession) → StandsAs bitime_times crew.old s
+    ensures broke { (s : BitemporalSession) → HasSessionOf bitime_times crew.old s
         → IfErr result (λ fault. Broke W.took out.old []
         (lines_text script.now s script.now.commands) (failures fault) out.new) }
-    ensures overflow { (s : BitemporalSession) → StandsAs bitime_times crew.old s
+    ensures overflow { (s : BitemporalSession) → HasSessionOf bitime_times crew.old s
         → IfErr result (TookTextBefore W.took out.old out.new
         (λ now. EndsByBound script.now.plan now Overflow) script.now s []) }
-    ensures known { (s : BitemporalSession) → StandsAs bitime_times crew.old s
+    ensures known { (s : BitemporalSession) → HasSessionOf bitime_times crew.old s
         → IfErr result (IsCrewEnd (λ refusal. HoldsAlong
         (λ now. EndsByBound script.now.plan now refusal) script.now.plan s script.now.commands)) }
 {

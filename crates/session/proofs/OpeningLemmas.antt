@@ -4,7 +4,7 @@ use Rattle.std.specs.Prelude.{slice_get}
 use Rattle.std.specs.List.{AllByRecursion}
 use Rattle.std.proofs.lemmas.List.{map-append, length-map}
 use Rattle.std.proofs.lemmas.Option.{none-some, same_Some}
-use Rattle.hub.specs.Known.{Known}
+use Rattle.hub.specs.PassViews.{PassView}
 use Rattle.shared_board.specs.declared.event.BoardEvent.{BoardEvent}
 use Rattle.steps.specs.Workers.{WorkerView}
 use Rattle.plan.specs.declared.node.Node.{Node}
@@ -35,17 +35,17 @@ all_more P [] x a p = (p, tt)
 all_more P (y ∷ xs) x a p = (a.0, all_more P xs x a.1 p)
 
 module _ {T : Type 0} where
-  abbrev known_of : List (WorkerView T) → List (Known (BoardEvent T))
+  abbrev known_of : List (WorkerView T) → List (PassView (BoardEvent T))
   known_of crew = map (λ (w : WorkerView T). w.known) crew
 
   -- the next actor is a worker: its number is that of the workers before it
-  pub next_number : (workers : ℕ) (crew : List (WorkerView T)) (seats : List (Known (BoardEvent T))) → IsInOrder workers crew seats → length crew < workers
+  pub next_number : (workers : ℕ) (crew : List (WorkerView T)) (seats : List (PassView (BoardEvent T))) → IsInOrder workers crew seats → length crew < workers
       → length crew + length seats ≡ length crew
   next_number workers crew seats (inl o) less = let none : length seats ≡ 0 = ap length o.1 in omega (arith, none)
   next_number workers crew seats (inr e) less = absurd (omega (arith, e, less))
 
   -- the next actor has the number of its place among all
-  pub next_place : (crew : List (WorkerView T)) (seats rest all : List (Known (BoardEvent T))) (a : Known (BoardEvent T)) → actors_of crew seats ++ a ∷ rest ≡ all
+  pub next_place : (crew : List (WorkerView T)) (seats rest all : List (PassView (BoardEvent T))) (a : PassView (BoardEvent T)) → actors_of crew seats ++ a ∷ rest ≡ all
       → slice_get all (length crew + length seats) ≡ Some a
   next_place crew seats rest all a e =
       let before = actors_of crew seats in
@@ -53,17 +53,17 @@ module _ {T : Type 0} where
       ap (λ n. slice_get all n) (sym long) ∙ (ap (λ l. slice_get l (length before)) (sym e) ∙ slice_get-seam before rest a)
 
   -- no worker is missing
-  filled : (workers : ℕ) (crew : List (WorkerView T)) (seats : List (Known (BoardEvent T))) → IsInOrder workers crew seats → workers ≤ length crew → length crew ≡ workers
+  filled : (workers : ℕ) (crew : List (WorkerView T)) (seats : List (PassView (BoardEvent T))) → IsInOrder workers crew seats → workers ≤ length crew → length crew ≡ workers
   filled workers crew seats (inl o) full = let few = o.0 in omega (arith, few, full)
   filled workers crew seats (inr e) full = e
 
   -- among so many actors no worker is missing
-  everyone : (workers clients : ℕ) (crew : List (WorkerView T)) (seats : List (Known (BoardEvent T))) → IsInOrder workers crew seats → length crew + length seats ≡ workers + clients → length crew ≡ workers
+  everyone : (workers clients : ℕ) (crew : List (WorkerView T)) (seats : List (PassView (BoardEvent T))) → IsInOrder workers crew seats → length crew + length seats ≡ workers + clients → length crew ≡ workers
   everyone workers clients crew seats (inl o) long = let few = o.0 in let none : length seats ≡ 0 = ap length o.1 in omega (arith, few, none, long)
   everyone workers clients crew seats (inr e) long = e
 
   -- once the next actor has its seat, all are in order, and no worker has done anything
-  pub seated_next : (workers : ℕ) (a : Known (BoardEvent T)) (crew crew_then : List (WorkerView T)) (seats seats_then rest all : List (Known (BoardEvent T)))
+  pub seated_next : (workers : ℕ) (a : PassView (BoardEvent T)) (crew crew_then : List (WorkerView T)) (seats seats_then rest all : List (PassView (BoardEvent T)))
       → IsInOrder workers crew seats → IsSeated workers a crew seats crew_then seats_then → actors_of crew seats ++ a ∷ rest ≡ all → AllByRecursion IsFresh crew
       → (actors_of crew_then seats_then ++ rest ≡ all) × IsInOrder workers crew_then seats_then × AllByRecursion IsFresh crew_then
   seated_next workers a crew crew_then seats seats_then rest all (inl o) (inl s) e fresh =
@@ -104,10 +104,10 @@ module _ {T : Type 0} where
       )
 
   -- once all have seats, each has the number of its place
-  pub all_seated : (nodes : List Node) (workers clients : ℕ) (crew : List (WorkerView T)) (seats all : List (Known (BoardEvent T))) → actors_of crew seats ≡ all
+  pub all_seated : (nodes : List Node) (workers clients : ℕ) (crew : List (WorkerView T)) (seats all : List (PassView (BoardEvent T))) → actors_of crew seats ≡ all
       → IsInOrder workers crew seats → AllByRecursion IsFresh crew → length all ≡ workers + clients
-      → ((k : ℕ) (a : Known (BoardEvent T)) → slice_get all k ≡ Some a → IsFirst (opening_for nodes workers clients) k a)
-      → ((k j : ℕ) (a b : Known (BoardEvent T)) → slice_get all k ≡ Some a → slice_get all j ≡ Some b → a.hub ≡ b.hub)
+      → ((k : ℕ) (a : PassView (BoardEvent T)) → slice_get all k ≡ Some a → IsFirst (opening_for nodes workers clients) k a)
+      → ((k j : ℕ) (a b : PassView (BoardEvent T)) → slice_get all k ≡ Some a → slice_get all j ≡ Some b → a.hub ≡ b.hub)
       → IsOpened nodes workers clients crew seats
   all_seated nodes workers clients crew seats all is order fresh count each one_hub =
       let long : length all ≡ length crew + length seats =

@@ -32,11 +32,11 @@ pub struct Client<T: Minimum, P: BoardProtocol<T>> {
 
 impl<T: Minimum, P: BoardProtocol<T>> Model for Client<T, P> {
     ghost use Rattle.std.specs.Prelude.{◌≤◌};
-    ghost use Rattle.hub.specs.Known.{Known};
+    ghost use Rattle.hub.specs.PassViews.{PassView};
     ghost use Rattle.shared_board.specs.Tenures.{opening_in};
     ghost use Rattle.shared_board.specs.declared.event.BoardEvent.{BoardEvent};
 
-    ghost Value = { Known (BoardEvent T) };
+    ghost Value = { PassView (BoardEvent T) };
 
     ghost view = { λ c. c.actor };
 

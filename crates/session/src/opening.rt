@@ -9,7 +9,7 @@
 //! only if its caller has them too.
 ghost use Rattle.std.specs.Prelude.{◌≡◌, ◌⊎◌, ◌↔◌, ◌+◌, ℕ, Err, IfErr, IfOk, IsTrue, OnOk, Some, length, slice_get};
 ghost use Rattle.update.specs.Refusals.{OnlyMemory};
-ghost use Rattle.hub.specs.Known.{Known};
+ghost use Rattle.hub.specs.PassViews.{PassView};
 ghost use Rattle.update.specs.declared.refusal.Refusal.TheVariants.{BadWorkers, OutOfMemory};
 ghost use Rattle.shared_board.specs.declared.event.BoardEvent.{BoardEvent};
 ghost use Rattle.shared_board.specs.Tenures.{IsFirst, opening_for};
@@ -70,9 +70,9 @@ fn seat_all<T: Minimum, P: BoardProtocol<T>>(
     crew: &mut Vec<Worker<T, P>>,
 ) -> Result<Vec<Client<T, P>>, Refusal>
     requires count { length actors.items ≡ workers + clients }
-    requires each { (k : ℕ) (a : Known (BoardEvent T)) → slice_get actors.items k ≡ Some a
+    requires each { (k : ℕ) (a : PassView (BoardEvent T)) → slice_get actors.items k ≡ Some a
         → IsFirst (opening_for plan.now workers clients) k a }
-    requires one_hub { (k j : ℕ) (a b : Known (BoardEvent T)) → slice_get actors.items k ≡ Some a
+    requires one_hub { (k j : ℕ) (a b : PassView (BoardEvent T)) → slice_get actors.items k ≡ Some a
         → slice_get actors.items j ≡ Some b → a.hub ≡ b.hub }
     ensures opened { IfOk result (λ seats.
         IsOpened plan.now workers clients crew.new.items seats.items) }

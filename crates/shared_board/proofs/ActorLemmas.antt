@@ -7,7 +7,7 @@ use Rattle.std.specs.declared.cmp.Ordering.{Ordering}
 use Rattle.atomic_table.specs.Seated.{TableId}
 use Rattle.hub.specs.declared.view.Entry.{Entry}
 use Rattle.hub.specs.Histories.{entry, NoneBy}
-use Rattle.hub.specs.Known.{Known, Tenure}
+use Rattle.hub.specs.PassViews.{PassView, Tenure}
 use Rattle.hub.specs.Passes.{AgreesWith}
 use Rattle.hub.specs.Tenures.{IsTenureOf}
 use Rattle.histories.specs.declared.event.Event.{Event}
@@ -26,7 +26,7 @@ use Rattle.shared_board.proofs.ApartLemmas.{give_apart}
 use Rattle.shared_board.specs.declared.event.BoardEvent.{BoardEvent}
 use Rattle.shared_board.specs.Calls.{HasLooked}
 use Rattle.shared_board.specs.Widths.{HasWidths}
-use Rattle.shared_board.specs.Tenures.{IsOneEvent, WaitsOrNot, WaitsOrNotIn, Opening, SharedState, events, opening_of_board, doing, doing_on, is_change, AreOn, left_by, StandsFor, opening_in, AreKnown, found_last, state_found, state_left, IsNextTenure, IsActor, IsFirst}
+use Rattle.shared_board.specs.Tenures.{IsOneEvent, WaitsOrNot, WaitsOrNotIn, Opening, SharedState, events, opening_of_board, doing, doing_on, is_change, AreOn, left_by, RepresentsEntries, opening_in, AreKnown, found_last, state_found, state_left, IsNextTenure, IsActor, IsFirst}
 use Rattle.lattice.specs.Times.{Times}
 
 pub if_ok_map : {X E : Type 0} (r : Result X E) (P Q : X → Type 0) → ((x : X) → P x → Q x) → IfOk r P → IfOk r Q
@@ -88,16 +88,16 @@ module _ {T : Type 0} where
 module _ {T S : Type 0} where
   -- an actor of this hub and number is in a tenure, and makes its call on this board, which stands
   -- for the entries that the tenure found
-  pub record IsIn (times : Times T) (cmp : T → T → Ordering) (hub : TableId) (own : ℕ) (k : Known (BoardEvent T)) (h : Tenure S (BoardEvent T)) (b : SharedState T) : Type 0 where
+  pub record IsIn (times : Times T) (cmp : T → T → Ordering) (hub : TableId) (own : ℕ) (k : PassView (BoardEvent T)) (h : Tenure S (BoardEvent T)) (b : SharedState T) : Type 0 where
     pub same_hub : k.hub ≡ hub
     pub own_number : k.number ≡ own
     pub actor : IsActor times k
     pub tenure : IsTenureOf k h
-    pub stands : StandsFor times cmp b h.found
+    pub stands : RepresentsEntries times cmp b h.found
 
 module _ {T : Type 0} where
   -- what holds of its pass after the tenure in which it found these entries
-  pub record IsAfter (times : Times T) (hub : TableId) (own : ℕ) (k : Known (BoardEvent T)) (found : List (Entry (BoardEvent T))) (event : Event T) (accepted : Option ℕ) (n : Known (BoardEvent T)) : Type 0 where
+  pub record IsAfter (times : Times T) (hub : TableId) (own : ℕ) (k : PassView (BoardEvent T)) (found : List (Entry (BoardEvent T))) (event : Event T) (accepted : Option ℕ) (n : PassView (BoardEvent T)) : Type 0 where
     pub old_number : k.number ≡ own
     pub same_hub : n.hub ≡ hub
     pub own_number : n.number ≡ own
@@ -107,7 +107,7 @@ module _ {T : Type 0} where
     pub terms : opening_in n.seen ≡ opening_in k.seen
     pub found_is : found_last n ≡ found
 
-module _ {T : Type 0} {times : Times T} {hub : TableId} {own : ℕ} {k : Known (BoardEvent T)} {found : List (Entry (BoardEvent T))} {event : Event T} {accepted : Option ℕ} {n : Known (BoardEvent T)} (a : IsAfter times hub own k found event accepted n) where
+module _ {T : Type 0} {times : Times T} {hub : TableId} {own : ℕ} {k : PassView (BoardEvent T)} {found : List (Entry (BoardEvent T))} {event : Event T} {accepted : Option ℕ} {n : PassView (BoardEvent T)} (a : IsAfter times hub own k found event accepted n) where
   -- the actor made an event that names it by its number
   pub adds_as : (at : ℕ → Event T) → event ≡ at own → IsNextTenure k (at k.number) n
   adds_as at is = subst (λ (x : Event T). IsNextTenure k x n) (is ∙ ap at (sym a.old_number)) a.adds
@@ -119,7 +119,7 @@ module _ {T : Type 0} {times : Times T} {hub : TableId} {own : ℕ} {k : Known (
   pub kept : (now : Option ℕ) → now ≡ accepted → (n.hub ≡ hub) × (n.number ≡ own) × IsActor times n × ((m : ℕ) → now ≡ Some m → length (state_left times n).fed ≡ m)
   kept now is = (a.same_hub, a.own_number, a.actor, λ m e. a.counted m (sym is ∙ e))
 
-module _ {T S : Type 0} {times : Times T} {cmp : T → T → Ordering} {hub : TableId} {own : ℕ} {k : Known (BoardEvent T)} {h : Tenure S (BoardEvent T)} {b : SharedState T} (t : IsIn times cmp hub own k h b) where
+module _ {T S : Type 0} {times : Times T} {cmp : T → T → Ordering} {hub : TableId} {own : ℕ} {k : PassView (BoardEvent T)} {h : Tenure S (BoardEvent T)} {b : SharedState T} (t : IsIn times cmp hub own k h b) where
   agrees : AgreesWith k h.found
   agrees = t.tenure.2
 
@@ -135,8 +135,8 @@ module _ {T S : Type 0} {times : Times T} {cmp : T → T → Ordering} {hub : Ta
   is_actor = on_board (λ x j. j < x.actors) t.actor.actor
 
   -- what a call says of all entries that the board may stand for holds of those that were found
-  pub of_found : (F : Dataflow → State T → Type 0) → ((es : List (Entry (BoardEvent T))) → StandsFor times cmp b es → F b.board.dataflow (left_by times b.board.dataflow es))
-      → {event : Event T} → {accepted : Option ℕ} → (n : Known (BoardEvent T)) → IsAfter times hub own k h.found event accepted n → F (opening_in k.seen).dataflow (state_found times n)
+  pub of_found : (F : Dataflow → State T → Type 0) → ((es : List (Entry (BoardEvent T))) → RepresentsEntries times cmp b es → F b.board.dataflow (left_by times b.board.dataflow es))
+      → {event : Event T} → {accepted : Option ℕ} → (n : PassView (BoardEvent T)) → IsAfter times hub own k h.found event accepted n → F (opening_in k.seen).dataflow (state_found times n)
   of_found F says n after =
       let here = says h.found t.stands in
       let known = subst (λ (x : Opening). F x.dataflow (left_by times x.dataflow h.found)) opening_found here in
@@ -161,18 +161,18 @@ module _ {T S : Type 0} {times : Times T} {cmp : T → T → Ordering} {hub : Ta
       (give_apart times p (state_left times k) (left_by times p (agrees.0 ++ k.seen)) g ts sent apart may)
 
   -- the call left this board, which stands for one entry more
-  module _ (c : SharedState T) (terms : opening_of_board c ≡ opening_of_board b) (next : StandsFor times cmp c (entry own (doing (opening_of_board b) c.board.last) ∷ h.found)) (last : BoardEvent T) (is : last ≡ doing_on c) where
+  module _ (c : SharedState T) (terms : opening_of_board c ≡ opening_of_board b) (next : RepresentsEntries times cmp c (entry own (doing (opening_of_board b) c.board.last) ∷ h.found)) (last : BoardEvent T) (is : last ≡ doing_on c) where
     -- the board may be given back
-    pub leaves : StandsFor times cmp c (entry h.number last ∷ h.found)
-    leaves = subst (λ (x : ℕ × BoardEvent T). StandsFor times cmp c (entry x.0 x.1 ∷ h.found)) (λ i. ((sym t.own_number ∙ sym t.tenure.1) i, (ap (λ (x : Opening). doing x c.board.last) (sym terms) ∙ sym is) i)) next
+    pub leaves : RepresentsEntries times cmp c (entry h.number last ∷ h.found)
+    leaves = subst (λ (x : ℕ × BoardEvent T). RepresentsEntries times cmp c (entry x.0 x.1 ∷ h.found)) (λ i. ((sym t.own_number ∙ sym t.tenure.1) i, (ap (λ (x : Opening). doing x c.board.last) (sym terms) ∙ sym is) i)) next
 
-    pub after : (n : Known (BoardEvent T)) → n ≡ record { hub = h.hub; number = h.number; seen = entry h.number last ∷ h.found } → IsAfter times hub own k h.found c.board.last c.accepted n
+    pub after : (n : PassView (BoardEvent T)) → n ≡ record { hub = h.hub; number = h.number; seen = entry h.number last ∷ h.found } → IsAfter times hub own k h.found c.board.last c.accepted n
     after n is_n =
         let event = c.board.last in
         let all : opening_of_board c ≡ opening_in k.seen = terms ∙ opening_found in
         let known : n ≡ record { hub = k.hub; number = k.number; seen = entry k.number (doing (opening_in k.seen) event) ∷ h.found }
         = is_n ∙ (λ i. record { hub = t.tenure.0 i; number = t.tenure.1 i; seen = entry (t.tenure.1 i) ((is ∙ ap (λ (x : Opening). doing x event) all) i) ∷ h.found }) in
-        let here = subst (λ (x : Opening × ℕ). StandsFor times cmp c (entry x.1 (doing x.0 event) ∷ h.found)) (λ i. (opening_found i, sym t.own_number i)) next in
+        let here = subst (λ (x : Opening × ℕ). RepresentsEntries times cmp c (entry x.1 (doing x.0 event) ∷ h.found)) (λ i. (opening_found i, sym t.own_number i)) next in
         subst (IsAfter times hub own k h.found event c.accepted) (sym known) (record {
           old_number = t.own_number;
           same_hub = t.same_hub;
@@ -195,39 +195,39 @@ module _ {T S : Type 0} {times : Times T} {cmp : T → T → Ordering} {hub : Ta
         })
 
     -- what waits on the board waits in the state that the actor leaves
-    pub waits_left : (n : Known (BoardEvent T)) → n ≡ record { hub = h.hub; number = h.number; seen = entry h.number last ∷ h.found } → (more : Bool) (node worker : ℕ) → WaitsOrNot more node worker c.board.stations → WaitsOrNotIn more node worker (state_left times n)
+    pub waits_left : (n : PassView (BoardEvent T)) → n ≡ record { hub = h.hub; number = h.number; seen = entry h.number last ∷ h.found } → (more : Bool) (node worker : ℕ) → WaitsOrNot more node worker c.board.stations → WaitsOrNotIn more node worker (state_left times n)
     waits_left n is_n more node worker waits =
         let known : n ≡ record { hub = h.hub; number = h.number; seen = entry h.number (doing_on c) ∷ h.found } = is_n ∙ (λ i. record { hub = h.hub; number = h.number; seen = entry h.number (is i) ∷ h.found }) in
         let queues : (site : Site) → queue_of c.board.stations site ≡ queue site (state_left times n).in_flight
-        = λ site. next.stands.queues site ∙ ap (λ (x : Known (BoardEvent T)). queue site (state_left times x).in_flight) (sym known) in (
+        = λ site. next.stands.queues site ∙ ap (λ (x : PassView (BoardEvent T)). queue site (state_left times x).in_flight) (sym known) in (
           λ some. let x = waits.0 some in (x.0, subst (λ bs. 0 < length bs) (queues (place node x.0 worker)) x.1),
           λ none port. sym (queues (place node port worker)) ∙ waits.1 none port,
         )
 
 -- the call was one event, and left this board
-module _ {T S : Type 0} {times : Times T} {cmp : T → T → Ordering} {hub : TableId} {own : ℕ} {k : Known (BoardEvent T)} {h : Tenure S (BoardEvent T)} {b c : SharedState T} (t : IsIn times cmp hub own k h b) (e : IsOneEvent times cmp b c own) where
-  pub one_leaves : (last : BoardEvent T) → last ≡ doing_on c → StandsFor times cmp c (entry h.number last ∷ h.found)
+module _ {T S : Type 0} {times : Times T} {cmp : T → T → Ordering} {hub : TableId} {own : ℕ} {k : PassView (BoardEvent T)} {h : Tenure S (BoardEvent T)} {b c : SharedState T} (t : IsIn times cmp hub own k h b) (e : IsOneEvent times cmp b c own) where
+  pub one_leaves : (last : BoardEvent T) → last ≡ doing_on c → RepresentsEntries times cmp c (entry h.number last ∷ h.found)
   one_leaves last is = leaves t c e.terms (e.stands h.found t.stands) last is
 
-  pub after_one : (last : BoardEvent T) → last ≡ doing_on c → (n : Known (BoardEvent T)) → n ≡ record { hub = h.hub; number = h.number; seen = entry h.number last ∷ h.found } → IsAfter times hub own k h.found c.board.last c.accepted n
+  pub after_one : (last : BoardEvent T) → last ≡ doing_on c → (n : PassView (BoardEvent T)) → n ≡ record { hub = h.hub; number = h.number; seen = entry h.number last ∷ h.found } → IsAfter times hub own k h.found c.board.last c.accepted n
   after_one last is n is_n = after t c e.terms (e.stands h.found t.stands) last is n is_n
 
 module _ {T : Type 0} (times : Times T) (cmp : T → T → Ordering) where
   -- what holds of a pass after its first tenure
-  pub record IsAfterFirst (t : Opening) (own : ℕ) (hub : TableId) (accepted : Option ℕ) (n : Known (BoardEvent T)) : Type 0 where
+  pub record IsAfterFirst (t : Opening) (own : ℕ) (hub : TableId) (accepted : Option ℕ) (n : PassView (BoardEvent T)) : Type 0 where
     pub its_hub : n.hub ≡ hub
     pub its_number : n.number ≡ own
     pub first : IsFirst t own n
     pub actor : IsActor times n
     pub counted : (m : ℕ) → accepted ≡ Some m → length (state_left times n).fed ≡ m
 
-  pub after_first : (t : Opening) (own : ℕ) (k : Known (BoardEvent T)) → k.number ≡ own → k.seen ≡ [] → (b m c : SharedState T) (hub : TableId) (number : ℕ) (found : List (Entry (BoardEvent T)))
-      → hub ≡ k.hub → number ≡ k.number → AgreesWith k found → StandsFor times cmp b found → m ≡ b → opening_of_board m ≡ t → own < t.actors → opening_of_board c ≡ opening_of_board m
-      → ((es : List (Entry (BoardEvent T))) → StandsFor times cmp m es → StandsFor times cmp c (entry own (doing (opening_of_board m) c.board.last) ∷ es)) → c.board.last ≡ Look own
-      → (n : Known (BoardEvent T)) → n ≡ record { hub = hub; number = number; seen = entry number (doing (opening_of_board c) c.board.last) ∷ found } → IsAfterFirst t own k.hub c.accepted n
+  pub after_first : (t : Opening) (own : ℕ) (k : PassView (BoardEvent T)) → k.number ≡ own → k.seen ≡ [] → (b m c : SharedState T) (hub : TableId) (number : ℕ) (found : List (Entry (BoardEvent T)))
+      → hub ≡ k.hub → number ≡ k.number → AgreesWith k found → RepresentsEntries times cmp b found → m ≡ b → opening_of_board m ≡ t → own < t.actors → opening_of_board c ≡ opening_of_board m
+      → ((es : List (Entry (BoardEvent T))) → RepresentsEntries times cmp m es → RepresentsEntries times cmp c (entry own (doing (opening_of_board m) c.board.last) ∷ es)) → c.board.last ≡ Look own
+      → (n : PassView (BoardEvent T)) → n ≡ record { hub = hub; number = number; seen = entry number (doing (opening_of_board c) c.board.last) ∷ found } → IsAfterFirst t own k.hub c.accepted n
   after_first t own k e none b m c hub number found its_hub its_number agrees stands same on there terms next looks n is_n =
-      let here = next found (subst (λ (x : SharedState T). StandsFor times cmp x found) (sym same) stands) in
-      let stood = subst (λ (x : Opening × Event T). StandsFor times cmp c (entry own (doing x.0 x.1) ∷ found)) (λ i. (on i, looks i)) here in
+      let here = next found (subst (λ (x : SharedState T). RepresentsEntries times cmp x found) (sym same) stands) in
+      let stood = subst (λ (x : Opening × Event T). RepresentsEntries times cmp c (entry own (doing x.0 x.1) ∷ found)) (λ i. (on i, looks i)) here in
       let all : opening_of_board c ≡ t = terms ∙ on in
       let known : n ≡ record { hub = k.hub; number = own; seen = entry own (doing t (Look own)) ∷ found } = is_n ∙ (λ i. record { hub = its_hub i; number = (its_number ∙ e) i; seen = entry ((its_number ∙ e) i) (doing (all i) (looks i)) ∷ found }) in
       subst (IsAfterFirst t own k.hub c.accepted) (sym known) (record {

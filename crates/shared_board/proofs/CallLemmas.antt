@@ -11,7 +11,7 @@ use Rattle.update.specs.declared.refusal.Refusal.{Refusal}
 use Rattle.plan.specs.Changes.{AreDifferences, query_at}
 use Rattle.hub.specs.declared.view.Entry.{Entry}
 use Rattle.hub.specs.Histories.{entry}
-use Rattle.hub.specs.Known.{Known, Tenure}
+use Rattle.hub.specs.PassViews.{PassView, Tenure}
 use Rattle.hub.specs.Tenures.{IsTenureOf}
 use Rattle.histories.specs.declared.event.Event.{Event}
 use Rattle.histories.specs.declared.event.Event.TheVariants.{Look}
@@ -23,43 +23,43 @@ use Rattle.shared_board.specs.declared.event.BoardEvent.{BoardEvent}
 use Rattle.shared_board.specs.Calls.{AreListed, IsAnswered, IsDone, IsRead}
 use Rattle.shared_board.specs.Found.{IsChangesRefusalFound, IsReadRefusalFound}
 use Rattle.shared_board.specs.Large.{HasNoSmallBound}
-use Rattle.shared_board.specs.Tenures.{InEachState, IsActor, Opening, SharedState, StandsFor, IsReadRefusalIn, IsChangesRefusalIn, changes_refusal_in, doing, left_by, opening_in, opening_of_board, read_refusal_in, state_found, state_left}
+use Rattle.shared_board.specs.Tenures.{InEachState, IsActor, Opening, SharedState, RepresentsEntries, IsReadRefusalIn, IsChangesRefusalIn, changes_refusal_in, doing, left_by, opening_in, opening_of_board, read_refusal_in, state_found, state_left}
 use Rattle.shared_board.proofs.ActorLemmas.{IsIn, IsAfter, adds_as, looked, of_found, opening_found}
 use Rattle.lattice.specs.Times.{Times}
 
 module _ {T S : Type 0} (times : Times T) (cmp : T → T → Ordering) where
   -- an actor that has entered with the pass that lay in it is in a tenure
-  pub entered : (o : Option (Known (BoardEvent T))) (d k : Known (BoardEvent T)) (hub : TableId) (own : ℕ) (Q : Known (BoardEvent T) → Type 0)
+  pub entered : (o : Option (PassView (BoardEvent T))) (d k : PassView (BoardEvent T)) (hub : TableId) (own : ℕ) (Q : PassView (BoardEvent T) → Type 0)
       → IsSomeAnd o (λ p. (p.hub ≡ hub) × (p.number ≡ own) × IsActor times p × Q p) → unwrap_or o d ≡ k
-      → (h : Tenure S (BoardEvent T)) → IfSome o (λ p. IsTenureOf p h) → (m b : SharedState T) → StandsFor times cmp b h.found → m ≡ b
+      → (h : Tenure S (BoardEvent T)) → IfSome o (λ p. IsTenureOf p h) → (m b : SharedState T) → RepresentsEntries times cmp b h.found → m ≡ b
       → IsIn times cmp hub own k h m
   entered None d k hub own Q there is h of m b stands same = absurd there
   entered (Some p) d k hub own Q there is h of m b stands same =
-      subst (λ (x : Known (BoardEvent T) × SharedState T). IsIn times cmp hub own x.0 h x.1) (λ i. (is i, sym same i))
+      subst (λ (x : PassView (BoardEvent T) × SharedState T). IsIn times cmp hub own x.0 h x.1) (λ i. (is i, sym same i))
       (record { same_hub = there.0; own_number = there.1; actor = there.2; tenure = of; stands = stands })
 
 module _ {T : Type 0} (times : Times T) where
   -- what more the invariant of an actor says holds of what it knows
-  pub remembered : (o : Option (Known (BoardEvent T))) (d k : Known (BoardEvent T)) (hub : TableId) (own : ℕ) (Q : Known (BoardEvent T) → Type 0)
+  pub remembered : (o : Option (PassView (BoardEvent T))) (d k : PassView (BoardEvent T)) (hub : TableId) (own : ℕ) (Q : PassView (BoardEvent T) → Type 0)
       → IsSomeAnd o (λ p. (p.hub ≡ hub) × (p.number ≡ own) × IsActor times p × Q p) → unwrap_or o d ≡ k → Q k
   remembered None d k hub own Q there is = absurd there
   remembered (Some p) d k hub own Q there is = subst Q is there.3
 
 -- a worker that tells its cause leaves a board that stands for its look
-module _ {T S : Type 0} {times : Times T} {cmp : T → T → Ordering} {hub : TableId} {own : ℕ} {k : Known (BoardEvent T)} {h : Tenure S (BoardEvent T)} {b : SharedState T} (t : IsIn times cmp hub own k h b) where
+module _ {T S : Type 0} {times : Times T} {cmp : T → T → Ordering} {hub : TableId} {own : ℕ} {k : PassView (BoardEvent T)} {h : Tenure S (BoardEvent T)} {b : SharedState T} (t : IsIn times cmp hub own k h b) where
   pub told : (c : SharedState T) (count : Option ℕ) → ((n : ℕ) → count ≡ Some n → length (state_left times k).fed ≡ n)
       → HasNoSmallBound times cmp (opening_in k.seen).dataflow.nodes (changes_in (state_left times k))
-      → ((es : List (Entry (BoardEvent T))) → StandsFor times cmp b es → (later earlier : List (Entry (BoardEvent T))) → es ≡ later ++ earlier
+      → ((es : List (Entry (BoardEvent T))) → RepresentsEntries times cmp b es → (later earlier : List (Entry (BoardEvent T))) → es ≡ later ++ earlier
       → ((n : ℕ) → count ≡ Some n → length (left_by times b.board.dataflow earlier).fed ≡ n)
       → HasNoSmallBound times cmp b.board.dataflow.nodes (changes_in (left_by times b.board.dataflow earlier))
-      → StandsFor times cmp c (entry own (doing (opening_of_board b) c.board.last) ∷ es))
-      → StandsFor times cmp c (entry own (doing (opening_of_board b) c.board.last) ∷ h.found)
+      → RepresentsEntries times cmp c (entry own (doing (opening_of_board b) c.board.last) ∷ es))
+      → RepresentsEntries times cmp c (entry own (doing (opening_of_board b) c.board.last) ∷ h.found)
   told c count counted cause tells = tells h.found t.stands t.tenure.2.0 k.seen t.tenure.2.1
       (λ n e. ap (λ (x : Opening). length (left_by times x.dataflow k.seen).fed) (opening_found t) ∙ counted n e)
       (subst (λ (x : Opening). HasNoSmallBound times cmp x.dataflow.nodes (changes_in (left_by times x.dataflow k.seen))) (sym (opening_found t)) cause)
 
 -- how a call ends that found the board at home
-module _ {T S : Type 0} {times : Times T} {cmp : T → T → Ordering} {hub : TableId} {own : ℕ} {k n : Known (BoardEvent T)} {h : Tenure S (BoardEvent T)} {b : SharedState T} {event : Event T} {accepted : Option ℕ}
+module _ {T S : Type 0} {times : Times T} {cmp : T → T → Ordering} {hub : TableId} {own : ℕ} {k n : PassView (BoardEvent T)} {h : Tenure S (BoardEvent T)} {b : SharedState T} {event : Event T} {accepted : Option ℕ}
     (t : IsIn times cmp hub own k h b) (a : IsAfter times hub own k h.found event accepted n) where
   -- what a clause of the board's call says of all entries that the board may stand for
   abbrev pub Says : (Dataflow → State T → Type 0) → Type 0

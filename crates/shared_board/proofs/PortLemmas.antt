@@ -15,7 +15,7 @@ use Rattle.machine.proofs.BoardLemmas.FrontLemmas.{port_front_stands}
 use Rattle.machine.proofs.BoardLemmas.PieceLemmas.{get_first, get_second}
 use Rattle.shared_board.specs.declared.event.BoardEvent.{BoardEvent}
 use Rattle.shared_board.specs.Ports.{AreFrontsOf}
-use Rattle.shared_board.specs.Tenures.{SharedState, StandsFor, events, left_by}
+use Rattle.shared_board.specs.Tenures.{SharedState, RepresentsEntries, events, left_by}
 
 module _ {A B : Type 0} (P : A → B → Type 0) where
   -- each of the first k elements of one list has its match in the other, at the same place
@@ -38,7 +38,7 @@ module _ {A B : Type 0} (P : A → B → Type 0) where
           (y, get_second ys (y ∷ []) i 0 at, subst (λ (v : A). P v y) found new)
 
 -- what is found on the board is what its entries leave
-module _ {T : Type 0} (times : Times T) (cmp : T → T → Ordering) (o : PartialOrderLaws times) (b : SharedState T) (board : IsBoard b.board) (es : List (Entry (BoardEvent T))) (a : StandsFor times cmp b es) where
+module _ {T : Type 0} (times : Times T) (cmp : T → T → Ordering) (o : PartialOrderLaws times) (b : SharedState T) (board : IsBoard b.board) (es : List (Entry (BoardEvent T))) (a : RepresentsEntries times cmp b es) where
   pub fronts_stand : (ports : List Site) (fronts : List (List T)) → AreFrontsOf times b.board.dataflow (on_board b.board) ports fronts → AreFrontsOf times b.board.dataflow (left_by times b.board.dataflow es) ports fronts
   fronts_stand ports fronts found i site e =
       let r = found i site e in

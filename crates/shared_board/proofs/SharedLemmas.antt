@@ -16,12 +16,12 @@ use Rattle.histories.specs.Histories.Dataflows.{Dataflow, IsDataflow}
 use Rattle.histories.specs.Histories.States.{State, fed_to}
 use Rattle.histories.specs.Histories.{actor_of, next_state, state_after, IsAllowed, IsGive}
 use Rattle.histories.specs.Histories.Promises.{changes_in}
-use Rattle.machine.specs.Boards.{BoardState, Stands, after_look, after_feed, after_advance, after_allow, after_take, after_turn, after_give}
+use Rattle.machine.specs.Boards.{BoardState, Represents, after_look, after_feed, after_advance, after_allow, after_take, after_notification, after_give}
 use Rattle.shared_board.specs.declared.event.BoardEvent.{BoardEvent}
 use Rattle.shared_board.specs.Large.{HasNoSmallBound}
 use Rattle.shared_board.specs.Widths.{are_wide_for, HasWidths, IsSentWide}
 use Rattle.shared_board.proofs.WidthLemmas.{widths_after}
-use Rattle.shared_board.specs.Tenures.{IsOneEvent, Opening, SharedState, events, opening_of_board, doing, is_change, AreOn, left_by, StandsFor}
+use Rattle.shared_board.specs.Tenures.{IsOneEvent, Opening, SharedState, events, opening_of_board, doing, is_change, AreOn, left_by, RepresentsEntries}
 use Rattle.lattice.specs.Times.{Times}
 
 true_among : (a b : Bool) → (a || b) ≡ true → (a ≡ true) ⊎ (b ≡ true)
@@ -34,13 +34,13 @@ module _ {T : Type 0} (times : Times T) (cmp : T → T → Ordering) where
     pub terms : opening_of_board n ≡ opening_of_board b
     pub own : actor_of event ≡ actor
     pub there : IsTrue (is_change event) → actor < b.actors
-    pub stands : Stands times n.board (event ∷ events es)
+    pub stands : Represents times n.board (event ∷ events es)
     pub sent : IsSentWide b.board.dataflow event
     pub counted : (k : ℕ) → n.accepted ≡ Some k → length (next_state times b.board.dataflow (left_by times b.board.dataflow es) event).fed ≡ k
     pub large : IsTrue n.too_large → HasNoSmallBound times cmp b.board.dataflow.nodes (changes_in (next_state times b.board.dataflow (left_by times b.board.dataflow es) event))
 
-  pub one_more : (b n : SharedState T) (actor : ℕ) (event : Event T) (es : List (Entry (BoardEvent T))) → StandsFor times cmp b es → IsNext b n actor event es
-      → StandsFor times cmp n (entry actor (doing (opening_of_board b) event) ∷ es)
+  pub one_more : (b n : SharedState T) (actor : ℕ) (event : Event T) (es : List (Entry (BoardEvent T))) → RepresentsEntries times cmp b es → IsNext b n actor event es
+      → RepresentsEntries times cmp n (entry actor (doing (opening_of_board b) event) ∷ es)
   one_more b n actor event es old next = record {
     dataflow = subst (λ (t : Opening). IsDataflow t.dataflow) (sym next.terms) old.dataflow;
     stands = next.stands;
@@ -53,11 +53,11 @@ module _ {T : Type 0} (times : Times T) (cmp : T → T → Ordering) where
   }
 
   -- an event that feeds nothing
-  pub one_more_but_fed : (b n : SharedState T) (actor : ℕ) (event : Event T) (es : List (Entry (BoardEvent T))) → StandsFor times cmp b es
-      → opening_of_board n ≡ opening_of_board b → actor_of event ≡ actor → (IsTrue (is_change event) → actor < b.actors) → Stands times n.board (event ∷ events es) → IsSentWide b.board.dataflow event
+  pub one_more_but_fed : (b n : SharedState T) (actor : ℕ) (event : Event T) (es : List (Entry (BoardEvent T))) → RepresentsEntries times cmp b es
+      → opening_of_board n ≡ opening_of_board b → actor_of event ≡ actor → (IsTrue (is_change event) → actor < b.actors) → Represents times n.board (event ∷ events es) → IsSentWide b.board.dataflow event
       → (next_state times b.board.dataflow (left_by times b.board.dataflow es) event).fed ≡ (left_by times b.board.dataflow es).fed
       → n.accepted ≡ b.accepted → n.too_large ≡ b.too_large
-      → StandsFor times cmp n (entry actor (doing (opening_of_board b) event) ∷ es)
+      → RepresentsEntries times cmp n (entry actor (doing (opening_of_board b) event) ∷ es)
   one_more_but_fed b n actor event es old terms own there stands sent same counts large = one_more b n actor event es old (record {
     terms = terms;
     own = own;
@@ -70,18 +70,18 @@ module _ {T : Type 0} (times : Times T) (cmp : T → T → Ordering) where
 
   -- the board goes on to stand for its last event too
   abbrev pub Extends : BoardState T → BoardState T → Type 0
-  Extends b c = (h : List (Event T)) → Stands times b h → Stands times c (c.last ∷ h)
+  Extends b c = (h : List (Event T)) → Represents times b h → Represents times c (c.last ∷ h)
 
   -- of a board as a call keeps it, and as its clauses see it
   module _ {b s : SharedState T} (seen : b ≡ s) where
     -- a clause on all entries that the board may stand for
-    pub in_view : (F : Dataflow → State T → Type 0) → ((es : List (Entry (BoardEvent T))) → StandsFor times cmp b es → F b.board.dataflow (left_by times b.board.dataflow es))
-        → (es : List (Entry (BoardEvent T))) → StandsFor times cmp s es → F s.board.dataflow (left_by times s.board.dataflow es)
-    in_view F says = subst (λ (x : SharedState T). (es : List (Entry (BoardEvent T))) → StandsFor times cmp x es → F x.board.dataflow (left_by times x.board.dataflow es)) seen says
+    pub in_view : (F : Dataflow → State T → Type 0) → ((es : List (Entry (BoardEvent T))) → RepresentsEntries times cmp b es → F b.board.dataflow (left_by times b.board.dataflow es))
+        → (es : List (Entry (BoardEvent T))) → RepresentsEntries times cmp s es → F s.board.dataflow (left_by times s.board.dataflow es)
+    in_view F says = subst (λ (x : SharedState T). (es : List (Entry (BoardEvent T))) → RepresentsEntries times cmp x es → F x.board.dataflow (left_by times x.board.dataflow es)) seen says
 
     -- what the board says of each history that it may stand for, it says of entries
-    pub of_history : (F : Dataflow → State T → Type 0) → ((h : List (Event T)) → Stands times b.board h → F b.board.dataflow (state_after times b.board.dataflow h))
-        → (es : List (Entry (BoardEvent T))) → StandsFor times cmp s es → F s.board.dataflow (left_by times s.board.dataflow es)
+    pub of_history : (F : Dataflow → State T → Type 0) → ((h : List (Event T)) → Represents times b.board h → F b.board.dataflow (state_after times b.board.dataflow h))
+        → (es : List (Entry (BoardEvent T))) → RepresentsEntries times cmp s es → F s.board.dataflow (left_by times s.board.dataflow es)
     of_history F says = in_view F (λ es a. says (events es) a.stands)
 
     is_actor : (actor : ℕ) → actor < s.actors → actor < b.actors
@@ -90,9 +90,9 @@ module _ {T : Type 0} (times : Times T) (cmp : T → T → Ordering) where
     -- a change of the board alone, by an event that feeds nothing
     goes_on_at : (c d : BoardState T) (actor : ℕ) → c ≡ d → opening_of_board (record b { board = d }) ≡ opening_of_board b → actor_of d.last ≡ actor → (IsTrue (is_change d.last) → actor < b.actors) → IsSentWide b.board.dataflow d.last
         → ((w : State T) → (next_state times b.board.dataflow w d.last).fed ≡ w.fed)
-        → (es : List (Entry (BoardEvent T))) → StandsFor times cmp b es → Stands times c (c.last ∷ events es) → StandsFor times cmp (record b { board = c }) (entry actor (doing (opening_of_board b) c.last) ∷ es)
+        → (es : List (Entry (BoardEvent T))) → RepresentsEntries times cmp b es → Represents times c (c.last ∷ events es) → RepresentsEntries times cmp (record b { board = c }) (entry actor (doing (opening_of_board b) c.last) ∷ es)
     goes_on_at c d actor is terms own may wide same es a =
-        subst (λ (x : BoardState T). Stands times x (x.last ∷ events es) → StandsFor times cmp (record b { board = x }) (entry actor (doing (opening_of_board b) x.last) ∷ es)) (sym is)
+        subst (λ (x : BoardState T). Represents times x (x.last ∷ events es) → RepresentsEntries times cmp (record b { board = x }) (entry actor (doing (opening_of_board b) x.last) ∷ es)) (sym is)
         (λ stands. one_more_but_fed b (record b { board = d }) actor d.last es a terms own may stands wide (same (left_by times b.board.dataflow es)) refl refl)
 
     goes_on : (c d : BoardState T) (actor : ℕ) → c ≡ d → opening_of_board (record b { board = d }) ≡ opening_of_board b → actor_of d.last ≡ actor → (IsTrue (is_change d.last) → actor < b.actors) → IsSentWide b.board.dataflow d.last
@@ -152,25 +152,25 @@ module _ {T : Type 0} (times : Times T) (cmp : T → T → Ordering) where
     pub taken : (c : BoardState T) (worker number : ℕ) (bundle : Bundle T) → bundle.place.worker ≡ worker → c ≡ after_take number bundle b.board → Extends b.board c → IsOneEvent times cmp s (record b { board = c }) worker
     taken c worker number bundle own is = goes_on c (after_take number bundle b.board) worker is refl own (λ e. absurd (false≢true e)) tt (λ w. refl)
 
-    pub turned : (m c : BoardState T) (worker node : ℕ) → m ≡ b.board → c ≡ after_turn worker node m → Extends m c → IsOneEvent times cmp s (record b { board = c }) worker
-    turned m c worker node kept is extends =
-        goes_on c (after_turn worker node b.board) worker (is ∙ ap (after_turn worker node) kept) refl refl (λ e. absurd (false≢true e)) tt (λ w. refl) (subst (λ (d : BoardState T). Extends d c) kept extends)
+    pub notified : (m c : BoardState T) (worker node : ℕ) → m ≡ b.board → c ≡ after_notification worker node m → Extends m c → IsOneEvent times cmp s (record b { board = c }) worker
+    notified m c worker node kept is extends =
+        goes_on c (after_notification worker node b.board) worker (is ∙ ap (after_notification worker node) kept) refl refl (λ e. absurd (false≢true e)) tt (λ w. refl) (subst (λ (d : BoardState T). Extends d c) kept extends)
 
     -- the board goes on if the give is allowed
     give_in_view : (c : BoardState T) (g : Emission T) (held : List T) (sent : List (Bundle T))
-        → ((es : List (Entry (BoardEvent T))) → StandsFor times cmp b es → Stands times c (c.last ∷ events es) → StandsFor times cmp (record b { board = c }) (entry g.worker (doing (opening_of_board b) c.last) ∷ es))
-        → ((h : List (Event T)) → Stands times b.board h → IsGive times b.board.dataflow (state_after times b.board.dataflow h) g held sent → Stands times c (c.last ∷ h))
-        → (es : List (Entry (BoardEvent T))) → StandsFor times cmp s es → IsGive times s.board.dataflow (left_by times s.board.dataflow es) g held sent
-        → StandsFor times cmp (record b { board = c }) (entry g.worker (doing (opening_of_board s) c.last) ∷ es)
+        → ((es : List (Entry (BoardEvent T))) → RepresentsEntries times cmp b es → Represents times c (c.last ∷ events es) → RepresentsEntries times cmp (record b { board = c }) (entry g.worker (doing (opening_of_board b) c.last) ∷ es))
+        → ((h : List (Event T)) → Represents times b.board h → IsGive times b.board.dataflow (state_after times b.board.dataflow h) g held sent → Represents times c (c.last ∷ h))
+        → (es : List (Entry (BoardEvent T))) → RepresentsEntries times cmp s es → IsGive times s.board.dataflow (left_by times s.board.dataflow es) g held sent
+        → RepresentsEntries times cmp (record b { board = c }) (entry g.worker (doing (opening_of_board s) c.last) ∷ es)
     give_in_view c g held sent goes extends =
-        subst (λ (x : SharedState T). (es : List (Entry (BoardEvent T))) → StandsFor times cmp x es → IsGive times x.board.dataflow (left_by times x.board.dataflow es) g held sent → StandsFor times cmp (record b { board = c }) (entry g.worker (doing (opening_of_board x) c.last) ∷ es)) seen
+        subst (λ (x : SharedState T). (es : List (Entry (BoardEvent T))) → RepresentsEntries times cmp x es → IsGive times x.board.dataflow (left_by times x.board.dataflow es) g held sent → RepresentsEntries times cmp (record b { board = c }) (entry g.worker (doing (opening_of_board x) c.last) ∷ es)) seen
         (λ es a may. goes es a (extends (events es) a.stands may))
 
     pub gave : {X : Type 0} (c : BoardState T) (g : Emission T) (held : List T) (sent : List (Bundle T)) (r : Result (Unit {0}) X)
         → IsTrue (are_wide_for s.board.dataflow sent) → OnOk r (c ≡ after_give g held sent b.board) → OnErr r (c ≡ after_look g.worker b.board)
-        → ((h : List (Event T)) → Stands times b.board h → IsGive times b.board.dataflow (state_after times b.board.dataflow h) g held sent → Stands times c (c.last ∷ h))
-        → (es : List (Entry (BoardEvent T))) → StandsFor times cmp s es → IsGive times s.board.dataflow (left_by times s.board.dataflow es) g held sent
-        → StandsFor times cmp (record b { board = c }) (entry g.worker (doing (opening_of_board s) c.last) ∷ es)
+        → ((h : List (Event T)) → Represents times b.board h → IsGive times b.board.dataflow (state_after times b.board.dataflow h) g held sent → Represents times c (c.last ∷ h))
+        → (es : List (Entry (BoardEvent T))) → RepresentsEntries times cmp s es → IsGive times s.board.dataflow (left_by times s.board.dataflow es) g held sent
+        → RepresentsEntries times cmp (record b { board = c }) (entry g.worker (doing (opening_of_board s) c.last) ∷ es)
     gave c g held sent (Err refusal) wide done looks =
         give_in_view c g held sent (goes_on_at c (after_look g.worker b.board) g.worker looks refl refl (λ e. absurd (false≢true e)) tt (λ w. refl))
     gave c g held sent (Ok x) wide done looks =
@@ -208,12 +208,12 @@ module _ {T : Type 0} (times : Times T) (cmp : T → T → Ordering) where
 
   pub told : (b : SharedState T) (c : BoardState T) (worker : ℕ) (accepted : Option ℕ) (same : Bool) → c ≡ after_look worker b.board → Extends b.board c
       → (IsTrue same → (n : ℕ) × (b.accepted ≡ Some n) × (accepted ≡ Some n))
-      → (es : List (Entry (BoardEvent T))) → StandsFor times cmp b es → (later earlier : List (Entry (BoardEvent T))) → es ≡ later ++ earlier
+      → (es : List (Entry (BoardEvent T))) → RepresentsEntries times cmp b es → (later earlier : List (Entry (BoardEvent T))) → es ≡ later ++ earlier
       → ((n : ℕ) → accepted ≡ Some n → length (left_by times b.board.dataflow earlier).fed ≡ n)
       → HasNoSmallBound times cmp b.board.dataflow.nodes (changes_in (left_by times b.board.dataflow earlier))
-      → StandsFor times cmp (record b { board = c; too_large = b.too_large || same }) (entry worker (doing (opening_of_board b) c.last) ∷ es)
+      → RepresentsEntries times cmp (record b { board = c; too_large = b.too_large || same }) (entry worker (doing (opening_of_board b) c.last) ∷ es)
   told b c worker accepted same is extends both es a later earlier cut count cause =
-      subst (λ (d : BoardState T). Extends b.board d → StandsFor times cmp (record b { board = d; too_large = b.too_large || same }) (entry worker (doing (opening_of_board b) d.last) ∷ es)) (sym is)
+      subst (λ (d : BoardState T). Extends b.board d → RepresentsEntries times cmp (record b { board = d; too_large = b.too_large || same }) (entry worker (doing (opening_of_board b) d.last) ∷ es)) (sym is)
       (λ extends. one_more b (record b { board = after_look worker b.board; too_large = b.too_large || same }) worker (Look worker) es a (record {
         terms = refl;
         own = refl;

@@ -30,7 +30,7 @@ use Rattle.machine.specs.Boards.Reads.{front, captured_of, since_of}
 use Rattle.machine.proofs.BoardLemmas.FrontLemmas.{front_stands}
 use Rattle.histories.proofs.HistoryLemmas.HeadlineLemmas.{headline_lem}
 use Rattle.shared_board.specs.declared.event.BoardEvent.{BoardEvent}
-use Rattle.shared_board.specs.Tenures.{SharedState, StandsFor, events, left_by, read_refusal_in, changes_refusal_in, HasLargeListed, IsReadRefusalIn, IsChangesRefusalIn}
+use Rattle.shared_board.specs.Tenures.{SharedState, RepresentsEntries, events, left_by, read_refusal_in, changes_refusal_in, HasLargeListed, IsReadRefusalIn, IsChangesRefusalIn}
 use Rattle.shared_board.proofs.SharedLemmas.{in_view}
 
 -- the same refusal, of a cause that follows
@@ -43,7 +43,7 @@ pub err_as : {X : Type 0} (cause wanted : Type 0) (own other : Option Refusal) �
 err_as cause wanted own other e f (Ok x) is = tt
 err_as cause wanted own other e f (Err r) is = refused_as cause wanted own other e f r is
 
-module _ {T : Type 0} (times : Times T) (cmp : T → T → Ordering) (o : PartialOrderLaws times) (b : SharedState T) (board : IsBoard b.board) (v : ℕ) (within : v < length b.board.dataflow.nodes) (es : List (Entry (BoardEvent T))) (a : StandsFor times cmp b es) where
+module _ {T : Type 0} (times : Times T) (cmp : T → T → Ordering) (o : PartialOrderLaws times) (b : SharedState T) (board : IsBoard b.board) (v : ℕ) (within : v < length b.board.dataflow.nodes) (es : List (Entry (BoardEvent T))) (a : RepresentsEntries times cmp b es) where
   abbrev w : State T
   w = left_by times b.board.dataflow es
 
@@ -95,17 +95,17 @@ module _ {T : Type 0} (times : Times T) (cmp : T → T → Ordering) (o : Partia
   its view = subst (λ (x : SharedState T). IsTrue (is_output (node_of x.board.dataflow v))) (sym seen) view
 
   pub read_accepts : {X : Type 0} (t : T) (r : Result X Refusal) → OnOk r (reads.read_refusal_on times b.board v t ≡ None)
-      → (es : List (Entry (BoardEvent T))) → StandsFor times cmp s es → OnOk r (read_refusal_in times s.board.dataflow (left_by times s.board.dataflow es) v t ≡ None)
+      → (es : List (Entry (BoardEvent T))) → RepresentsEntries times cmp s es → OnOk r (read_refusal_in times s.board.dataflow (left_by times s.board.dataflow es) v t ≡ None)
   read_accepts t r accepts = in_view times cmp seen (λ p w. OnOk r (read_refusal_in times p w v t ≡ None)) (λ es a. on_ok_weaker r (λ e. sym (same_read_refusal times cmp o b board v here es a t) ∙ e) accepts)
 
   pub read_refuses : {X : Type 0} (view : IsTrue (is_output (node_of s.board.dataflow v))) (t : T) (r : Result X Refusal) → IfErr r (reads.IsReadRefusal times b.board v t)
-      → (es : List (Entry (BoardEvent T))) → StandsFor times cmp s es → IfErr r (IsReadRefusalIn times s.board.dataflow (left_by times s.board.dataflow es) v t)
+      → (es : List (Entry (BoardEvent T))) → RepresentsEntries times cmp s es → IfErr r (IsReadRefusalIn times s.board.dataflow (left_by times s.board.dataflow es) v t)
   read_refuses view t r refuses = in_view times cmp seen (λ p w. IfErr r (IsReadRefusalIn times p w v t)) (λ es a. read_refused times cmp o b board v here es a (its view) t r refuses)
 
   pub changes_accepts : {X : Type 0} (r : Result X Refusal) → OnOk r (reads.changes_refusal_on times b.board v ≡ None)
-      → (es : List (Entry (BoardEvent T))) → StandsFor times cmp s es → OnOk r (changes_refusal_in times (left_by times s.board.dataflow es) v ≡ None)
+      → (es : List (Entry (BoardEvent T))) → RepresentsEntries times cmp s es → OnOk r (changes_refusal_in times (left_by times s.board.dataflow es) v ≡ None)
   changes_accepts r accepts = in_view times cmp seen (λ p w. OnOk r (changes_refusal_in times w v ≡ None)) (λ es a. on_ok_weaker r (λ e. sym (same_changes_refusal times cmp o b board v here es a) ∙ e) accepts)
 
   pub changes_refuses : {X : Type 0} (view : IsTrue (is_output (node_of s.board.dataflow v))) (r : Result X Refusal) → IfErr r (reads.IsChangesRefusal times b.board v)
-      → (es : List (Entry (BoardEvent T))) → StandsFor times cmp s es → IfErr r (IsChangesRefusalIn times s.board.dataflow (left_by times s.board.dataflow es) v)
+      → (es : List (Entry (BoardEvent T))) → RepresentsEntries times cmp s es → IfErr r (IsChangesRefusalIn times s.board.dataflow (left_by times s.board.dataflow es) v)
   changes_refuses view r refuses = in_view times cmp seen (λ p w. IfErr r (IsChangesRefusalIn times p w v)) (λ es a. changes_refused times cmp o b board v here es a (its view) r refuses)

@@ -8,7 +8,7 @@ use Rattle.update.specs.Refusals.{IsRefusalBy}
 use Rattle.update.specs.declared.change.Update.{Update}
 use Rattle.update.specs.declared.refusal.Refusal.{Refusal}
 use Rattle.update.specs.declared.refusal.Refusal.TheVariants.{Busy, OutOfMemory}
-use Rattle.hub.specs.Known.{Known}
+use Rattle.hub.specs.PassViews.{PassView}
 use Rattle.histories.specs.declared.event.Event.{Event}
 use Rattle.histories.specs.declared.event.Event.TheVariants.{Advance, Allow, Feed, Look}
 use Rattle.histories.specs.declared.event.Fed.{Fed}
@@ -17,12 +17,12 @@ use Rattle.shared_board.specs.Found.{AreDifferencesFound, IsReadRefusalFound, Wa
 use Rattle.shared_board.specs.Tenures.{IsNextTenure, advance_refusal_in, allow_refusal_in, state_found}
 use Rattle.lattice.specs.Times.{Times}
 
-module _ {T : Type 0} (old new : Known (BoardEvent T)) where
+module _ {T : Type 0} (old new : PassView (BoardEvent T)) where
   -- the actor looked, and did nothing else
   abbrev pub HasLooked : Type 0
   HasLooked = IsNextTenure old (Look old.number) new
 
-module _ {T : Type 0} (Tries : Type 0) (old new : Known (BoardEvent T)) where
+module _ {T : Type 0} (Tries : Type 0) (old new : PassView (BoardEvent T)) where
   -- another actor had the board, and this one has seen nothing. No call ends so that waits
   abbrev pub IsBusy : Refusal → Type 0
   IsBusy refusal = Tries × (refusal ≡ Busy) × (new ≡ old)
@@ -39,7 +39,7 @@ module _ {T : Type 0} (Tries : Type 0) (old new : Known (BoardEvent T)) where
   IsAnswered Found Refused (Ok answer) = HasLooked old new × Found answer
   IsAnswered Found Refused (Err refusal) = IsBusy refusal ⊎ (HasLooked old new × Refused refusal)
 
-module _ {T : Type 0} (times : Times T) (old new : Known (BoardEvent T)) where
+module _ {T : Type 0} (times : Times T) (old new : PassView (BoardEvent T)) where
   -- nothing refuses the read of a view at a time, and the bag is the query there
   pub record IsRead (v : ℕ) (t : T) (bag : List Entry) : Type 0 where
     pub accepted : read_refusal_found times old new v t ≡ None
@@ -52,7 +52,7 @@ module _ {T : Type 0} (times : Times T) (old new : Known (BoardEvent T)) where
     pub differences : AreDifferencesFound times old new cmp v us
 
 -- what each call of a client adds to what it has seen
-module _ {T : Type 0} (times : Times T) (Tries : Type 0) (old new : Known (BoardEvent T)) where
+module _ {T : Type 0} (times : Times T) (Tries : Type 0) (old new : PassView (BoardEvent T)) where
   -- a change of an input's table
   abbrev pub IsFed : Fed T → Result (Unit {0}) Refusal → Type 0
   IsFed f r = IsDone Tries old new (Feed old.number f) (feed_refusal_found times old new f)

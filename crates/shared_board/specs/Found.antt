@@ -6,7 +6,7 @@ use Rattle.update.specs.Bags.{Entry}
 use Rattle.update.specs.declared.change.Update.{Update}
 use Rattle.update.specs.declared.refusal.Refusal.{Refusal}
 use Rattle.plan.specs.Changes.{AreDifferences, query_at}
-use Rattle.hub.specs.Known.{Known}
+use Rattle.hub.specs.PassViews.{PassView}
 use Rattle.histories.specs.declared.event.Fed.{Fed}
 use Rattle.histories.specs.declared.event.Site.{Site}
 use Rattle.histories.specs.Histories.Dataflows.{Dataflow}
@@ -21,10 +21,10 @@ use Rattle.lattice.specs.Times.{Times}
 
 module _ {T : Type 0} where
   -- the dataflow of the board, as the actor knows it
-  abbrev pub dataflow_of : Known (BoardEvent T) → Dataflow
+  abbrev pub dataflow_of : PassView (BoardEvent T) → Dataflow
   dataflow_of k = (opening_in k.seen).dataflow
 
-  module _ (times : Times T) (old new : Known (BoardEvent T)) where
+  module _ (times : Times T) (old new : PassView (BoardEvent T)) where
     -- the frontiers of a node in the state that was found
     abbrev pub frontier_found : ℕ → List T
     frontier_found n = frontier times (dataflow_of old) (state_found times new) n

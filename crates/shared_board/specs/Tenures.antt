@@ -16,7 +16,7 @@ use Rattle.plan.specs.Rules.{first_refusal}
 use Rattle.plan.specs.declared.node.Node.{Node}
 use Rattle.hub.specs.declared.view.Entry.{Entry}
 use Rattle.hub.specs.Histories.{entry, NoneBy}
-use Rattle.hub.specs.Known.{Known}
+use Rattle.hub.specs.PassViews.{PassView}
 use Rattle.histories.specs.declared.event.Event.{Event}
 use Rattle.histories.specs.declared.event.Event.TheVariants.{Feed, Advance, Allow, Look, Take, TakeHeld, Give}
 use Rattle.histories.specs.declared.event.Fed.{Fed}
@@ -27,7 +27,7 @@ use Rattle.histories.specs.Histories.{actor_of, state_after, IsLegal}
 use Rattle.histories.specs.Histories.Promises.{changes_in}
 use Rattle.histories.specs.Histories.Outstanding.{frontier}
 use Rattle.histories.specs.Histories.Readings.{is_from_start}
-use Rattle.machine.specs.Boards.{BoardState, Stands}
+use Rattle.machine.specs.Boards.{BoardState, Represents}
 use Rattle.outstanding.specs.Loads.{Lot, queue_of}
 use Rattle.shared_board.specs.declared.event.BoardEvent.{BoardEvent}
 use Rattle.shared_board.specs.Large.{HasNoSmallBound}
@@ -105,9 +105,9 @@ module _ {T : Type 0} where
 
     -- which entries a board may stand for: it stands for their events, each was on the board's
     -- terms, the rows on the board have their widths, and what the actors tell one another is right
-    pub record StandsFor (cmp : T → T → Ordering) (b : SharedState T) (es : List (Entry (BoardEvent T))) : Type 0 where
+    pub record RepresentsEntries (cmp : T → T → Ordering) (b : SharedState T) (es : List (Entry (BoardEvent T))) : Type 0 where
       pub dataflow : IsDataflow b.board.dataflow
-      pub stands : Stands times b.board (events es)
+      pub stands : Represents times b.board (events es)
       pub on : AreOn (opening_of_board b) es
       pub wide : HasWidths b.board.dataflow (left_by b.board.dataflow es)
       pub counted : (n : ℕ) → b.accepted ≡ Some n → length (left_by b.board.dataflow es).fed ≡ n
@@ -116,14 +116,14 @@ module _ {T : Type 0} where
     -- whatever entries the board stands for, this is so of its dataflow and of the state that they
     -- left
     abbrev pub InEachState : (T → T → Ordering) → SharedState T → (Dataflow → State T → Type 0) → Type 0
-    InEachState cmp b F = (es : List (Entry (BoardEvent T))) → StandsFor cmp b es → F b.board.dataflow (left_by b.board.dataflow es)
+    InEachState cmp b F = (es : List (Entry (BoardEvent T))) → RepresentsEntries cmp b es → F b.board.dataflow (left_by b.board.dataflow es)
 
     -- a call on the board is one event of this actor, whatever its answer
     pub record IsOneEvent (cmp : T → T → Ordering) (old new : SharedState T) (actor : ℕ) : Type 0 where
       -- the board is on the same terms
       pub terms : opening_of_board new ≡ opening_of_board old
       -- whatever entries it stood for, it stands for one more: its last event, by the actor
-      pub stands : (es : List (Entry (BoardEvent T))) → StandsFor cmp old es → StandsFor cmp new (entry actor (doing (opening_of_board old) new.board.last) ∷ es)
+      pub stands : (es : List (Entry (BoardEvent T))) → RepresentsEntries cmp old es → RepresentsEntries cmp new (entry actor (doing (opening_of_board old) new.board.last) ∷ es)
 
   module _ (times : Times T) where
     -- the refusal of a change in a state, of a new frontier of an input, and of a new since of a
@@ -177,18 +177,18 @@ module _ {T : Type 0} where
   but_last [] = []
   but_last (e ∷ es) = es
 
-  abbrev pub found_last : Known (BoardEvent T) → List (Entry (BoardEvent T))
+  abbrev pub found_last : PassView (BoardEvent T) → List (Entry (BoardEvent T))
   found_last k = but_last k.seen
 
   -- after one more tenure: events of others alone on top of what the actor had seen, and then its
   -- own
-  pub record IsNextTenure (old : Known (BoardEvent T)) (event : Event T) (new : Known (BoardEvent T)) : Type 0 where
+  pub record IsNextTenure (old : PassView (BoardEvent T)) (event : Event T) (new : PassView (BoardEvent T)) : Type 0 where
     pub others : List (Entry (BoardEvent T))
     pub apart : NoneBy old.number others
     pub new_is : new ≡ record { hub = old.hub; number = old.number; seen = entry old.number (doing (opening_in old.seen) event) ∷ (others ++ old.seen) }
 
   -- an actor of this number that has looked once, on a board that was opened on these terms
-  pub record IsFirst (t : Opening) (number : ℕ) (k : Known (BoardEvent T)) : Type 0 where
+  pub record IsFirst (t : Opening) (number : ℕ) (k : PassView (BoardEvent T)) : Type 0 where
     pub others : List (Entry (BoardEvent T))
     pub apart : NoneBy number others
     pub numbered : k.number ≡ number
@@ -196,15 +196,15 @@ module _ {T : Type 0} where
 
   module _ (times : Times T) where
     -- the state that an actor found in its last tenure, and the one that it left
-    abbrev pub state_found : Known (BoardEvent T) → State T
+    abbrev pub state_found : PassView (BoardEvent T) → State T
     state_found k = left_by times (opening_in k.seen).dataflow (found_last k)
 
-    abbrev pub state_left : Known (BoardEvent T) → State T
+    abbrev pub state_left : PassView (BoardEvent T) → State T
     state_left k = left_by times (opening_in k.seen).dataflow k.seen
 
     -- what an actor knows is right: the entries that it has seen are on the board's terms, and they
     -- are a legal history of a dataflow, whose rows have their widths, and it is one of the actors
-    pub record IsActor (k : Known (BoardEvent T)) : Type 0 where
+    pub record IsActor (k : PassView (BoardEvent T)) : Type 0 where
       pub known : AreKnown k.seen
       pub dataflow : IsDataflow (opening_in k.seen).dataflow
       pub legal : IsLegal times (opening_in k.seen).dataflow (events k.seen)

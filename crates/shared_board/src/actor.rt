@@ -44,12 +44,12 @@ impl<T: Minimum, P: Protocol<Event = BoardEvent<T>>> Model for Actor<T, P> {
     ghost use Rattle.std.specs.Prelude.{◌≡◌, ℕ, [], IsSomeAnd, length, Some};
     ghost use Rattle.std.specs.Arc.{arc_value};
     ghost use Rattle.std.specs.Option.{unwrap_or};
-    ghost use Rattle.hub.specs.Known.{Known};
+    ghost use Rattle.hub.specs.PassViews.{PassView};
     ghost use Rattle.hub.specs.Passes.{hub_id};
     ghost use Rattle.shared_board.specs.declared.event.BoardEvent.{BoardEvent};
     ghost use Rattle.shared_board.specs.Tenures.{IsActor, state_left};
 
-    ghost Value = { Known (BoardEvent T) };
+    ghost Value = { PassView (BoardEvent T) };
 
     ghost view = { λ a. unwrap_or a.pass
         (record { hub = hub_id (arc_value a.hub); number = a.number; seen = [] }) };

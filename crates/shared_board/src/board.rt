@@ -25,7 +25,7 @@ ghost use Rattle.histories.specs.Histories.Readings.{IsQuiet};
 ghost use Rattle.histories.specs.Histories.States.{change_to};
 ghost use Rattle.shared_board.specs.declared.event.BoardEvent.{BoardEvent};
 ghost use Rattle.shared_board.specs.Large.{HasNoSmallBound};
-ghost use Rattle.shared_board.specs.Tenures.{InEachState, IsKeptBeside, IsOneEvent, StandsFor, WaitsOrNot, doing, left_by, opening_for, opening_of_board, feed_refusal_in, advance_refusal_in, allow_refusal_in, read_refusal_in, changes_refusal_in, IsReadRefusalIn, IsChangesRefusalIn};
+ghost use Rattle.shared_board.specs.Tenures.{InEachState, IsKeptBeside, IsOneEvent, RepresentsEntries, WaitsOrNot, doing, left_by, opening_for, opening_of_board, feed_refusal_in, advance_refusal_in, allow_refusal_in, read_refusal_in, changes_refusal_in, IsReadRefusalIn, IsChangesRefusalIn};
 ghost use Rattle.shared_board.specs.Widths.{are_wide_for};
 
 mod pieces;
@@ -97,7 +97,7 @@ impl<T: Minimum> SharedBoard<T> {
         requires workers { (1 ≤ workers) × (workers ≤ 16) }
         requires clients { clients ≤ 16 }
         ensures terms { IfOk result (λ b. opening_of_board b ≡ opening_for plan workers clients) }
-        ensures stands { IfOk result (λ b. StandsFor T.times T.cmp b []) }
+        ensures stands { IfOk result (λ b. RepresentsEntries T.times T.cmp b []) }
         ensures counted { IfOk result (λ b. b.accepted ≡ Some 0) }
         ensures refused { OnlyMemory result }
     {
@@ -295,10 +295,10 @@ impl<T: Minimum> SharedBoard<T> {
         ensures given { OnOk result (self.new.board.last ≡ Give cut.given held cut.sent) }
         ensures returned { IfErr result (λ r. (self.new.board.last ≡ Look cut.given.worker)
             × (r ≡ record { cut = cut; held = held })) }
-        ensures stands { (es : List (Entry (BoardEvent T))) → StandsFor T.times T.cmp self.old es
+        ensures stands { (es : List (Entry (BoardEvent T))) → RepresentsEntries T.times T.cmp self.old es
             → IsGive T.times self.old.board.dataflow
             (left_by T.times self.old.board.dataflow es) cut.given held cut.sent
-            → StandsFor T.times T.cmp self.new
+            → RepresentsEntries T.times T.cmp self.new
             (entry cut.given.worker (doing (opening_of_board self.old) self.new.board.last) ∷ es) }
     {
         self.board.give(cut, held)
@@ -317,13 +317,13 @@ impl<T: Minimum> SharedBoard<T> {
     pub fn tell_too_large(&mut self, worker: usize, accepted: Option<u64>)
         ensures terms { opening_of_board self.new ≡ opening_of_board self.old }
         ensures looked { self.new.board.last ≡ Look worker }
-        ensures stands { (es : List (Entry (BoardEvent T))) → StandsFor T.times T.cmp self.old es
+        ensures stands { (es : List (Entry (BoardEvent T))) → RepresentsEntries T.times T.cmp self.old es
             → (later earlier : List (Entry (BoardEvent T))) → es ≡ later ++ earlier
             → ((n : ℕ) → accepted ≡ Some n
             → length (left_by T.times self.old.board.dataflow earlier).fed ≡ n)
             → HasNoSmallBound T.times T.cmp self.old.board.dataflow.nodes
             (changes_in (left_by T.times self.old.board.dataflow earlier))
-            → StandsFor T.times T.cmp self.new
+            → RepresentsEntries T.times T.cmp self.new
             (entry worker (doing (opening_of_board self.old) self.new.board.last) ∷ es) }
         ensures told { (n : ℕ) → self.old.accepted ≡ Some n → accepted ≡ Some n
             → IsTrue self.new.too_large }

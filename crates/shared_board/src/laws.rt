@@ -2,7 +2,7 @@
 ghost use Rattle.std.specs.Prelude.{◌≡◌, ℕ, suc, List, ◌++◌, IsTrue};
 ghost use Rattle.hub.specs.declared.view.Entry.{Entry};
 ghost use Rattle.hub.specs.Histories.{NoneBy};
-ghost use Rattle.hub.specs.Known.{Known};
+ghost use Rattle.hub.specs.PassViews.{PassView};
 ghost use Rattle.histories.specs.declared.event.Bundle.{Bundle};
 ghost use Rattle.histories.specs.declared.event.Emission.{Emission};
 ghost use Rattle.histories.specs.declared.event.Event.TheVariants.{Take};
@@ -30,7 +30,7 @@ pub fn others_change_nothing_of_a_worker<T: Minimum>()
 /// A worker knows the width of the rows of each bundle that it takes from any worker: that of the
 /// node that the bundle's place reads.
 pub fn bundles_taken_have_their_width<T: Minimum>()
-    ensures { (old new : Known (BoardEvent T)) (number : ℕ) (bundle : Bundle T)
+    ensures { (old new : PassView (BoardEvent T)) (number : ℕ) (bundle : Bundle T)
         → IsActor T.times new → IsNextTenure old (Take number bundle) new
         → IsTrue (is_wide_for (opening_in new.seen).dataflow bundle) }
 {}

@@ -1,7 +1,7 @@
 //! Opening a hub with a board, and an actor for each worker and client.
 ghost use Rattle.std.specs.Prelude.{◌≡◌, ◌≤◌, ◌+◌, ℕ, Some, IfOk, length, slice_get};
 ghost use Rattle.update.specs.Refusals.{OnlyMemory};
-ghost use Rattle.hub.specs.Known.{Known};
+ghost use Rattle.hub.specs.PassViews.{PassView};
 ghost use Rattle.shared_board.specs.declared.event.BoardEvent.{BoardEvent};
 ghost use Rattle.shared_board.specs.Tenures.{IsFirst, opening_for};
 
@@ -31,10 +31,10 @@ pub fn open<T: Minimum, P: BoardProtocol<T>, R: Wait>(
     requires workers { (1 ≤ workers) × (workers ≤ 16) }
     requires clients { clients ≤ 16 }
     ensures count { IfOk result (λ actors. length actors.items ≡ workers + clients) }
-    ensures each { IfOk result (λ actors. (k : ℕ) (a : Known (BoardEvent T))
+    ensures each { IfOk result (λ actors. (k : ℕ) (a : PassView (BoardEvent T))
         → slice_get actors.items k ≡ Some a
         → IsFirst (opening_for plan.now workers clients) k a) }
-    ensures one_hub { IfOk result (λ actors. (k j : ℕ) (a b : Known (BoardEvent T))
+    ensures one_hub { IfOk result (λ actors. (k j : ℕ) (a b : PassView (BoardEvent T))
         → slice_get actors.items k ≡ Some a
         → slice_get actors.items j ≡ Some b → a.hub ≡ b.hub) }
     ensures refused { OnlyMemory result }

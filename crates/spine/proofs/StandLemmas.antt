@@ -22,11 +22,11 @@ use Rattle.trace.proofs.ReadLemmas.{readable_itself, readable_in_turn, readable_
 use Rattle.trace.proofs.InsertionLemmas.{up_to_cases, up_to_newest, up_to_more}
 use Rattle.trace.proofs.BoundaryLemmas.{end-append, linked_take, stays, stored_is}
 use Rattle.levels.specs.Levels.{Change, Merged, Rewritten, changed}
-use Rattle.spine.specs.Spines.{SpineState, IsAllowed, Stands, stored}
+use Rattle.spine.specs.Spines.{SpineState, IsAllowed, Represents, stored}
 
 module _ {T : Type 0} (times : Times T) where
   -- all that is stored may be read in the place of all that was inserted
-  pub stands_whole : (s : SpineState T) (h : List (Insertion T)) → Stands times s h → IsReadable times s.since (stored s) (all_updates h)
+  pub stands_whole : (s : SpineState T) (h : List (Insertion T)) → Represents times s h → IsReadable times s.since (stored s) (all_updates h)
   stands_whole s h stands = by h stands.upper (λ seen up. all seen (stands.reads (length s.list.batches) (end_of s.list.start s.list.batches) seen (ap (end_of s.list.start) (take-length s.list.batches)) up))
     where
       all : (seen : List (Insertion T)) → IsReadable times s.since (all_content updates_of (take (length s.list.batches) s.list.batches)) (all_updates seen) → IsReadable times s.since (stored s) (all_updates seen)
@@ -37,7 +37,7 @@ module _ {T : Type 0} (times : Times T) where
       by (i ∷ h) e f = f (i ∷ h) (inl (subst (λ u. IsUpTo u (i ∷ h) (i ∷ h)) (sym e) (up_to_newest i h)))
 
   -- an empty spine stands for nothing
-  pub stands_for_nothing : (s : SpineState T) → s.list.batches ≡ [] → Stands times s []
+  pub stands_for_nothing : (s : SpineState T) → s.list.batches ≡ [] → Represents times s []
   stands_for_nothing s none = record {
     upper = ap (end_of s.list.start) none;
     ended = λ n. ([], inr (ap (λ (bs : List (BatchState T)). end_of s.list.start (take n bs)) none ∙ ap (end_of s.list.start) (nothing n), refl));
@@ -66,11 +66,11 @@ module _ {T : Type 0} (times : Times T) where
           up
 
   -- a spine stands for the same as of a later since, for every reader
-  pub stands_later : PartialOrderLaws times → (s t : SpineState T) → t.list ≡ s.list → IsTrue (all_beyond times s.since t.since) → (h : List (Insertion T)) → Stands times s h → Stands times t h
+  pub stands_later : PartialOrderLaws times → (s t : SpineState T) → t.list ≡ s.list → IsTrue (all_beyond times s.since t.since) → (h : List (Insertion T)) → Represents times s h → Represents times t h
   stands_later o s t e later h stands = by t.list e
     where
-      by : (list : BatchListState T) → list ≡ s.list → Stands times (record t { list = list }) h
-      by list e = subst (λ (l : BatchListState T). Stands times (record t { list = l }) h) (sym e) (record {
+      by : (list : BatchListState T) → list ≡ s.list → Represents times (record t { list = list }) h
+      by list e = subst (λ (l : BatchListState T). Represents times (record t { list = l }) h) (sym e) (record {
         upper = stands.upper;
         ended = stands.ended;
         reads = λ n u seen f up. readable_later times o s.since t.since _ _ later (stands.reads n u seen f up);
@@ -117,20 +117,20 @@ module _ {T : Type 0} (same : List T → List T → Bool) (decides : (v u : List
 
   module _ (times : Times T) where
     -- at each boundary an insertion ended, or the spine begins there
-    pub stands_ended : (s : SpineState T) (h : List (Insertion T)) → Stands times s h → (u : List T) → Contains (ends_of s.list) u → (seen : List (Insertion T)) × AreUpTo s.list.start u h seen
+    pub stands_ended : (s : SpineState T) (h : List (Insertion T)) → Represents times s h → (u : List T) → Contains (ends_of s.list) u → (seen : List (Insertion T)) × AreUpTo s.list.start u h seen
     stands_ended s h stands u there =
         let r = are_to u s.list.start s.list.batches (among_contains u (ends_of s.list) there) in
         let ended = stands.ended r.number in
         (ended.0, subst (λ v. AreUpTo s.list.start v h ended.0) r.end ended.1)
 
     -- what is stored up to a boundary may be read for what was inserted up to there
-    pub stands_to : (s : SpineState T) (h : List (Insertion T)) → Stands times s h → (u : List T) (seen : List (Insertion T)) → Contains (ends_of s.list) u → AreUpTo s.list.start u h seen → IsReadable times s.since (stored_at s.list u) (all_updates seen)
+    pub stands_to : (s : SpineState T) (h : List (Insertion T)) → Represents times s h → (u : List T) (seen : List (Insertion T)) → Contains (ends_of s.list) u → AreUpTo s.list.start u h seen → IsReadable times s.since (stored_at s.list u) (all_updates seen)
     stands_to s h stands u seen there up =
         let r = are_to u s.list.start s.list.batches (among_contains u (ends_of s.list) there) in
         subst (λ (bs : List (BatchState T)). IsReadable times s.since (all_content updates_of bs) (all_updates seen)) (sym r.are) (stands.reads r.number u seen r.end up)
 
     -- what is stored from one boundary to another sums to what was inserted between both
-    pub stands_between : (s : SpineState T) (h : List (Insertion T)) → Stands times s h → (u w : List T) (later seen : List (Insertion T)) (us : List (Update T)) → Contains (ends_of s.list) u → Contains (ends_of s.list) w → AreUpTo s.list.start u h seen → IsUpTo w h (later ++ seen) → stored_at s.list w ≡ stored_at s.list u ++ us → SameBeyond times s.since us (all_updates later)
+    pub stands_between : (s : SpineState T) (h : List (Insertion T)) → Represents times s h → (u w : List T) (later seen : List (Insertion T)) (us : List (Update T)) → Contains (ends_of s.list) u → Contains (ends_of s.list) w → AreUpTo s.list.start u h seen → IsUpTo w h (later ++ seen) → stored_at s.list w ≡ stored_at s.list u ++ us → SameBeyond times s.since us (all_updates later)
     stands_between s h stands u w later seen us at_u at_w up to e =
         let before = stored_at s.list u in
         let first = stands_to s h stands u seen at_u up in
@@ -146,7 +146,7 @@ module _ {T : Type 0} (same : List T → List T → Bool) (decides : (v u : List
 
 module _ {T : Type 0} {times : Times T} {cmp : T → T → Ordering} (o : PartialOrderLaws times) (total : IsTotalOrder cmp) (same : List T → List T → Bool) (decides : (v u : List T) → IsTrue (same v u) ↔ (v ≡ u)) where
   -- a batch more, and its insertion
-  pub stands_inserted : (s t : SpineState T) (b : BatchState T) → IsBatchList times cmp t.list → t.list.start ≡ s.list.start → t.list.batches ≡ s.list.batches ++ b ∷ [] → t.since ≡ s.since → (h : List (Insertion T)) → Stands times s h → Stands times t (insertion_of b ∷ h)
+  pub stands_inserted : (s t : SpineState T) (b : BatchState T) → IsBatchList times cmp t.list → t.list.start ≡ s.list.start → t.list.batches ≡ s.list.batches ++ b ∷ [] → t.since ≡ s.since → (h : List (Insertion T)) → Represents times s h → Represents times t (insertion_of b ∷ h)
   stands_inserted s t b list start e since h stands = record {
     upper = ap (end_of t.list.start) e ∙ end-append t.list.start s.list.batches b;
     ended = ended;
@@ -344,7 +344,7 @@ module _ {T : Type 0} (times : Times T) (o : PartialOrderLaws times) (since : Li
   whole_changed (Rewritten i m) bs is = readable_later times o m.description.since since _ _ is.1 (whole_rewritten times m.description.since i m bs is.2)
 
 -- a spine stands for the same after a change that was allowed
-pub stands_changed : {T : Type 0} (times : Times T) (o : PartialOrderLaws times) (s t : SpineState T) (holds : List (HoldState T)) (c : Change T) → t.list.start ≡ s.list.start → t.list.batches ≡ changed c s.list.batches → t.since ≡ s.since → IsAllowed times s.since holds c s.list.batches → (h : List (Insertion T)) → Stands times s h → Stands times t h
+pub stands_changed : {T : Type 0} (times : Times T) (o : PartialOrderLaws times) (s t : SpineState T) (holds : List (HoldState T)) (c : Change T) → t.list.start ≡ s.list.start → t.list.batches ≡ changed c s.list.batches → t.since ≡ s.since → IsAllowed times s.since holds c s.list.batches → (h : List (Insertion T)) → Represents times s h → Represents times t h
 stands_changed {T = T} times o s t holds c start e since is h stands = record {
   upper =
       ap (end_of t.list.start) e

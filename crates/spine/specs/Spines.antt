@@ -77,7 +77,7 @@ module _ {T : Type 0} (times : Times T) where
   -- the spine stands for these insertions: it has reached as far as they did; at each boundary one
   -- of them ended, or the spine begins there; and the batches up to a boundary may be read in the
   -- place of what was inserted up to there, at all times beyond the since
-  pub record Stands (s : SpineState T) (h : List (Insertion T)) : Type 0 where
+  pub record Represents (s : SpineState T) (h : List (Insertion T)) : Type 0 where
     pub upper : end_of s.list.start s.list.batches ≡ reached s.list.start h
     pub ended : (n : ℕ) → (seen : List (Insertion T))
         × AreUpTo s.list.start (end_of s.list.start (take n s.list.batches)) h seen
@@ -143,7 +143,7 @@ module _ {T : Type 0} (times : Times T) where
       list = record old.list { batches = new.list.batches; reserved = new.list.reserved };
       progress = new.progress;
     }
-    pub stands : (h : List (Insertion T)) → Stands old h → Stands new h
+    pub stands : (h : List (Insertion T)) → Represents old h → Represents new h
     pub fewer : (u : List T) → Contains (boundaries new) u → Contains (boundaries old) u
     pub kept_open : (u : List T) → Contains (boundaries old) u → IsTrue (forbids times old.holds u)
         → Contains (boundaries new) u

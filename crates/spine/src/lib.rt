@@ -7,7 +7,7 @@
 //! Arrangements, VLDB 2020).
 //!
 //! - [`Spine`] is the trace. What its batches are read for does not change by any merge: that is
-//!   the relation `Stands`.
+//!   the relation `Represents`.
 //! - Each reader has a [`Hold`](trace::Hold) with two frontiers. It may ask for boundaries from its
 //!   physical frontier on, so no merge goes across those. It sums at times beyond its logical
 //!   frontier; the since is the least of all of these.

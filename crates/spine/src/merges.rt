@@ -17,7 +17,7 @@ ghost use Rattle.update.specs.Updates.{size};
 ghost use Rattle.update.specs.declared.refusal.Refusal.{Refusal};
 ghost use Rattle.trace.specs.Readings.{Insertion, all_updates};
 ghost use Rattle.levels.specs.Levels.{UnderwayState};
-ghost use Rattle.spine.specs.Spines.{IsWorked, IsWorkedOn, IsDone, IsFolded, IsStuck, IsReady, CanBegin, IsLeft, HasLargePlace, Stands, is_barred};
+ghost use Rattle.spine.specs.Spines.{IsWorked, IsWorkedOn, IsDone, IsFolded, IsStuck, IsReady, CanBegin, IsLeft, HasLargePlace, Represents, is_barred};
 
 use crate::Spine;
 use crate::policy::{first_place, is_barred, is_done, place_behind};
@@ -184,8 +184,8 @@ impl<T: Lattice> Spine<T> {
     pub fn work(&mut self, fuel: u64) -> Result<bool, Refusal>
         ensures worked { (spent : ℕ) × (lost : ℕ) × (spent ≤ fuel)
             × IsWorked T.times spent lost self.old self.new }
-        ensures stands { (h : List (Insertion T)) → Stands T.times self.old h
-            → Stands T.times self.new h }
+        ensures stands { (h : List (Insertion T)) → Represents T.times self.old h
+            → Represents T.times self.new h }
         ensures kept { self.new ≡ record self.old {
           list = record self.old.list {
             batches = self.new.list.batches;
@@ -203,7 +203,7 @@ impl<T: Lattice> Spine<T> {
         ensures refused { IfErr result (IsMemoryOrOverflow (HasLargePlace T.times
             self.new.since self.new.list.batches)) }
         ensures large { result ≡ Err Refusal.Overflow → (h : List (Insertion T))
-            → Stands T.times self.old h → 2 ^ 63 ≤ size (all_updates h) }
+            → Represents T.times self.old h → 2 ^ 63 ≤ size (all_updates h) }
     {
         let mut left = fuel;
         while let Some(rest) = self.step(left)? {

@@ -14,7 +14,7 @@ ghost use Rattle.update.specs.declared.refusal.Refusal.{Refusal};
 ghost use Rattle.trace.specs.Readings.{Insertion, all_content};
 ghost use Rattle.trace.specs.BatchLists.{Continues, IsBatchList, end_of, insertion_of, updates_of};
 ghost use Rattle.spine.specs.HoldRules.{IsSinceOf, IsMoved, IsWithout};
-ghost use Rattle.spine.specs.Spines.{SpineState, Stands, stored};
+ghost use Rattle.spine.specs.Spines.{SpineState, Represents, stored};
 
 use crate::holds::{end_hold, is_onward, move_hold, push_hold};
 use crate::since::{make_room, refill};
@@ -90,7 +90,7 @@ impl<T: Minimum> Spine<T> {
         ensures hold { IfOk result
             (λ made. made.1
             ≡ record { logical = T.times.least ∷ []; physical = T.times.least ∷ [] }) }
-        ensures stands { IfOk result (λ made. Stands T.times made.0 []) }
+        ensures stands { IfOk result (λ made. Represents T.times made.0 []) }
         ensures only { OnlyMemory result }
     {
         let list = BatchList::new(alloc, worker, node)?;
@@ -136,8 +136,8 @@ impl<T: Lattice> Spine<T> {
             reserved = self.new.list.reserved;
           };
         }) }
-        ensures stands { OnOk result ((h : List (Insertion T)) → Stands T.times self.old h
-            → Stands T.times self.new (insertion_of batch ∷ h)) }
+        ensures stands { OnOk result ((h : List (Insertion T)) → Represents T.times self.old h
+            → Represents T.times self.new (insertion_of batch ∷ h)) }
         ensures same { OnErr result (self.new ≡ record self.old {
           list = record self.old.list { reserved = self.new.list.reserved };
         }) }
@@ -170,8 +170,8 @@ impl<T: Lattice> Spine<T> {
           } ∷ [];
         }) }
         ensures is_held { IfOk result (λ hold. Contains self.new.holds hold) }
-        ensures stands { OnOk result ((h : List (Insertion T)) → Stands T.times self.old h
-            → Stands T.times self.new h) }
+        ensures stands { OnOk result ((h : List (Insertion T)) → Represents T.times self.old h
+            → Represents T.times self.new h) }
         ensures same { OnErr result (self.new ≡ self.old) }
         ensures only { OnlyMemory result }
     {
@@ -208,8 +208,8 @@ impl<T: Lattice> Spine<T> {
         ensures since { OnOk result (IsSinceOf T.times T.cmp self.new.holds self.new.since) }
         ensures onward { OnOk result
             (IsTrue (all_beyond T.times self.old.since self.new.since)) }
-        ensures stands { OnOk result ((h : List (Insertion T)) → Stands T.times self.old h
-            → Stands T.times self.new h) }
+        ensures stands { OnOk result ((h : List (Insertion T)) → Represents T.times self.old h
+            → Represents T.times self.new h) }
         ensures forward { (result ≡ Err Refusal.NotForward)
             ↔ ((IsTrue (all_beyond T.times hold.old.logical logical.now)
             × IsTrue (all_beyond T.times hold.old.physical physical.now)) → ⊥) }
@@ -243,8 +243,8 @@ impl<T: Lattice> Spine<T> {
             ≡ record self.old { since = self.new.since; holds = self.new.holds } }
         ensures since { IsSinceOf T.times T.cmp self.new.holds self.new.since }
         ensures onward { IsTrue (all_beyond T.times self.old.since self.new.since) }
-        ensures stands { (h : List (Insertion T)) → Stands T.times self.old h
-            → Stands T.times self.new h }
+        ensures stands { (h : List (Insertion T)) → Represents T.times self.old h
+            → Represents T.times self.new h }
     {
         end_hold(&mut self.holds, hold);
         refill(&mut self.since, self.holds.as_slice());
@@ -292,13 +292,13 @@ impl<T: Lattice> Trace for Spine<T> {
     ghost use Rattle.std.specs.Cmp.Lexicographic.{pointwise};
     ghost use Rattle.trace.specs.Readings.{all_content};
     ghost use Rattle.trace.specs.BatchLists.{batches_to, end_of, ends_of, updates_of};
-    ghost use Rattle.spine.specs.Spines.{Stands, stored};
+    ghost use Rattle.spine.specs.Spines.{Represents, stored};
 
     type Time = T;
 
     type Batch = Batch<T>;
 
-    ghost stands = { λ s h. Stands T.times s h };
+    ghost stands = { λ s h. Represents T.times s h };
 
     ghost start = { λ s. s.list.start };
 

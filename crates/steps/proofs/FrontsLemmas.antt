@@ -8,7 +8,7 @@ use Rattle.lattice.specs.Order.{PartialOrderLaws}
 use Rattle.lattice.specs.Frontiers.{is_beyond}
 use Rattle.plan.specs.Nodes.{node_at}
 use Rattle.plan.specs.declared.node.Node.{Node}
-use Rattle.hub.specs.Known.{Known}
+use Rattle.hub.specs.PassViews.{PassView}
 use Rattle.histories.specs.declared.event.Event.TheVariants.{Look}
 use Rattle.histories.specs.declared.event.Site.{Site}
 use Rattle.histories.specs.Histories.Dataflows.{Dataflow}
@@ -81,7 +81,7 @@ told_from {T} times p w ports fronts are found n port within few holds t =
     ap (λ F. is_beyond times (front_in F) t) front.1
     ∙ (front.2 t ∙ (λ i. is_beyond times (port_frontier times p w (site.2 holds i) (site.3 i)) t))
 
-module _ {T : Type 0} (times : Times T) (o : PartialOrderLaws times) (old new : Known (BoardEvent T)) (after : IsActor times new) where
+module _ {T : Type 0} (times : Times T) (o : PartialOrderLaws times) (old new : PassView (BoardEvent T)) (after : IsActor times new) where
   -- and a look leaves the state as it found it
   pub told_found : IsNextTenure old (Look old.number) new → (ports : List Site) (fronts : List (List T)) → ArePorts (dataflow_of old).nodes (length (dataflow_of old).nodes) ports → AreFrontsFound times old new ports fronts → AreTold times (dataflow_of new) (state_left times new) fronts
   told_found adds ports fronts are found =
@@ -89,6 +89,6 @@ module _ {T : Type 0} (times : Times T) (o : PartialOrderLaws times) (old new : 
       subst (λ (y : Dataflow × State T). AreTold times y.0 y.1 fronts) (λ i. (sym t.same_flow i, sym t.left i)) (told_from times (dataflow_of old) (state_found times new) ports fronts are found)
 
 -- whether or not the board was there
-pub looks_found : {T : Type 0} (old new : Known (BoardEvent T)) {A : Type 0} (found : Option A) → IfSome found (λ a. IsNextTenure old (Look old.number) new) → (found ≡ None → new ≡ old) → LooksAtMost old new
+pub looks_found : {T : Type 0} (old new : PassView (BoardEvent T)) {A : Type 0} (found : Option A) → IfSome found (λ a. IsNextTenure old (Look old.number) new) → (found ≡ None → new ≡ old) → LooksAtMost old new
 looks_found old new (Some a) looked busy = inr looked
 looks_found old new None looked busy = inl (busy refl)

@@ -4,7 +4,7 @@ use Rattle.std.proofs.lemmas.Bool.{eq-eqb, false≢true}
 use Rattle.std.proofs.lemmas.Option.{same_Some}
 use Rattle.lattice.specs.Times.{Times}
 use Rattle.lattice.specs.Order.{PartialOrderLaws}
-use Rattle.hub.specs.Known.{Known}
+use Rattle.hub.specs.PassViews.{PassView}
 use Rattle.update.specs.declared.change.Update.{Update}
 use Rattle.batch.specs.Descriptions.{BatchState}
 use Rattle.plan.specs.Nodes.{is_reduction}
@@ -26,7 +26,7 @@ use Rattle.shared_board.specs.Tenures.{IsNextTenure, IsActor, state_found, state
 use Rattle.desk_laws.specs.Observed.{HoldsBeyondNewest}
 use Rattle.desk_laws.specs.Own.{DeskView, IsOwn, due_on, gathered_in, gives_passed, hand_node, waits_on}
 use Rattle.desk_laws.specs.declared.hand.Hand.{Hand}
-use Rattle.desk_laws.specs.declared.hand.Hand.TheVariants.{Free, Taken, Kept, Turned, Ready, Sealed}
+use Rattle.desk_laws.specs.declared.hand.Hand.TheVariants.{Free, Taken, Kept, Notified, Ready, Sealed}
 use Rattle.desk_laws.proofs.BeyondLemmas.{batch_beyond, ready_beyond}
 use Rattle.desk_laws.proofs.GivenLemmas.{due_waits, held_back_lem, ready_lem, split_parts}
 use Rattle.desk_laws.proofs.SealedLemmas.{empty_given, sealed_given}
@@ -42,7 +42,7 @@ use Rattle.steps.proofs.TenureLemmas.{right_after, tenure_of}
 computed_form : {T : Type 0} (h : Hand T) (n : ℕ) → IsComputed h → hand_node h ≡ Some n → ((more : Bool) × (h ≡ Kept n more)) ⊎ (((us : List (Update T)) × (h ≡ Ready n us)) ⊎ ((batch : BatchState T) × (h ≡ Sealed n batch)))
 computed_form Free n computed at = cc
 computed_form (Taken bundle more) n computed at = absurd computed
-computed_form (Turned m upper) n computed at = absurd computed
+computed_form (Notified m upper) n computed at = absurd computed
 computed_form {T} (Kept m more) n computed at = inl (more, ap (λ j. Kept j more) (same_Some m n at))
 computed_form {T} (Ready m us) n computed at = inr (inl (us, ap (λ j. Ready j us) (same_Some m n at)))
 computed_form {T} (Sealed m batch) n computed at = inr (inr (batch, ap (λ j. Sealed j batch) (same_Some m n at)))
@@ -144,7 +144,7 @@ module _ {T : Type 0} (times : Times T) (p : Dataflow) where
   hand_within Free n of at = cc
   hand_within (Taken bundle more) n of at = subst (λ j. j < length p.nodes) (same_Some bundle.place.node n at) of.0
   hand_within (Kept m more) n of at = subst (λ j. j < length p.nodes) (same_Some m n at) of.0
-  hand_within (Turned m upper) n of at = subst (λ j. j < length p.nodes) (same_Some m n at) of
+  hand_within (Notified m upper) n of at = subst (λ j. j < length p.nodes) (same_Some m n at) of
   hand_within (Ready m us) n of at = subst (λ j. j < length p.nodes) (same_Some m n at) of.0
   hand_within (Sealed m batch) n of at = subst (λ j. j < length p.nodes) (same_Some m n at) of.0
 
@@ -155,7 +155,7 @@ module _ {T : Type 0} (times : Times T) (p : Dataflow) where
   output_wide Free n of at = refl
   output_wide (Taken bundle more) n of at = refl
   output_wide (Kept m more) n of at = refl
-  output_wide (Turned m upper) n of at = refl
+  output_wide (Notified m upper) n of at = refl
 
   -- after it was put down, what lies on the desk still is for the plan
   pub down_on_plan : (h : Hand T) (d c : DeskView T) → IsOnPlan times p d h → IsPutDown times p h d c → IsOnPlan times p c Free
@@ -171,7 +171,7 @@ module _ {T : Type 0} (times : Times T) (p : Dataflow) where
       still Free y = ap (λ (z : DeskView T). z.gathered) y
       still (Taken bundle more) y = ap (λ (z : DeskView T). z.gathered) y
       still (Kept m more) y = ap (λ (z : DeskView T). z.gathered) y
-      still (Turned m upper) y = ap (λ (z : DeskView T). z.gathered) y
+      still (Notified m upper) y = ap (λ (z : DeskView T). z.gathered) y
       still (Ready m us) y = ap (λ (z : DeskView T). z.gathered) y
 
       same : c.gathered ≡ d.gathered
@@ -183,13 +183,13 @@ hand_beyond : {T : Type 0} (times : Times T) (o : PartialOrderLaws times) (p : D
 hand_beyond times o p w k n d held is_held Free computed at passed x = absurd (false≢true passed)
 hand_beyond times o p w k n d held is_held (Taken bundle more) computed at passed x = absurd computed
 hand_beyond times o p w k n d held is_held (Kept m more) computed at passed x = absurd (false≢true passed)
-hand_beyond times o p w k n d held is_held (Turned m upper) computed at passed x = absurd computed
+hand_beyond times o p w k n d held is_held (Notified m upper) computed at passed x = absurd computed
 hand_beyond times o p w k n d held is_held (Ready m us) computed at passed x =
     ready_beyond times o p w k n d held is_held us (cut times p (emission_of n k us)) (subst (λ j. IsOwn times p w k d (Ready j us)) (same_Some m n at) x)
 hand_beyond times o p w k n d held is_held (Sealed m batch) computed at passed x =
     batch_beyond times o p w k n d held is_held batch (cut times p (emission_of n k batch.updates)) (subst (λ j. IsOwn times p w k d (Sealed j batch)) (same_Some m n at) x)
 
-module _ {T : Type 0} (times : Times T) (o : PartialOrderLaws times) (old : Known (BoardEvent T)) (before : IsActor times old) (n : ℕ) (d : DeskView T) (h : Hand T) (computed : IsComputed h) (at : hand_node h ≡ Some n) (held : List T)
+module _ {T : Type 0} (times : Times T) (o : PartialOrderLaws times) (old : PassView (BoardEvent T)) (before : IsActor times old) (n : ℕ) (d : DeskView T) (h : Hand T) (computed : IsComputed h) (at : hand_node h ≡ Some n) (held : List T)
     (is_held : IsHeldFor times held (due_on d n (node_of (dataflow_of old) n))) (cuts : IsCut times (dataflow_of old) (emission_of n old.number (output_of h)) (cut times (dataflow_of old) (emission_of n old.number (output_of h)))) where
   abbrev p : Dataflow
   p = dataflow_of old
@@ -205,7 +205,7 @@ module _ {T : Type 0} (times : Times T) (o : PartialOrderLaws times) (old : Know
   hand_may x = (law (state_left times old) x).allowed
 
   -- and is right after it has put it down
-  pub gave_right : (new : Known (BoardEvent T)) → IsActor times new → IsNextTenure old (Give g held (cut times p g)) new → (c : DeskView T) → IsPutDown times p h d c → IsRightOf times old d h → IsRightOf times new c Free
+  pub gave_right : (new : PassView (BoardEvent T)) → IsActor times new → IsNextTenure old (Give g held (cut times p g)) new → (c : DeskView T) → IsPutDown times p h d c → IsRightOf times old d h → IsRightOf times new c Free
   gave_right new after adds c down x =
       let t = tenure_of times o old (Give g held (cut times p g)) new after adds in
       let found = t.right d h x in
@@ -215,13 +215,13 @@ module _ {T : Type 0} (times : Times T) (o : PartialOrderLaws times) (old : Know
       })
 
   -- of what was passed nothing is held then
-  pub gave_beyond : (new : Known (BoardEvent T)) → IsActor times new → IsNextTenure old (Give g held (cut times p g)) new → IsTrue (gives_passed h) → IsRightOf times old d h → HoldsBeyondNewest times (state_left times new) n old.number
+  pub gave_beyond : (new : PassView (BoardEvent T)) → IsActor times new → IsNextTenure old (Give g held (cut times p g)) new → IsTrue (gives_passed h) → IsRightOf times old d h → HoldsBeyondNewest times (state_left times new) n old.number
   gave_beyond new after adds passed x =
       let t = tenure_of times o old (Give g held (cut times p g)) new after adds in
       subst (λ w. HoldsBeyondNewest times w n old.number) (sym t.left) (hand_beyond times o p (state_found times new) old.number n d held is_held h computed at passed (t.right d h x).own)
 
 -- what was sent was cut, and given
-was_sent : {T : Type 0} (times : Times T) (old new : Known (BoardEvent T)) (g : Emission T) (held : List T) (step : Step) → step ≡ Gave → HasSent times old new g held step
+was_sent : {T : Type 0} (times : Times T) (old new : PassView (BoardEvent T)) (g : Emission T) (held : List T) (step : Step) → step ≡ Gave → HasSent times old new g held step
     → IsCut times (dataflow_of old) g (cut times (dataflow_of old) g) × IsNextTenure old (Give g held (cut times (dataflow_of old) g)) new
 was_sent times old new g held step is (inl busy) = absurd (no_other (sym is ∙ busy.0))
   where
@@ -230,7 +230,7 @@ was_sent times old new g held step is (inl busy) = absurd (no_other (sym is ∙ 
 was_sent times old new g held step is (inr sent) = (sent.1, sent.2)
 
 -- where another actor had the board nothing has changed
-pub busy_right : {T : Type 0} (times : Times T) (old new : Known (BoardEvent T)) (d : DeskView T) (h : Hand T) (gave : Bool) → gave ≡ false → (g : Emission T) (held : List T) → HasSent times old new g held (gave_or_busy gave)
+pub busy_right : {T : Type 0} (times : Times T) (old new : PassView (BoardEvent T)) (d : DeskView T) (h : Hand T) (gave : Bool) → gave ≡ false → (g : Emission T) (held : List T) → HasSent times old new g held (gave_or_busy gave)
     → IsRightOf times old d h → IsRightOf times new d h
 busy_right times old new d h gave is g held (inl busy) x = subst (λ k. IsRightOf times k d h) (sym busy.1) x
 busy_right times old new d h gave is g held (inr sent) x = absurd (no_other (sym (ap gave_or_busy is) ∙ sent.0))
@@ -239,16 +239,16 @@ busy_right times old new d h gave is g held (inr sent) x = absurd (no_other (sym
     no_other e = cc
 
 -- a worker that gave what it had in hand, and put it down, is right
-pub sent_right : {T : Type 0} (times : Times T) (o : PartialOrderLaws times) (old : Known (BoardEvent T)) → IsActor times old → (n : ℕ) (d : DeskView T) (h : Hand T) → IsComputed h → hand_node h ≡ Some n → (held : List T)
-    → IsHeldFor times held (due_on d n (node_of (dataflow_of old) n)) → (new : Known (BoardEvent T)) → IsActor times new → (step : Step) → step ≡ Gave → HasSent times old new (emission_of n old.number (output_of h)) held step
+pub sent_right : {T : Type 0} (times : Times T) (o : PartialOrderLaws times) (old : PassView (BoardEvent T)) → IsActor times old → (n : ℕ) (d : DeskView T) (h : Hand T) → IsComputed h → hand_node h ≡ Some n → (held : List T)
+    → IsHeldFor times held (due_on d n (node_of (dataflow_of old) n)) → (new : PassView (BoardEvent T)) → IsActor times new → (step : Step) → step ≡ Gave → HasSent times old new (emission_of n old.number (output_of h)) held step
     → (c : DeskView T) → IsPutDown times (dataflow_of old) h d c → IsRightOf times old d h → IsRightOf times new c Free
 sent_right times o old before n d h computed at held is_held new after step is sent c down x =
     let was = was_sent times old new (emission_of n old.number (output_of h)) held step is sent in
     gave_right times o old before n d h computed at held is_held was.0 new after was.1 c down x
 
 -- and all that it holds at the node is beyond the input frontier that its newest take there found
-pub sent_beyond : {T : Type 0} (times : Times T) (o : PartialOrderLaws times) (old : Known (BoardEvent T)) → IsActor times old → (n : ℕ) (d : DeskView T) (h : Hand T) → IsComputed h → hand_node h ≡ Some n → (held : List T)
-    → IsHeldFor times held (due_on d n (node_of (dataflow_of old) n)) → (new : Known (BoardEvent T)) → IsActor times new → (step : Step) → HasSent times old new (emission_of n old.number (output_of h)) held step → IsRightOf times old d h
+pub sent_beyond : {T : Type 0} (times : Times T) (o : PartialOrderLaws times) (old : PassView (BoardEvent T)) → IsActor times old → (n : ℕ) (d : DeskView T) (h : Hand T) → IsComputed h → hand_node h ≡ Some n → (held : List T)
+    → IsHeldFor times held (due_on d n (node_of (dataflow_of old) n)) → (new : PassView (BoardEvent T)) → IsActor times new → (step : Step) → HasSent times old new (emission_of n old.number (output_of h)) held step → IsRightOf times old d h
     → HasLeftLater times n old new h step
 sent_beyond times o old before n d h computed at held is_held new after step sent x is passed =
     let was = was_sent times old new (emission_of n old.number (output_of h)) held step is sent in

@@ -5,7 +5,7 @@ use Rattle.update.specs.declared.change.Update.{Update}
 use Rattle.histories.specs.Histories.Dataflows.{Dataflow}
 use Rattle.desk_laws.specs.Own.{DeskView, IsHandOn, hand_node}
 use Rattle.desk_laws.specs.declared.hand.Hand.{Hand}
-use Rattle.desk_laws.specs.declared.hand.Hand.TheVariants.{Free, Taken, Kept, Turned, Ready, Sealed}
+use Rattle.desk_laws.specs.declared.hand.Hand.TheVariants.{Free, Taken, Kept, Notified, Ready, Sealed}
 use Rattle.steps.specs.Steps.{IsPutDown, output_of, without_output}
 use Rattle.lattice.specs.Times.{Times}
 
@@ -14,7 +14,7 @@ module _ {T : Type 0} where
   ready_back Free n us out e f = cc
   ready_back (Taken bundle more) n us out e f = cc
   ready_back (Kept m more) n us out e f = cc
-  ready_back (Turned m upper) n us out e f = cc
+  ready_back (Notified m upper) n us out e f = cc
   ready_back (Ready m vs) n us out e f = λ i. Ready (same_Some n m (ap hand_node e) i) (f i)
   ready_back (Sealed m batch) n us out e f = cc
 
@@ -22,7 +22,7 @@ module _ {T : Type 0} where
   other_back Free g f e = e
   other_back (Taken bundle more) g f e = e
   other_back (Kept m more) g f e = e
-  other_back (Turned m upper) g f e = e
+  other_back (Notified m upper) g f e = e
   other_back (Ready m vs) g f e = absurd (f m [] e)
   other_back (Sealed m batch) g f e = e
 
@@ -31,7 +31,7 @@ module _ {T : Type 0} (times : Times T) (p : Dataflow) (d : DeskView T) where
   on_without Free x = x
   on_without (Taken bundle more) x = x
   on_without (Kept m more) x = x
-  on_without (Turned m upper) x = x
+  on_without (Notified m upper) x = x
   on_without (Ready m us) x = x
   on_without (Sealed m batch) x = x
 
@@ -39,6 +39,6 @@ module _ {T : Type 0} (times : Times T) (p : Dataflow) (d : DeskView T) where
   down_without Free c x = x
   down_without (Taken bundle more) c x = x
   down_without (Kept m more) c x = x
-  down_without (Turned m upper) c x = x
+  down_without (Notified m upper) c x = x
   down_without (Ready m us) c x = x
   down_without (Sealed m batch) c x = x

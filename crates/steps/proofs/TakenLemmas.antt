@@ -9,7 +9,7 @@ use Rattle.lattice.specs.Times.{Times}
 use Rattle.lattice.specs.Order.{PartialOrderLaws}
 use Rattle.lattice.specs.Frontiers.{all_beyond, is_beyond}
 use Rattle.antichain.proofs.Lists.{all_at, all_from, contains_among}
-use Rattle.hub.specs.Known.{Known}
+use Rattle.hub.specs.PassViews.{PassView}
 use Rattle.update.specs.declared.change.Update.{Update}
 use Rattle.plan.specs.Nodes.{sources}
 use Rattle.linear.specs.Ports.{is_port}
@@ -30,15 +30,15 @@ use Rattle.operator_laws.proofs.ArrangeLemmas.{first_passed, taken_beyond}
 use Rattle.operator_laws.proofs.GatheredLemmas.{waiting_is_stamped}
 use Rattle.shared_board.specs.declared.event.BoardEvent.{BoardEvent}
 use Rattle.shared_board.specs.declared.board.pieces.Taken.{Taken as Piece}
-use Rattle.shared_board.specs.declared.board.pieces.Taken.TheVariants.{Bundled, Turned as turned_piece, Nothing}
+use Rattle.shared_board.specs.declared.board.pieces.Taken.TheVariants.{Bundled, Notified as notified_piece, Nothing}
 use Rattle.shared_board.specs.Found.{dataflow_of}
 use Rattle.shared_board.specs.Pieces.{IsTakenIn}
 use Rattle.shared_board.specs.Tenures.{IsNextTenure, IsActor, events, found_last, left_by, state_found, state_left}
 use Rattle.shared_board.specs.Widths.{are_wide_for, is_wide_for}
 use Rattle.desk_laws.specs.Own.{DeskView, IsOwn}
-use Rattle.desk_laws.specs.declared.hand.Hand.TheVariants.{Free, Taken, Turned}
+use Rattle.desk_laws.specs.declared.hand.Hand.TheVariants.{Free, Taken, Notified}
 use Rattle.desk_laws.proofs.TakenLemmas.{taken_lem}
-use Rattle.desk_laws.proofs.TurnedLemmas.{turned_lem}
+use Rattle.desk_laws.proofs.NotifiedLemmas.{notified_lem}
 use Rattle.steps.specs.Steps.{hand_with}
 use Rattle.steps.specs.Workers.{IsRightOf}
 use Rattle.steps.proofs.TenureLemmas.{looked_right, right_after, same_flow, tenure_of}
@@ -75,7 +75,7 @@ module _ {T : Type 0} (times : Times T) (o : PartialOrderLaws times) (p : Datafl
         later = taken_beyond times o p q (state_after times p h) number bundle taken_stamped take (times.least ∷ []) (from_start bundle.place.node)
 
 module _ {T : Type 0} (times : Times T) (o : PartialOrderLaws times) (join_below : (a b s : T) → times.below (times.joined a b) s ≡ (times.below a s && times.below b s))
-    (join_left : (a b : T) → IsTrue (times.below a (times.joined a b))) (join_right : (a b : T) → IsTrue (times.below b (times.joined a b))) (old new : Known (BoardEvent T)) (before : IsActor times old) (after : IsActor times new) (d : DeskView T) where
+    (join_left : (a b : T) → IsTrue (times.below a (times.joined a b))) (join_right : (a b : T) → IsTrue (times.below b (times.joined a b))) (old new : PassView (BoardEvent T)) (before : IsActor times old) (after : IsActor times new) (d : DeskView T) where
   abbrev p : Dataflow
   p = dataflow_of old
 
@@ -90,7 +90,7 @@ module _ {T : Type 0} (times : Times T) (o : PartialOrderLaws times) (join_below
   taken_wide number bundle adds =
       let f = dataflow_of new in
       let v = left_by times p (adds.others ++ old.seen) in
-      let came : (state_left times new).received ≡ bundle ∷ v.received = ap (λ (k : Known (BoardEvent T)). (state_left times k).received) adds.new_is in
+      let came : (state_left times new).received ≡ bundle ∷ v.received = ap (λ (k : PassView (BoardEvent T)). (state_left times k).received) adds.new_is in
       subst (λ y. IsTrue (is_wide_for y bundle)) (same_flow old new (Take number bundle) adds)
       (and_parts (is_wide_for f bundle) (are_wide_for f v.received) (sym (ap (are_wide_for f) came) ∙ after.wide.received)).0
 
@@ -113,12 +113,12 @@ module _ {T : Type 0} (times : Times T) (o : PartialOrderLaws times) (join_below
         };
       })
 
-  turned_right : (node : ℕ) (upper : List T) → IsNextTenure old (TakeHeld old.number node) new → ((t : T) → is_beyond times upper t ≡ is_beyond times (input_frontier times p w node) t) → IsRightOf times old d Free → IsRightOf times new d (Turned node upper)
+  turned_right : (node : ℕ) (upper : List T) → IsNextTenure old (TakeHeld old.number node) new → ((t : T) → is_beyond times upper t ≡ is_beyond times (input_frontier times p w node) t) → IsRightOf times old d Free → IsRightOf times new d (Notified node upper)
   turned_right node upper adds same x =
       let t = tenure_of times o old (TakeHeld old.number node) new after adds in
       let found = t.right d Free x in
-      right_after times o old (TakeHeld old.number node) new t d (Turned node upper) (record {
-        own = turned_lem times o p before.dataflow w old.number node t.allowed d upper same found.own;
+      right_after times o old (TakeHeld old.number node) new t d (Notified node upper) (record {
+        own = notified_lem times o p before.dataflow w old.number node t.allowed d upper same found.own;
         on_plan = record {
           places = found.on_plan.places;
           wide = found.on_plan.wide;
@@ -132,7 +132,7 @@ module _ {T : Type 0} (times : Times T) (o : PartialOrderLaws times) (join_below
   taken_right pick (Bundled bundle more) taken x =
       let offer = taken.offered in
       bundle_right offer.0 bundle more offer.2 (subst (λ e. IsNextTenure old e new) offer.3 taken.adds) x
-  taken_right pick (turned_piece node upper) taken x =
+  taken_right pick (notified_piece node upper) taken x =
       turned_right node upper (subst (λ e. IsNextTenure old e new) taken.offered.1 taken.adds) taken.offered.2 x
   taken_right pick (Nothing quiet) taken x =
       looked_right times o old new after (subst (λ e. IsNextTenure old e new) taken.offered.1 taken.adds) d Free x

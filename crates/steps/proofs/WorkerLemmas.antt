@@ -8,14 +8,14 @@ use Rattle.std.specs.declared.cmp.Ordering.{Ordering}
 use Rattle.std.proofs.lemmas.Bool.{false≢true}
 use Rattle.update.specs.declared.refusal.Refusal.{Refusal}
 use Rattle.update.specs.declared.refusal.Refusal.TheVariants.{OutOfMemory}
-use Rattle.hub.specs.Known.{Known}
+use Rattle.hub.specs.PassViews.{PassView}
 use Rattle.histories.specs.declared.event.Event.TheVariants.{Look}
 use Rattle.histories.specs.Histories.Dataflows.{Dataflow, IsDataflow}
 use Rattle.histories.specs.Histories.{initial_state}
 use Rattle.histories.specs.Histories.Promises.{changes_in}
 use Rattle.plan.specs.declared.node.Node.{Node}
 use Rattle.shared_board.specs.declared.event.BoardEvent.{BoardEvent}
-use Rattle.shared_board.specs.declared.board.pieces.Taken.TheVariants.{Bundled, Turned as turned_piece, Nothing}
+use Rattle.shared_board.specs.declared.board.pieces.Taken.TheVariants.{Bundled, Notified as notified_piece, Nothing}
 use Rattle.shared_board.specs.Found.{dataflow_of}
 use Rattle.shared_board.specs.Large.{HasNoSmallBound}
 use Rattle.shared_board.specs.Pieces.{IsTakenIn}
@@ -36,36 +36,36 @@ use Rattle.steps.proofs.TenureLemmas.{first_right, same_flow, same_number}
 
 module _ {T : Type 0} where
   -- a tenure leaves number and dataflow
-  pub flow_after : (old new : Known (BoardEvent T)) → LooksAtMost old new → dataflow_of new ≡ dataflow_of old
+  pub flow_after : (old new : PassView (BoardEvent T)) → LooksAtMost old new → dataflow_of new ≡ dataflow_of old
   flow_after old new (inl same) = ap dataflow_of same
   flow_after old new (inr adds) = same_flow old new (Look old.number) adds
 
-  pub number_after : (old new : Known (BoardEvent T)) → LooksAtMost old new → new.number ≡ old.number
-  number_after old new (inl same) = ap (λ (k : Known (BoardEvent T)). k.number) same
+  pub number_after : (old new : PassView (BoardEvent T)) → LooksAtMost old new → new.number ≡ old.number
+  number_after old new (inl same) = ap (λ (k : PassView (BoardEvent T)). k.number) same
   number_after old new (inr adds) = same_number old new (Look old.number) adds
 
-  pub took_flow : (times : Times T) (pick : ℕ) (old new : Known (BoardEvent T)) (h : Hand T) (step : Step) → HasTriedToTake times pick old new h step → (dataflow_of new ≡ dataflow_of old) × (new.number ≡ old.number)
-  took_flow times pick old new h step (inl busy) = (ap dataflow_of busy.1, ap (λ (k : Known (BoardEvent T)). k.number) busy.1)
+  pub took_flow : (times : Times T) (pick : ℕ) (old new : PassView (BoardEvent T)) (h : Hand T) (step : Step) → HasTriedToTake times pick old new h step → (dataflow_of new ≡ dataflow_of old) × (new.number ≡ old.number)
+  took_flow times pick old new h step (inl busy) = (ap dataflow_of busy.1, ap (λ (k : PassView (BoardEvent T)). k.number) busy.1)
   took_flow times pick old new h step (inr took) = (same_flow old new took.3.event took.3.adds, same_number old new took.3.event took.3.adds)
 
-  pub gave_flow : (n : ℕ) (old new : Known (BoardEvent T)) (before after : Hand T) (step : Step) → HasTriedToGive n old new before after step → (dataflow_of new ≡ dataflow_of old) × (new.number ≡ old.number)
-  gave_flow n old new before after step (inl busy) = (ap dataflow_of busy.1, ap (λ (k : Known (BoardEvent T)). k.number) busy.1)
+  pub gave_flow : (n : ℕ) (old new : PassView (BoardEvent T)) (before after : Hand T) (step : Step) → HasTriedToGive n old new before after step → (dataflow_of new ≡ dataflow_of old) × (new.number ≡ old.number)
+  gave_flow n old new before after step (inl busy) = (ap dataflow_of busy.1, ap (λ (k : PassView (BoardEvent T)). k.number) busy.1)
   gave_flow n old new before after step (inr gave) = (same_flow old new _ gave.2.adds, same_number old new _ gave.2.adds)
 
   -- whatever came of an attempt, number and dataflow are the same
-  pub tried_to_take : (times : Times T) (pick : ℕ) (old new : Known (BoardEvent T)) (h : Hand T) (r : Result Step Refusal) → IfOk r (HasTriedToTake times pick old new h) → IfErr r (λ refusal. (refusal ≡ OutOfMemory) × (h ≡ Free) × IsNextTenure old (Look old.number) new)
+  pub tried_to_take : (times : Times T) (pick : ℕ) (old new : PassView (BoardEvent T)) (h : Hand T) (r : Result Step Refusal) → IfOk r (HasTriedToTake times pick old new h) → IfErr r (λ refusal. (refusal ≡ OutOfMemory) × (h ≡ Free) × IsNextTenure old (Look old.number) new)
       → (dataflow_of new ≡ dataflow_of old) × (new.number ≡ old.number)
   tried_to_take times pick old new h (Ok step) tried refused = took_flow times pick old new h step tried
   tried_to_take times pick old new h (Err refusal) tried refused = (same_flow old new (Look old.number) refused.2, same_number old new (Look old.number) refused.2)
 
-  pub tried_to_give : (n : ℕ) (old new : Known (BoardEvent T)) (before after : Hand T) (r : Result Step Refusal) → IfOk r (HasTriedToGive n old new before after) → IfErr r (λ refusal. (refusal ≡ OutOfMemory) × (after ≡ before) × LooksAtMost old new)
+  pub tried_to_give : (n : ℕ) (old new : PassView (BoardEvent T)) (before after : Hand T) (r : Result Step Refusal) → IfOk r (HasTriedToGive n old new before after) → IfErr r (λ refusal. (refusal ≡ OutOfMemory) × (after ≡ before) × LooksAtMost old new)
       → (dataflow_of new ≡ dataflow_of old) × (new.number ≡ old.number)
   tried_to_give n old new before after (Ok step) tried refused = gave_flow n old new before after step tried
   tried_to_give n old new before after (Err refusal) tried refused = (flow_after old new refused.2, number_after old new refused.2)
 
 module _ {T : Type 0} (times : Times T) (cmp : T → T → Ordering) where
   -- a new worker
-  pub first_worker : (o : PartialOrderLaws times) (nodes : List Node) (workers number : ℕ) (k : Known (BoardEvent T)) → IsActor times k → (clients : ℕ) → IsFirst (opening_for nodes workers clients) number k → number < workers
+  pub first_worker : (o : PartialOrderLaws times) (nodes : List Node) (workers number : ℕ) (k : PassView (BoardEvent T)) → IsActor times k → (clients : ℕ) → IsFirst (opening_for nodes workers clients) number k → number < workers
       → (plan : List Node) → plan ≡ nodes → (routing : Dataflow) → routing ≡ record { nodes = plan; workers = workers } → (d : DeskView T)
       → ((p : Dataflow) → IsDataflow p → p.nodes ≡ plan → number < p.workers → IsRight times p (initial_state times p) number d Free)
       → IsWorker times cmp plan routing number (record { known = k; desk = d; hand = Free; failed = false })
@@ -96,7 +96,7 @@ module _ {T : Type 0} (times : Times T) (cmp : T → T → Ordering) where
   failed plan routing number w v x fails known large = record {
     nodes = x.nodes ∙ sym (ap (λ k. (dataflow_of k).nodes) known);
     routed = x.routed ∙ sym (ap dataflow_of known);
-    numbered = x.numbered ∙ sym (ap (λ (k : Known (BoardEvent T)). k.number) known);
+    numbered = x.numbered ∙ sym (ap (λ (k : PassView (BoardEvent T)). k.number) known);
     right = λ goes. absurd (false≢true (sym goes ∙ fails));
     large = λ f. large;
   }
@@ -104,7 +104,7 @@ module _ {T : Type 0} (times : Times T) (cmp : T → T → Ordering) where
   -- ---- what is computed
 
   -- a desk and a hand that are right for a worker are right for someone
-  pub someones : (plan : List Node) (k : Known (BoardEvent T)) → IsActor times k → plan ≡ (dataflow_of k).nodes → (d : DeskView T) (h : Hand T) → IsRightOf times k d h → IsSomeones times plan d h
+  pub someones : (plan : List Node) (k : PassView (BoardEvent T)) → IsActor times k → plan ≡ (dataflow_of k).nodes → (d : DeskView T) (h : Hand T) → IsRightOf times k d h → IsSomeones times plan d h
   someones plan k actor nodes d h x = record {
     dataflow = dataflow_of k;
     nodes = sym nodes;
@@ -116,18 +116,18 @@ module _ {T : Type 0} (times : Times T) (cmp : T → T → Ordering) where
   }
 
   -- what computing leads to is right for the worker
-  pub led : (plan : List Node) (k : Known (BoardEvent T)) → IsActor times k → plan ≡ (dataflow_of k).nodes → (d c : DeskView T) (h g : Hand T) → Leads times plan d h c g → IsRightOf times k d h → IsRightOf times k c g
+  pub led : (plan : List Node) (k : PassView (BoardEvent T)) → IsActor times k → plan ≡ (dataflow_of k).nodes → (d c : DeskView T) (h g : Hand T) → Leads times plan d h c g → IsRightOf times k d h → IsRightOf times k c g
   led plan k actor nodes d c h g leads x = leads (dataflow_of k) actor.dataflow (sym nodes) (events k.seen) actor.legal k.number x
 
   -- and an overflow has its cause in what the worker has seen
-  pub seen_large : (plan : List Node) (k : Known (BoardEvent T)) → IsActor times k → plan ≡ (dataflow_of k).nodes → (d : DeskView T) (h : Hand T) → IsTooLarge times cmp plan d h → IsRightOf times k d h → HasSeenTooLarge times cmp k
+  pub seen_large : (plan : List Node) (k : PassView (BoardEvent T)) → IsActor times k → plan ≡ (dataflow_of k).nodes → (d : DeskView T) (h : Hand T) → IsTooLarge times cmp plan d h → IsRightOf times k d h → HasSeenTooLarge times cmp k
   seen_large plan k actor nodes d h large x =
       subst (λ p. HasNoSmallBound times cmp p (changes_in (state_left times k))) nodes
       (large (dataflow_of k) actor.dataflow (sym nodes) (events k.seen) actor.legal k.number x)
 
 -- ---- what tidying does
 
-module _ {T : Type 0} (times : Times T) (cmp : T → T → Ordering) (plan : List Node) (k : Known (BoardEvent T)) (actor : IsActor times k) (nodes : plan ≡ (dataflow_of k).nodes) (fronts : List (List T)) (told : AreTold times (dataflow_of k) (state_left times k) fronts) (d : DeskView T) (x : IsRightOf times k d Free) where
+module _ {T : Type 0} (times : Times T) (cmp : T → T → Ordering) (plan : List Node) (k : PassView (BoardEvent T)) (actor : IsActor times k) (nodes : plan ≡ (dataflow_of k).nodes) (fronts : List (List T)) (told : AreTold times (dataflow_of k) (state_left times k) fronts) (d : DeskView T) (x : IsRightOf times k d Free) where
   -- a worker that knows the frontiers of its ports may tidy
   pub may_tidy : MayTidy times plan fronts d
   unfolding someones
@@ -148,7 +148,7 @@ module _ {T : Type 0} (times : Times T) (pick : ℕ) (old : WorkerView T) where
   pub took_nothing : (new : WorkerView T) → old.hand ≡ Free → (step : Step) → (step ≡ Took → ⊥) → HasTriedToTake times pick old.known new.known new.hand step → IsStep times pick old new step
   took_nothing new free step other (inl busy) = subst (IsStep times pick old new) (sym busy.0) (busy.1, ap hand_node (busy.2 ∙ sym free))
   took_nothing new free step other (inr (Bundled bundle more, is, hand, taken)) = absurd (other is)
-  took_nothing new free step other (inr (turned_piece node upper, is, hand, taken)) = absurd (other is)
+  took_nothing new free step other (inr (notified_piece node upper, is, hand, taken)) = absurd (other is)
   took_nothing new free step other (inr (Nothing quiet, is, hand, taken)) =
       let offered = taken.offered in
       subst (IsStep times pick old new) (sym is) (record {
@@ -179,7 +179,7 @@ module _ {T : Type 0} (times : Times T) (pick : ℕ) (old : WorkerView T) where
     had = at;
     gave = subst (λ k. HasGivenAt n k new.known) known gave.2;
     free = gave.1;
-    beyond = λ was. subst (λ (k : Known (BoardEvent T)). HoldsBeyondNewest times (state_left times new.known) n k.number) known (later gave.0 (passed was));
+    beyond = λ was. subst (λ (k : PassView (BoardEvent T)). HoldsBeyondNewest times (state_left times new.known) n k.number) known (later gave.0 (passed was));
   })
 
   -- a refusal of what was computed, of a piece that was in hand before

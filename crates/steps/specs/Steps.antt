@@ -7,7 +7,7 @@ use Rattle.update.specs.declared.refusal.Refusal.{Refusal}
 use Rattle.update.specs.declared.refusal.Refusal.TheVariants.{OutOfMemory, Overflow, Failed}
 use Rattle.plan.specs.Nodes.{node_at}
 use Rattle.plan.specs.declared.node.Node.{Node}
-use Rattle.hub.specs.Known.{Known}
+use Rattle.hub.specs.PassViews.{PassView}
 use Rattle.histories.specs.declared.event.Bundle.{Bundle}
 use Rattle.histories.specs.declared.event.Emission.{Emission}
 use Rattle.histories.specs.declared.event.Event.TheVariants.{Give, Look}
@@ -17,7 +17,7 @@ use Rattle.histories.specs.Histories.Dataflows.{Dataflow}
 use Rattle.machine.specs.Boards.Pieces.{HasNoPiece}
 use Rattle.shared_board.specs.declared.event.BoardEvent.{BoardEvent}
 use Rattle.shared_board.specs.declared.board.pieces.Taken.{Taken as Piece}
-use Rattle.shared_board.specs.declared.board.pieces.Taken.TheVariants.{Bundled, Turned as turned_piece, Nothing}
+use Rattle.shared_board.specs.declared.board.pieces.Taken.TheVariants.{Bundled, Notified as notified_piece, Nothing}
 use Rattle.shared_board.specs.Found.{WasQuiet, dataflow_of}
 use Rattle.shared_board.specs.Pieces.{IsTakenIn}
 use Rattle.shared_board.specs.Tenures.{IsNextTenure, state_found, state_left}
@@ -25,7 +25,7 @@ use Rattle.operator_laws.specs.GatheredUpdates.{IsCut}
 use Rattle.desk_laws.specs.Observed.{HoldsBeyondNewest}
 use Rattle.desk_laws.specs.Own.{DeskView, gives_passed, hand_node}
 use Rattle.desk_laws.specs.declared.hand.Hand.{Hand}
-use Rattle.desk_laws.specs.declared.hand.Hand.TheVariants.{Free, Taken, Kept, Turned, Ready, Sealed}
+use Rattle.desk_laws.specs.declared.hand.Hand.TheVariants.{Free, Taken, Kept, Notified, Ready, Sealed}
 use Rattle.desk.specs.Desks.{IsPutAway}
 use Rattle.desk.specs.Upkeep.{AreTold, IsTidy, holds_elsewhere}
 use Rattle.steps.specs.declared.step.Step.{Step}
@@ -50,12 +50,12 @@ module _ {T : Type 0} where
   -- the hand with what was found on the board, and what the step is then
   abbrev pub hand_with : Piece T → Hand T
   hand_with (Bundled bundle more) = Taken bundle more
-  hand_with (turned_piece node upper) = Turned node upper
+  hand_with (notified_piece node upper) = Notified node upper
   hand_with (Nothing quiet) = Free
 
   abbrev pub step_with : Piece T → Step
   step_with (Bundled bundle more) = Took
-  step_with (turned_piece node upper) = Took
+  step_with (notified_piece node upper) = Took
   step_with (Nothing quiet) = Idle quiet
 
   -- what a piece made lies on the desk, and more bundles wait at its node
@@ -79,11 +79,11 @@ module _ {T : Type 0} where
   emission_of n k us = record { node = n; worker = k; updates = us }
 
   -- the actor has seen nothing new, or it has looked
-  abbrev pub LooksAtMost : Known (BoardEvent T) → Known (BoardEvent T) → Type 0
+  abbrev pub LooksAtMost : PassView (BoardEvent T) → PassView (BoardEvent T) → Type 0
   LooksAtMost old new = (new ≡ old) ⊎ IsNextTenure old (Look old.number) new
 
   -- the actor gave something at a node
-  pub record HasGivenAt (n : ℕ) (old new : Known (BoardEvent T)) : Type 0 where
+  pub record HasGivenAt (n : ℕ) (old new : PassView (BoardEvent T)) : Type 0 where
     pub given : Emission T
     pub held : List T
     pub sent : List (Bundle T)
@@ -92,13 +92,13 @@ module _ {T : Type 0} where
     pub node : given.node ≡ n
 
   -- another actor had the board, or this was given
-  abbrev pub HasTriedToGive : ℕ → Known (BoardEvent T) → Known (BoardEvent T) → Hand T → Hand T → Step → Type 0
+  abbrev pub HasTriedToGive : ℕ → PassView (BoardEvent T) → PassView (BoardEvent T) → Hand T → Hand T → Step → Type 0
   HasTriedToGive n old new before after step = ((step ≡ Busy) × (new ≡ old) × (after ≡ before))
       ⊎ ((step ≡ Gave) × (after ≡ Free) × HasGivenAt n old new)
 
 module _ {T : Type 0} (times : Times T) where
   -- another actor had the board, or this was given, cut along the edges of the plan
-  abbrev pub HasSent : Known (BoardEvent T) → Known (BoardEvent T) → Emission T → List T → Step → Type 0
+  abbrev pub HasSent : PassView (BoardEvent T) → PassView (BoardEvent T) → Emission T → List T → Step → Type 0
   HasSent old new g held step = ((step ≡ Busy) × (new ≡ old))
       ⊎ ((step ≡ Gave) × IsCut times (dataflow_of old) g (cut times (dataflow_of old) g)
       × IsNextTenure old (Give g held (cut times (dataflow_of old) g)) new)
@@ -112,7 +112,7 @@ module _ {T : Type 0} (times : Times T) where
 module _ {T : Type 0} (times : Times T) where
   -- where what was passed was given at a node, all that the actor holds there is beyond the input
   -- frontier that its newest take there found
-  abbrev pub HasLeftLater : ℕ → Known (BoardEvent T) → Known (BoardEvent T) → Hand T → Step → Type 0
+  abbrev pub HasLeftLater : ℕ → PassView (BoardEvent T) → PassView (BoardEvent T) → Hand T → Step → Type 0
   HasLeftLater n old new before step = step ≡ Gave → IsTrue (gives_passed before)
       → HoldsBeyondNewest times (state_left times new) n old.number
 
@@ -139,7 +139,7 @@ module _ {T : Type 0} (times : Times T) where
 
 module _ {T : Type 0} (times : Times T) (pick : ℕ) where
   -- another actor had the board, or this was found there
-  abbrev pub HasTriedToTake : Known (BoardEvent T) → Known (BoardEvent T) → Hand T → Step → Type 0
+  abbrev pub HasTriedToTake : PassView (BoardEvent T) → PassView (BoardEvent T) → Hand T → Step → Type 0
   HasTriedToTake old new hand step = ((step ≡ Busy) × (new ≡ old) × (hand ≡ Free))
       ⊎ ((piece : Piece T) × (step ≡ step_with piece) × (hand ≡ hand_with piece)
       × IsTakenIn times old new pick piece)
@@ -155,7 +155,7 @@ module _ {T : Type 0} (times : Times T) (pick : ℕ) where
     pub node : hand_node new.hand ≡ hand_node (hand_with piece)
 
   -- the worker gave at the node of the piece that it had in hand, and is done with it. If it had
-  -- turned to held times that are passed, or had its output ready, then all that it holds there
+  -- was notified of held times that are passed, or had its output ready, then all that it holds there
   -- from then on is beyond the input frontier that its newest take there found
   pub record HasGiven (old new : WorkerView T) : Type 0 where
     pub node : ℕ

@@ -1,7 +1,7 @@
 -- A worker as a contract sees it, and what holds of each.
 use Rattle.std.specs.Prelude.{◌≡◌, ℕ, Bool, false, List, IsTrue}
 use Rattle.std.specs.declared.cmp.Ordering.{Ordering}
-use Rattle.hub.specs.Known.{Known}
+use Rattle.hub.specs.PassViews.{PassView}
 use Rattle.plan.specs.declared.node.Node.{Node}
 use Rattle.histories.specs.Histories.Dataflows.{Dataflow}
 use Rattle.histories.specs.Histories.Promises.{changes_in}
@@ -17,19 +17,19 @@ use Rattle.lattice.specs.Times.{Times}
 -- what it has seen of the board, what lies on its desk, what it has in hand, and whether it has met
 -- a number that does not fit in 64 bits
 pub record WorkerView (T : Type 0) : Type 0 where
-  pub known : Known (BoardEvent T)
+  pub known : PassView (BoardEvent T)
   pub desk : DeskView T
   pub hand : Hand T
   pub failed : Bool
 
 module _ {T : Type 0} (times : Times T) where
   -- with the changes that an actor has seen, some node has no bound below 2^63
-  abbrev pub HasSeenTooLarge : (T → T → Ordering) → Known (BoardEvent T) → Type 0
+  abbrev pub HasSeenTooLarge : (T → T → Ordering) → PassView (BoardEvent T) → Type 0
   HasSeenTooLarge cmp k = HasNoSmallBound times cmp (dataflow_of k).nodes (changes_in (state_left times k))
 
 module _ {T : Type 0} (times : Times T) where
   -- the desk and the hand are right in the state that an actor left last
-  abbrev pub IsRightOf : Known (BoardEvent T) → DeskView T → Hand T → Type 0
+  abbrev pub IsRightOf : PassView (BoardEvent T) → DeskView T → Hand T → Type 0
   IsRightOf k d h = IsRight times (dataflow_of k) (state_left times k) k.number d h
 
   -- the plan and the routing of a worker are those of its board, and so is its number. What it has

@@ -44,7 +44,7 @@ impl<T: Minimum, P: BoardProtocol<T>> Worker<T, P> {
     /// Makes one step. A worker with nothing in hand takes the piece of this number among those
     /// that it may take, reduced modulo how many there are. So a schedule is a list of numbers.
     ///
-    /// Once it has given what came of a turn to held times, all that it holds at that node is
+    /// Once it has given what came of a notification, all that it holds at that node is
     /// beyond the input frontier that its newest take there found.
     ///
     /// - [`Refusal::Failed`] only if an earlier step was refused with `Overflow`, and then always.

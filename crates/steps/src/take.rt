@@ -53,8 +53,8 @@ fn put_in<T: Minimum>(hand: &mut Hand<T>, piece: Taken<T>) -> Step
             *hand = Hand::Taken { bundle, more };
             Step::Took
         }
-        Taken::Turned { node, upper } => {
-            *hand = Hand::Turned { node, upper };
+        Taken::Notified { node, upper } => {
+            *hand = Hand::Notified { node, upper };
             Step::Took
         }
         Taken::Nothing { quiet } => Step::Idle { quiet },

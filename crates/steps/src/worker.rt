@@ -270,7 +270,7 @@ fn node_of<T: Minimum>(hand: &Hand<T>) -> Option<NodeId>
         Hand::Free => None,
         Hand::Taken { bundle, .. } => Some(bundle.place.node),
         Hand::Kept { node, .. } => Some(*node),
-        Hand::Turned { node, .. } => Some(*node),
+        Hand::Notified { node, .. } => Some(*node),
         Hand::Ready { node, .. } => Some(*node),
         Hand::Sealed { node, .. } => Some(*node),
     }

@@ -18,7 +18,7 @@ use Rattle.histories.specs.Histories.States.{State, emitted_at}
 use Rattle.histories.specs.Histories.{state_after}
 use Rattle.histories.specs.Histories.Readings.{is_from_start}
 use Rattle.views.specs.Views.{ViewState}
-use Rattle.machine.specs.Boards.{BoardState, IsBoard, IsKeptOf, Stands, after_allow, allow_refusal, no_view}
+use Rattle.machine.specs.Boards.{BoardState, IsBoard, IsKeptOf, Represents, after_allow, allow_refusal, no_view}
 
 unfaulted : (b : Bool) → not b ≡ false → b ≡ true
 unfaulted true h = refl
@@ -34,7 +34,7 @@ module _ {T : Type 0} {times : Times T} (o : PartialOrderLaws times) where
 
   -- after an allow, the board stands for the history with the allow on top
   pub stands_allowed : (b : BoardState T) → IsBoard b → (h : List (Event T)) (client v : ℕ) (ts : List T) → b.dataflow.workers ≤ client → v < length b.dataflow.nodes → IsTrue (is_output (node_of b.dataflow v))
-      → allow_refusal times b v ts ≡ None → Stands times b h → Stands times (after_allow client v ts b) (Allow client v ts ∷ h)
+      → allow_refusal times b v ts ≡ None → Represents times b h → Represents times (after_allow client v ts b) (Allow client v ts ∷ h)
   stands_allowed b board h client v ts m within view e s = record {
     legal = (record { client = m; within = within; view = view; onward = onward }, s.legal);
     queues = s.queues;

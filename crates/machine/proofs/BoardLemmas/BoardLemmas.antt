@@ -33,7 +33,7 @@ use Rattle.std.proofs.lemmas.Int.{ints}
 use Rattle.histories.specs.declared.event.Bundle.{Bundle}
 use Rattle.histories.specs.declared.event.Emission.{Emission}
 use Rattle.views.specs.Views.{ViewState}
-use Rattle.machine.specs.Boards.{capture, after_give, after_take, after_turn, no_view, first_board, BoardState, IsBoard, Stands, after_look, after_feed, after_advance, feed_refusal, advance_refusal}
+use Rattle.machine.specs.Boards.{capture, after_give, after_take, after_notification, no_view, first_board, BoardState, IsBoard, Represents, after_look, after_feed, after_advance, feed_refusal, advance_refusal}
 use Rattle.histories.specs.Histories.Readings.{is_from_start}
 use Rattle.histories.proofs.HistoryLemmas.FlowLemmas.{sum_at-append}
 use Rattle.histories.specs.Histories.Shares.{home}
@@ -79,7 +79,7 @@ none_of_five a b c d e r s t u v h =
 
 module _ {T : Type 0} (times : Times T) where
   -- a change that no fault refuses is allowed in every history that the board may stand for
-  pub allowed_feed : (b : BoardState T) (h : List (Event T)) (client : ℕ) (f : Fed T) → b.dataflow.workers ≤ client → feed_refusal times b f ≡ None → IsInput b.dataflow f.input → Stands times b h → IsFeed times b.dataflow (state_after times b.dataflow h) client f
+  pub allowed_feed : (b : BoardState T) (h : List (Event T)) (client : ℕ) (f : Fed T) → b.dataflow.workers ≤ client → feed_refusal times b f ≡ None → IsInput b.dataflow f.input → Represents times b h → IsFeed times b.dataflow (state_after times b.dataflow h) client f
   allowed_feed b h client f m e i s =
       let w = state_after times b.dataflow h in
       let no = none_of_five (not (eqb (length f.update.row) (width_of b.dataflow.nodes f.input))) (int_eq f.update.diff (pos 0)) (not (nat_le (unsigned_abs f.update.diff) 2147483647)) (not (is_beyond times (front_at f.input b.inputs) f.update.time)) (not (nat_lt (get_or b.accepted f.input 0) 1048576)) WrongWidth ZeroWeight WeightTooLarge TimePassed InputFull e in
@@ -100,7 +100,7 @@ module _ {T : Type 0} (times : Times T) where
       room n h = grind (arith, nat_tests)
 
   -- after a feed, the board stands for the history with the feed on top
-  pub stands_fed : (b : BoardState T) → IsBoard b → (h : List (Event T)) (client : ℕ) (f : Fed T) → b.dataflow.workers ≤ client → feed_refusal times b f ≡ None → IsInput b.dataflow f.input → Stands times b h → Stands times (after_feed client f b) (Feed client f ∷ h)
+  pub stands_fed : (b : BoardState T) → IsBoard b → (h : List (Event T)) (client : ℕ) (f : Fed T) → b.dataflow.workers ≤ client → feed_refusal times b f ≡ None → IsInput b.dataflow f.input → Represents times b h → Represents times (after_feed client f b) (Feed client f ∷ h)
   stands_fed b board h client f m e i s = record {
     legal = (allowed_feed b h client f m e i s, s.legal);
     queues = λ site. queue_put b.stations (home b.dataflow f) (load_in (alone b.dataflow f)) there site ∙ (ap (λ q. q ++ queue site (alone b.dataflow f ∷ [])) (s.queues site) ∙ sym (queue_append site w.in_flight (alone b.dataflow f ∷ [])));
@@ -128,7 +128,7 @@ module _ {T : Type 0} (times : Times T) where
       counted j l false g = get_or-set_other b.accepted f.input j (suc (get_or b.accepted f.input 0)) 0 (λ m. false≢true (sym g ∙ eq-eqb f.input j (sym m))) ∙ s.accepted j l
 
   -- after an advance, the board stands for the history with the advance on top
-  pub stands_advanced : (b : BoardState T) → IsBoard b → (h : List (Event T)) (client i : ℕ) (ts : List T) → b.dataflow.workers ≤ client → advance_refusal times b i ts ≡ None → IsInput b.dataflow i → Stands times b h → Stands times (after_advance client i ts b) (Advance client i ts ∷ h)
+  pub stands_advanced : (b : BoardState T) → IsBoard b → (h : List (Event T)) (client i : ℕ) (ts : List T) → b.dataflow.workers ≤ client → advance_refusal times b i ts ≡ None → IsInput b.dataflow i → Represents times b h → Represents times (after_advance client i ts b) (Advance client i ts ∷ h)
   stands_advanced b board h client i ts m e n s = record {
     legal = (record { client = m; input = n; onward = subst (λ os. all_beyond times os ts ≡ true) (s.open_times i) (unfaulted _ (no_first (not (all_beyond times (front_at i b.inputs) ts)) NotForward [] e).0) }, s.legal);
     queues = s.queues;
@@ -147,8 +147,8 @@ module _ {T : Type 0} (times : Times T) where
   on_both (Err e) P Q a b f g = g b
 
   -- after a look, the board stands for the history with the look on top
-  pub stands_looked : (b c : BoardState T) (h : List (Event T)) (actor : ℕ) → c ≡ after_look actor b → Stands times b h → Stands times c (c.last ∷ h)
-  stands_looked b c h actor e s = subst (λ z. Stands times z (z.last ∷ h)) (sym e) (record {
+  pub stands_looked : (b c : BoardState T) (h : List (Event T)) (actor : ℕ) → c ≡ after_look actor b → Represents times b h → Represents times c (c.last ∷ h)
+  stands_looked b c h actor e s = subst (λ z. Represents times z (z.last ∷ h)) (sym e) (record {
     legal = (tt, s.legal);
     queues = s.queues;
     held = s.held;
@@ -187,7 +187,7 @@ pub first_queue : {T : Type 0} (nodes workers : ℕ) (site : Site) → queue_of 
 first_queue nodes workers site = ap (λ lot. map (bundle_at site) (loads_at site.port lot)) (first_lot nodes workers site.node site.worker) ∙ none_at site site.port
 
 -- the first board stands for the empty history
-pub stands_first : {T : Type 0} (times : Times T) (p : Dataflow) → Stands times (first_board times.least p) []
+pub stands_first : {T : Type 0} (times : Times T) (p : Dataflow) → Represents times (first_board times.least p) []
 stands_first times p = record {
   legal = tt;
   queues = first_queue (length p.nodes) p.workers;
@@ -203,8 +203,8 @@ stands_first times p = record {
 }
 
 -- a new board stands for the empty history
-pub stands_opened : {T : Type 0} (times : Times T) (p : Dataflow) (r : Result (BoardState T) Refusal) → IfOk r (λ b. b ≡ first_board times.least p) → IfOk r (λ b. Stands times b [])
-stands_opened times p (Ok b) e = subst (λ z. Stands times z []) (sym e) (stands_first times p)
+pub stands_opened : {T : Type 0} (times : Times T) (p : Dataflow) (r : Result (BoardState T) Refusal) → IfOk r (λ b. b ≡ first_board times.least p) → IfOk r (λ b. Represents times b [])
+stands_opened times p (Ok b) e = subst (λ z. Represents times z []) (sym e) (stands_first times p)
 stands_opened times p (Err r) e = e
 
 -- The events of workers
@@ -265,7 +265,7 @@ module _ {T : Type 0} (times : Times T) where
   -- after a take that was not refused, the board stands for the history with the take on top
   pub stands_taken : (b : BoardState T) → IsBoard b → (h : List (Event T)) (number : ℕ) (bundle : Bundle T) → bundle.place.worker < b.dataflow.workers → get_or b.hand bundle.place.worker None ≡ None
       → slice_get (queue_of b.stations bundle.place) number ≡ Some bundle → (arranged_by (node_of b.dataflow bundle.place.node) ≡ None → number ≡ 0)
-      → Stands times b h → Stands times (after_take number bundle b) (Take number bundle ∷ h)
+      → Represents times b h → Represents times (after_take number bundle b) (Take number bundle ∷ h)
   stands_taken b board h number bundle l free waits turn s =
       let site = bundle.place in
       let within = waits_within b.stations site number bundle waits in
@@ -282,10 +282,10 @@ module _ {T : Type 0} (times : Times T) where
         last = refl;
       }
 
-  -- after a worker turned to what it holds, the board stands for the history with that event on top
-  pub stands_turned : (b c : BoardState T) → IsBoard b → (h : List (Event T)) (k n : ℕ) → k < b.dataflow.workers → IsTakeHeld times b.dataflow (state_after times b.dataflow h) k n
-      → c ≡ after_turn k n b → Stands times b h → Stands times c (c.last ∷ h)
-  stands_turned b c board h k n l legal e s = subst (λ z. Stands times z (z.last ∷ h)) (sym e) (record {
+  -- after a worker was notified of what it holds, the board stands for the history with that event on top
+  pub stands_notified : (b c : BoardState T) → IsBoard b → (h : List (Event T)) (k n : ℕ) → k < b.dataflow.workers → IsTakeHeld times b.dataflow (state_after times b.dataflow h) k n
+      → c ≡ after_notification k n b → Represents times b h → Represents times c (c.last ∷ h)
+  stands_notified b c board h k n l legal e s = subst (λ z. Represents times z (z.last ∷ h)) (sym e) (record {
     legal = (legal, s.legal);
     queues = s.queues;
     held = s.held;
@@ -301,9 +301,9 @@ module _ {T : Type 0} (times : Times T) where
   pub stands_after_take : (r : Result (Bundle T) Refusal) (b c : BoardState T) (h : List (Event T)) (site : Site) (number : ℕ) → OnOk r (IsBoard b) → site.worker < b.dataflow.workers → get_or b.hand site.worker None ≡ None
       → (arranged_by (node_of b.dataflow site.node) ≡ None → number ≡ 0)
       → IfOk r (λ x. slice_get (queue_of b.stations site) number ≡ Some x) → IfOk r (λ x. x.place ≡ site) → IfOk r (λ x. c ≡ after_take number x b) → OnErr r (c ≡ after_look site.worker b)
-      → Stands times b h → Stands times c (c.last ∷ h)
+      → Represents times b h → Represents times c (c.last ∷ h)
   stands_after_take (Ok x) b c h site number board l free turn waits there e err s =
-      subst (λ z. Stands times z (z.last ∷ h)) (sym e)
+      subst (λ z. Represents times z (z.last ∷ h)) (sym e)
       (stands_taken b board h number x
       (subst (λ (z : Site). z.worker < b.dataflow.workers) (sym there) l)
       (subst (λ (z : Site). get_or b.hand z.worker None ≡ None) (sym there) free)
@@ -319,7 +319,7 @@ module _ {T : Type 0} (times : Times T) where
   -- after a give that was not refused and is allowed, the board stands for the history with it on
   -- top
   pub stands_given : (b : BoardState T) → IsBoard b → (h : List (Event T)) (g : Emission T) (ts : List T) (sent : List (Bundle T)) → g.worker < b.dataflow.workers → g.node < length b.dataflow.nodes
-      → IsGive times b.dataflow (state_after times b.dataflow h) g ts sent → Stands times b h → Stands times (after_give g ts sent b) (Give g ts sent ∷ h)
+      → IsGive times b.dataflow (state_after times b.dataflow h) g ts sent → Represents times b h → Represents times (after_give g ts sent b) (Give g ts sent ∷ h)
   stands_given b board h g ts sent l within legal s = record {
     legal = (legal, s.legal);
     queues = λ site. queue_held (put_all sent b.stations) g.node g.worker ts at_node staffed site ∙ (queue_put_all sent b.stations there site ∙ (ap (λ q. q ++ queue site sent) (s.queues site) ∙ sym (queue_append site w.in_flight sent)));
@@ -396,6 +396,6 @@ module _ {T : Type 0} (times : Times T) where
   -- after a give, refused or not, the board stands for the history with its event on top
   pub stands_after_give : {A E : Type 0} (r : Result A E) (b c : BoardState T) (h : List (Event T)) (g : Emission T) (ts : List T) (sent : List (Bundle T)) → OnOk r (IsBoard b) → g.worker < b.dataflow.workers → g.node < length b.dataflow.nodes
       → OnOk r (c ≡ after_give g ts sent b) → OnErr r (c ≡ after_look g.worker b)
-      → Stands times b h → IsGive times b.dataflow (state_after times b.dataflow h) g ts sent → Stands times c (c.last ∷ h)
-  stands_after_give (Ok x) b c h g ts sent board l within e err s legal = subst (λ z. Stands times z (z.last ∷ h)) (sym e) (stands_given b board h g ts sent l within legal s)
+      → Represents times b h → IsGive times b.dataflow (state_after times b.dataflow h) g ts sent → Represents times c (c.last ∷ h)
+  stands_after_give (Ok x) b c h g ts sent board l within e err s legal = subst (λ z. Represents times z (z.last ∷ h)) (sym e) (stands_given b board h g ts sent l within legal s)
   stands_after_give (Err x) b c h g ts sent board l within e err s legal = stands_looked times b c h g.worker err s

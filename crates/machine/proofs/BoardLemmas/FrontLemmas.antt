@@ -28,7 +28,7 @@ use Rattle.histories.specs.Histories.Outstanding.{stamps, items_of, frontier, st
 use Rattle.histories.specs.Histories.{state_after, IsTakeHeld}
 use Rattle.histories.specs.Histories.Promises.{IsInPlace}
 use Rattle.histories.specs.Histories.Readings.{IsQuiet}
-use Rattle.machine.specs.Boards.{BoardState, IsBoard, Stands}
+use Rattle.machine.specs.Boards.{BoardState, IsBoard, Represents}
 use Rattle.machine.specs.Boards.Reads.{on_board, open_on, front, input_front, port_front, is_ready, hands_are_free, is_quiet_board}
 use Rattle.outstanding.specs.Loads.{is_none, lot_of, all_bundles, all_held}
 use Rattle.outstanding.proofs.LotLemmas.{all_held_all, all_queued, all_held_at}
@@ -97,19 +97,19 @@ on_ok (Ok x) P Q f p = f x p
 on_ok (Err e) P Q f p = p
 
 module _ {T : Type 0} (times : Times T) (o : PartialOrderLaws times) where
-  opened : (b : BoardState T) → IsBoard b → (h : List (Event T)) → Stands times b h → AreOpen (open_on b) (state_after times b.dataflow h).open_times
+  opened : (b : BoardState T) → IsBoard b → (h : List (Event T)) → Represents times b h → AreOpen (open_on b) (state_after times b.dataflow h).open_times
   opened b board h s i = open_on_at b.inputs (length b.dataflow.nodes) i board.inputs ∙ s.open_times i
 
   -- the board and the history have alike bundles in flight, and alike held times
-  pub queued : (b : BoardState T) (h : List (Event T)) → Stands times b h → AreQueued (all_bundles b.stations) (state_after times b.dataflow h).in_flight
+  pub queued : (b : BoardState T) (h : List (Event T)) → Represents times b h → AreQueued (all_bundles b.stations) (state_after times b.dataflow h).in_flight
   queued b h s site = all_queued b.stations site ∙ s.queues site
 
   -- the board and the history have alike held times
-  pub holds : (b : BoardState T) (h : List (Event T)) → Stands times b h → AreHeld (all_held b.stations) (state_after times b.dataflow h).held
+  pub holds : (b : BoardState T) (h : List (Event T)) → Represents times b h → AreHeld (all_held b.stations) (state_after times b.dataflow h).held
   holds b h s n k = all_held_at b.stations n k ∙ s.held n k
 
   -- the same times are beyond a frontier found on the board and the one that the history leaves
-  pub front_stands : (b : BoardState T) → IsBoard b → (h : List (Event T)) → Stands times b h → (n : ℕ) (t : T) → is_beyond times (front times b n) t ≡ is_beyond times (frontier times b.dataflow (state_after times b.dataflow h) n) t
+  pub front_stands : (b : BoardState T) → IsBoard b → (h : List (Event T)) → Represents times b h → (n : ℕ) (t : T) → is_beyond times (front times b n) t ≡ is_beyond times (frontier times b.dataflow (state_after times b.dataflow h) n) t
   front_stands b board h s n t =
       let w = state_after times b.dataflow h in
       beyond_frontier b.dataflow (on_board b) n times o t
@@ -117,7 +117,7 @@ module _ {T : Type 0} (times : Times T) (o : PartialOrderLaws times) where
       ∙ sym (beyond_frontier b.dataflow w n times o t))
 
   -- they have the same elements
-  pub front_elements : (b : BoardState T) → IsBoard b → (h : List (Event T)) → Stands times b h → (n : ℕ) → SameElements (front times b n) (frontier times b.dataflow (state_after times b.dataflow h) n)
+  pub front_elements : (b : BoardState T) → IsBoard b → (h : List (Event T)) → Represents times b h → (n : ℕ) → SameElements (front times b n) (frontier times b.dataflow (state_after times b.dataflow h) n)
   front_elements b board h s n =
       let found = times_where (is_upstream b.dataflow.nodes n) (items_of (on_board b)) in
       let left = times_where (is_upstream b.dataflow.nodes n) (items_of (state_after times b.dataflow h)) in
@@ -125,7 +125,7 @@ module _ {T : Type 0} (times : Times T) (o : PartialOrderLaws times) where
 
   -- the same times are beyond an input frontier found on the board and the one that the history
   -- leaves
-  pub input_front_stands : (b : BoardState T) → IsBoard b → (h : List (Event T)) → Stands times b h → (n : ℕ) (t : T) → is_beyond times (input_front times b n) t ≡ is_beyond times (input_frontier times b.dataflow (state_after times b.dataflow h) n) t
+  pub input_front_stands : (b : BoardState T) → IsBoard b → (h : List (Event T)) → Represents times b h → (n : ℕ) (t : T) → is_beyond times (input_front times b n) t ≡ is_beyond times (input_frontier times b.dataflow (state_after times b.dataflow h) n) t
   input_front_stands b board h s n t =
       let w = state_after times b.dataflow h in
       beyond_input_frontier b.dataflow (on_board b) n times o t
@@ -133,7 +133,7 @@ module _ {T : Type 0} (times : Times T) (o : PartialOrderLaws times) where
       ∙ sym (beyond_input_frontier b.dataflow w n times o t))
 
   -- they have the same elements
-  pub input_front_elements : (b : BoardState T) → IsBoard b → (h : List (Event T)) → Stands times b h → (n : ℕ) → SameElements (input_front times b n) (input_frontier times b.dataflow (state_after times b.dataflow h) n)
+  pub input_front_elements : (b : BoardState T) → IsBoard b → (h : List (Event T)) → Represents times b h → (n : ℕ) → SameElements (input_front times b n) (input_frontier times b.dataflow (state_after times b.dataflow h) n)
   input_front_elements b board h s n =
       let found = times_where (is_input_upstream b.dataflow.nodes n) (items_of (on_board b)) in
       let left = times_where (is_input_upstream b.dataflow.nodes n) (items_of (state_after times b.dataflow h)) in
@@ -141,7 +141,7 @@ module _ {T : Type 0} (times : Times T) (o : PartialOrderLaws times) where
 
   -- the same times are beyond the frontier of a port found on the board and the one that the
   -- history leaves
-  pub port_front_stands : (b : BoardState T) → IsBoard b → (h : List (Event T)) → Stands times b h → (n port : ℕ) (t : T) → is_beyond times (port_front times b n port) t ≡ is_beyond times (port_frontier times b.dataflow (state_after times b.dataflow h) n port) t
+  pub port_front_stands : (b : BoardState T) → IsBoard b → (h : List (Event T)) → Represents times b h → (n port : ℕ) (t : T) → is_beyond times (port_front times b n port) t ≡ is_beyond times (port_frontier times b.dataflow (state_after times b.dataflow h) n port) t
   port_front_stands b board h s n port t =
       let w = state_after times b.dataflow h in
       let counts = is_port_upstream b.dataflow.nodes n port in
@@ -150,7 +150,7 @@ module _ {T : Type 0} (times : Times T) (o : PartialOrderLaws times) where
       ∙ sym (beyond_port_frontier b.dataflow w n times o t port))
 
   -- they have the same elements
-  pub port_front_elements : (b : BoardState T) → IsBoard b → (h : List (Event T)) → Stands times b h → (n port : ℕ) → SameElements (port_front times b n port) (port_frontier times b.dataflow (state_after times b.dataflow h) n port)
+  pub port_front_elements : (b : BoardState T) → IsBoard b → (h : List (Event T)) → Represents times b h → (n port : ℕ) → SameElements (port_front times b n port) (port_frontier times b.dataflow (state_after times b.dataflow h) n port)
   port_front_elements b board h s n port =
       let found = times_where (is_port_upstream b.dataflow.nodes n port) (items_of (on_board b)) in
       let left = times_where (is_port_upstream b.dataflow.nodes n port) (items_of (state_after times b.dataflow h)) in
@@ -158,7 +158,7 @@ module _ {T : Type 0} (times : Times T) (o : PartialOrderLaws times) where
 
   -- a worker is ready on the board if some time that it holds after the history is one that the
   -- input frontier has passed
-  pub ready_stands : (b : BoardState T) → IsBoard b → (h : List (Event T)) → Stands times b h → (k n : ℕ)
+  pub ready_stands : (b : BoardState T) → IsBoard b → (h : List (Event T)) → Represents times b h → (k n : ℕ)
       → is_ready times b k n ≡ list_any (has_passed times (input_frontier times b.dataflow (state_after times b.dataflow h) n)) (held_at n k (state_after times b.dataflow h).held)
   ready_stands b board h s k n =
       ap (λ (test : T → Bool). list_any test (lot_of b.stations n k).held) (λ i t. not (input_front_stands b board h s n t i))
@@ -228,7 +228,7 @@ module _ {T : Type 0} (times : Times T) (o : PartialOrderLaws times) where
           ∙ ap (λ c. list_all (λ k. list_all (λ t. c && is_beyond times (input_front times b n) t) (lot_of b.stations n k).held) (numbers_below (length (get_or b.stations n [])))) (sym (less n (length b.dataflow.nodes) l))
 
   -- a board that is found quiet stands for a quiet history
-  pub quiet_into : (b : BoardState T) → IsBoard b → (h : List (Event T)) → Stands times b h → is_quiet_board times b ≡ true → IsQuiet times b.dataflow (state_after times b.dataflow h)
+  pub quiet_into : (b : BoardState T) → IsBoard b → (h : List (Event T)) → Represents times b h → is_quiet_board times b ≡ true → IsQuiet times b.dataflow (state_after times b.dataflow h)
   quiet_into b board h s q =
       let waits = λ (m : HeldTime T). nat_lt m.node (length b.dataflow.nodes) && is_beyond times (input_front times b m.node) m.time in
       let f = and_parts (is_none (all_bundles b.stations)) (hands_are_free b.hand && list_all waits (all_held b.stations)) q in
@@ -243,7 +243,7 @@ module _ {T : Type 0} (times : Times T) (o : PartialOrderLaws times) where
       }
 
   -- a quiet history is found on the board
-  pub quiet_back : (b : BoardState T) → IsBoard b → (h : List (Event T)) → Stands times b h → IsInPlace b.dataflow (state_after times b.dataflow h) → IsQuiet times b.dataflow (state_after times b.dataflow h) → is_quiet_board times b ≡ true
+  pub quiet_back : (b : BoardState T) → IsBoard b → (h : List (Event T)) → Represents times b h → IsInPlace b.dataflow (state_after times b.dataflow h) → IsQuiet times b.dataflow (state_after times b.dataflow h) → is_quiet_board times b ≡ true
   quiet_back b board h s place q =
       let w = state_after times b.dataflow h in
       let waits = λ (m : HeldTime T). nat_lt m.node (length b.dataflow.nodes) && is_beyond times (input_front times b m.node) m.time in
@@ -257,8 +257,8 @@ module _ {T : Type 0} (times : Times T) (o : PartialOrderLaws times) where
       within : (m n : ℕ) → m < n → nat_lt m n ≡ true
       within m n l = grind (arith, nat_tests)
 
-  -- if a worker is ready on the board, the history allows it to turn to what it holds
-  pub may_turn : (b : BoardState T) → IsBoard b → (h : List (Event T)) → Stands times b h → (k n : ℕ) → k < b.dataflow.workers → n < length b.dataflow.nodes → get_or b.hand k None ≡ None → is_ready times b k n ≡ true
+  -- if a worker is ready on the board, the history allows it to be notified of what it holds
+  pub may_turn : (b : BoardState T) → IsBoard b → (h : List (Event T)) → Represents times b h → (k n : ℕ) → k < b.dataflow.workers → n < length b.dataflow.nodes → get_or b.hand k None ≡ None → is_ready times b k n ≡ true
       → IsTakeHeld times b.dataflow (state_after times b.dataflow h) k n
   may_turn b board h s k n l m free ready =
       let w = state_after times b.dataflow h in

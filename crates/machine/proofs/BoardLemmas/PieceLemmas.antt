@@ -22,7 +22,7 @@ use Rattle.machine.specs.declared.board.pieces.Piece.TheVariants.{Waiting, Held}
 use Rattle.histories.specs.Histories.{state_after}
 use Rattle.histories.specs.Histories.Dataflows.{node_of}
 use Rattle.histories.specs.Histories.States.{State, place}
-use Rattle.machine.specs.Boards.{BoardState, IsBoard, Stands}
+use Rattle.machine.specs.Boards.{BoardState, IsBoard, Represents}
 use Rattle.outstanding.specs.Loads.{Load, bundle_at, no_lot, loads_at, lot_of, queue_of}
 use Rattle.machine.specs.Boards.Reads.{input_front, is_ready}
 use Rattle.machine.specs.Boards.Pieces.{takable, takable_at, pieces_waiting, pieces_held, pieces_at, pieces, waiting_in, held_in, pieces_in, IsPiece, MayTake, HasNoPiece}
@@ -189,7 +189,7 @@ module _ {T : Type 0} (times : Times T) where
 
   -- ---- what pieces are good for in a history
 
-  module _ (o : PartialOrderLaws times) (b : BoardState T) (board : IsBoard b) (h : List (Event T)) (s : Stands times b h) (k : ℕ) where
+  module _ (o : PartialOrderLaws times) (b : BoardState T) (board : IsBoard b) (h : List (Event T)) (s : Represents times b h) (k : ℕ) where
     -- a worker with nothing in hand may take a piece
     pub piece_allowed : k < b.dataflow.workers → (piece : Piece) → IsPiece times b k piece → MayTake times b.dataflow (state_after times b.dataflow h) k piece
     piece_allowed l (Held n) p free = may_turn times o b board h s k n l p.within (s.hand k l ∙ free) p.ready

@@ -23,7 +23,7 @@ use Rattle.histories.specs.Histories.Outstanding.{frontier}
 use Rattle.histories.specs.Histories.{state_after}
 use Rattle.histories.specs.Histories.Promises.{changes_in}
 use Rattle.views.specs.Views.{ViewState}
-use Rattle.machine.specs.Boards.{BoardState, no_view, Stands, IsBoard}
+use Rattle.machine.specs.Boards.{BoardState, no_view, Represents, IsBoard}
 use Rattle.histories.specs.Histories.Readings.{is_from_start}
 use Rattle.machine.specs.Boards.Reads.{front, captured_of, since_of, read_refusal_on, changes_refusal_on}
 use Rattle.histories.proofs.HistoryLemmas.FlowLemmas.{is_passed, not_beyond}
@@ -45,7 +45,7 @@ unrefused false h = absurd (false≢true (sym h))
 module _ {T : Type 0} (times : Times T) (o : PartialOrderLaws times) where
   -- a read that is answered is the query, for every history that the board may stand for
   pub read_answers : (r : Result (List Entry) Refusal) (b : BoardState T) (h : List (Event T)) (v : ℕ) (t : T) → IsBoard b → v < length b.dataflow.nodes → IsTrue (is_output (node_of b.dataflow v))
-      → OnOk r (read_refusal_on times b v t ≡ None) → IfOk r (λ bag. Alike bag (as_of times t (captured_of b v))) → Stands times b h
+      → OnOk r (read_refusal_on times b v t ≡ None) → IfOk r (λ bag. Alike bag (as_of times t (captured_of b v))) → Represents times b h
       → IfOk r (λ bag. Alike bag (query_at times b.dataflow.nodes (changes_in (state_after times b.dataflow h)) v t))
   read_answers (Ok bag) b h v t p l m e same s =
       let f = no_first (is_beyond times (front times b v) t) NotPassed ((not (is_beyond times (since_of b v) t), GivenUp) ∷ []) e in
@@ -60,7 +60,7 @@ module _ {T : Type 0} (times : Times T) (o : PartialOrderLaws times) where
   pub changes_answer : (us : List (Update T)) (b : BoardState T) (h : List (Event T)) (v : ℕ) (cmp : T → T → Ordering) → IsBoard b → v < length b.dataflow.nodes → IsTrue (is_output (node_of b.dataflow v))
       → IsConsolidated cmp us → IsTrue (list_all (λ u. has_passed times (front times b v) u.time) us)
       → ((t : T) → IsTrue (has_passed times (front times b v) t) → Alike (as_of times t us) (as_of times t (captured_of b v)))
-      → changes_refusal_on times b v ≡ None → Stands times b h → AreDifferences times cmp b.dataflow.nodes (changes_in (state_after times b.dataflow h)) (frontier times b.dataflow (state_after times b.dataflow h) v) v us
+      → changes_refusal_on times b v ≡ None → Represents times b h → AreDifferences times cmp b.dataflow.nodes (changes_in (state_after times b.dataflow h)) (frontier times b.dataflow (state_after times b.dataflow h) v) v us
   changes_answer us b h v cmp p l m consolidated passed sums accepted s =
       let e : (t : T) → is_beyond times (front times b v) t ≡ is_beyond times (frontier times b.dataflow (state_after times b.dataflow h) v) t = front_stands times o b p h s v in
       let first = no_first (not (is_from_start times (since_of b v))) GivenUp [] accepted in
@@ -74,7 +74,7 @@ module _ {T : Type 0} (times : Times T) (o : PartialOrderLaws times) where
   pub changes_answers : {V : Type 0} (r : Result V Refusal) (list : V → List (Update T)) (b : BoardState T) (h : List (Event T)) (v : ℕ) (cmp : T → T → Ordering) → IsBoard b → v < length b.dataflow.nodes → IsTrue (is_output (node_of b.dataflow v))
       → IfOk r (λ us. IsConsolidated cmp (list us)) → IfOk r (λ us. IsTrue (list_all (λ u. has_passed times (front times b v) u.time) (list us)))
       → IfOk r (λ us. (t : T) → IsTrue (has_passed times (front times b v) t) → Alike (as_of times t (list us)) (as_of times t (captured_of b v)))
-      → OnOk r (changes_refusal_on times b v ≡ None) → Stands times b h → IfOk r (λ us. AreDifferences times cmp b.dataflow.nodes (changes_in (state_after times b.dataflow h)) (frontier times b.dataflow (state_after times b.dataflow h) v) v (list us))
+      → OnOk r (changes_refusal_on times b v ≡ None) → Represents times b h → IfOk r (λ us. AreDifferences times cmp b.dataflow.nodes (changes_in (state_after times b.dataflow h)) (frontier times b.dataflow (state_after times b.dataflow h) v) v (list us))
   changes_answers (Ok us) list b h v cmp p l m consolidated passed sums accepted s = changes_answer (list us) b h v cmp p l m consolidated passed sums accepted s
   changes_answers (Err e) list b h v cmp p l m consolidated passed sums accepted s = tt
 

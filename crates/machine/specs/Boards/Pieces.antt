@@ -58,7 +58,7 @@ module _ {T : Type 0} (times : Times T) where
     pub waits : number < length (queue_of b.stations site)
     pub turn : arranged_by (node_of b.dataflow site.node) ≡ None → number ≡ 0
 
-  -- the worker holds a time at the node, and `take_held` allows it to turn to it
+  -- the worker holds a time at the node, and `take_held` allows it to be notified
   pub record IsReady (b : BoardState T) (k n : ℕ) : Type 0 where
     pub within : n < length b.dataflow.nodes
     pub ready : IsTrue (is_ready times b k n)

@@ -11,7 +11,7 @@ ghost use Rattle.histories.specs.Histories.States.{change_to};
 ghost use Rattle.plan.specs.Nodes.{is_output};
 ghost use Rattle.histories.specs.Histories.Dataflows.{node_of};
 ghost use Rattle.histories.specs.Histories.{IsInput};
-ghost use Rattle.machine.specs.Boards.{IsBoard, Stands, after_look, put_change, accept_change, after_feed, after_advance, after_allow, feed_refusal, advance_refusal, allow_refusal};
+ghost use Rattle.machine.specs.Boards.{IsBoard, Represents, after_look, put_change, accept_change, after_feed, after_advance, after_allow, feed_refusal, advance_refusal, allow_refusal};
 
 use crate::board::Board;
 use antichain::all_beyond;
@@ -40,8 +40,8 @@ impl<T: Minimum> Board<T> {
         ensures refused { IfErr result
             (IsRefusalBy (feed_refusal T.times self.old (change_to input update))) }
         ensures unchanged { OnErr result (self.new ≡ after_look client self.old) }
-        ensures stands { (h : List (Event T)) → Stands T.times self.old h
-            → Stands T.times self.new (self.new.last ∷ h) }
+        ensures stands { (h : List (Event T)) → Represents T.times self.old h
+            → Represents T.times self.new (self.new.last ∷ h) }
     {
         self.try_feed(client, input, update)
     }
@@ -128,8 +128,8 @@ impl<T: Minimum> Board<T> {
         ensures refused { IfErr result
             (IsRefusalBy (advance_refusal T.times self.old input times.now)) }
         ensures unchanged { OnErr result (self.new ≡ after_look client self.old) }
-        ensures stands { (h : List (Event T)) → Stands T.times self.old h
-            → Stands T.times self.new (self.new.last ∷ h) }
+        ensures stands { (h : List (Event T)) → Represents T.times self.old h
+            → Represents T.times self.new (self.new.last ∷ h) }
     {
         self.try_advance(client, input, times)
     }
@@ -202,8 +202,8 @@ impl<T: Minimum> Board<T> {
         requires client { self.old.dataflow.workers ≤ client }
         requires input { IsInput self.old.dataflow input }
         ensures closed { self.new ≡ after_advance client input [] self.old }
-        ensures stands { (h : List (Event T)) → Stands T.times self.old h
-            → Stands T.times self.new (self.new.last ∷ h) }
+        ensures stands { (h : List (Event T)) → Represents T.times self.old h
+            → Represents T.times self.new (self.new.last ∷ h) }
     {
         self.try_close(client, input);
     }
@@ -237,8 +237,8 @@ impl<T: Minimum> Board<T> {
         ensures refused { IfErr result
             (IsRefusalBy (allow_refusal T.times self.old view times.now)) }
         ensures unchanged { OnErr result (self.new ≡ after_look client self.old) }
-        ensures stands { (h : List (Event T)) → Stands T.times self.old h
-            → Stands T.times self.new (self.new.last ∷ h) }
+        ensures stands { (h : List (Event T)) → Represents T.times self.old h
+            → Represents T.times self.new (self.new.last ∷ h) }
     {
         self.try_allow(client, view, times)
     }

@@ -2,7 +2,7 @@
 //! view they are captured.
 ghost use Rattle.std.specs.Prelude.{◌≡◌, ◌<◌, List, ◌∷◌, IfErr, OnErr, OnOk, length};
 ghost use Rattle.histories.specs.declared.event.Event.{Event};
-ghost use Rattle.machine.specs.Boards.{IsBoard, IsGiveOn, Stands, after_look, pass_output, give_output, after_give};
+ghost use Rattle.machine.specs.Boards.{IsBoard, IsGiveOn, Represents, after_look, pass_output, give_output, after_give};
 
 use crate::board::Board;
 use accounts::{CutEmission, Ungiven};
@@ -39,9 +39,9 @@ impl<T: Minimum> Board<T> {
         ensures given { OnOk result (self.new ≡ after_give cut.given held cut.sent self.old) }
         ensures returned { IfErr result (λ r. r ≡ record { cut = cut; held = held }) }
         ensures unchanged { OnErr result (self.new ≡ after_look cut.given.worker self.old) }
-        ensures stands { (h : List (Event T)) → Stands T.times self.old h
+        ensures stands { (h : List (Event T)) → Represents T.times self.old h
             → IsGiveOn T.times self.old h cut.given held cut.sent
-            → Stands T.times self.new (self.new.last ∷ h) }
+            → Represents T.times self.new (self.new.last ∷ h) }
     {
         self.give_or_look(cut, held)
     }

@@ -11,7 +11,7 @@ ghost use Rattle.plan.specs.Changes.{has_passed};
 ghost use Rattle.histories.specs.declared.event.Event.{Event};
 ghost use Rattle.outstanding.specs.Loads.{lot_of};
 ghost use Rattle.accounts.specs.Accounts.{input_front_of};
-ghost use Rattle.machine.specs.Boards.{Stands, frontier_on, input_frontier_on, port_frontier_on, held_on};
+ghost use Rattle.machine.specs.Boards.{Represents, frontier_on, input_frontier_on, port_frontier_on, held_on};
 ghost use Rattle.machine.specs.Boards.Reads.{front, input_front, port_front, is_ready};
 
 use crate::board::Board;
@@ -31,7 +31,7 @@ impl<T: Minimum> Board<T> {
         requires { node < length self.old.dataflow.nodes }
         ensures kept { self.new ≡ self.old }
         ensures value { result ≡ has_passed T.times (front T.times self.old node) t.now }
-        ensures stands { (h : List (Event T)) → Stands T.times self.old h
+        ensures stands { (h : List (Event T)) → Represents T.times self.old h
             → result ≡ has_passed T.times (frontier_on T.times self.old h node) t.now }
     {
         self.known();
@@ -46,7 +46,7 @@ impl<T: Minimum> Board<T> {
         requires { node < length self.old.dataflow.nodes }
         ensures kept { self.new ≡ self.old }
         ensures value { result ≡ has_passed T.times (input_front T.times self.old node) t.now }
-        ensures stands { (h : List (Event T)) → Stands T.times self.old h
+        ensures stands { (h : List (Event T)) → Represents T.times self.old h
             → result
             ≡ has_passed T.times (input_frontier_on T.times self.old h node) t.now }
     {
@@ -65,7 +65,7 @@ impl<T: Minimum> Board<T> {
             SameElements found (front T.times self.old node)) }
         ensures beyond { IfOk result (λ found. (t : T)
             → is_beyond T.times found t ≡ is_beyond T.times (front T.times self.old node) t) }
-        ensures stands { (h : List (Event T)) → Stands T.times self.old h
+        ensures stands { (h : List (Event T)) → Represents T.times self.old h
             → IfOk result (λ found.
             SameElements found (frontier_on T.times self.old h node)) }
         ensures refused { OnlyMemory result }
@@ -86,7 +86,7 @@ impl<T: Minimum> Board<T> {
             SameElements found (input_front T.times self.old node)) }
         ensures beyond { IfOk result (λ found. (t : T)
             → is_beyond T.times found t ≡ is_beyond T.times (input_front T.times self.old node) t) }
-        ensures stands { (h : List (Event T)) → Stands T.times self.old h
+        ensures stands { (h : List (Event T)) → Represents T.times self.old h
             → IfOk result (λ found.
             SameElements found (input_frontier_on T.times self.old h node)) }
         ensures refused { OnlyMemory result }
@@ -96,7 +96,7 @@ impl<T: Minimum> Board<T> {
     }
 
     /// Times that tell the input frontier of a node: a time is beyond them if and only if it is
-    /// beyond that frontier. A worker keeps them from the turn to the node until it has computed.
+    /// beyond that frontier. A worker keeps them from the notification at the node until it has computed.
     /// Refused only with `OutOfMemory`.
     ///
     /// Cost: that of [`Tally::input_times_of`](progress::Tally::input_times_of).
@@ -105,7 +105,7 @@ impl<T: Minimum> Board<T> {
         ensures kept { self.new ≡ self.old }
         ensures beyond { IfOk result (λ found. (t : T)
             → is_beyond T.times found t ≡ is_beyond T.times (input_front T.times self.old node) t) }
-        ensures stands { (h : List (Event T)) → Stands T.times self.old h
+        ensures stands { (h : List (Event T)) → Represents T.times self.old h
             → IfOk result (λ found. (t : T) → is_beyond T.times found t
             ≡ is_beyond T.times (input_frontier_on T.times self.old h node) t) }
         ensures refused { OnlyMemory result }
@@ -127,7 +127,7 @@ impl<T: Minimum> Board<T> {
             SameElements found (port_front T.times self.old node port)) }
         ensures beyond { IfOk result (λ found. (t : T) → is_beyond T.times found t
             ≡ is_beyond T.times (port_front T.times self.old node port) t) }
-        ensures stands { (h : List (Event T)) → Stands T.times self.old h
+        ensures stands { (h : List (Event T)) → Represents T.times self.old h
             → IfOk result (λ found.
             SameElements found (port_frontier_on T.times self.old h node port)) }
         ensures refused { OnlyMemory result }
@@ -137,7 +137,7 @@ impl<T: Minimum> Board<T> {
     }
 
     /// Whether a worker holds a time at a node that the node's input frontier has passed. If so, it
-    /// may turn to the node by [`Board::take_held`]. Never refused.
+    /// may take a notification at the node by [`Board::take_held`]. Never refused.
     ///
     /// Cost: linear in the times that the worker holds there, and that of
     /// [`Board::input_frontier`].
@@ -145,7 +145,7 @@ impl<T: Minimum> Board<T> {
         requires { node < length self.old.dataflow.nodes }
         ensures kept { self.new ≡ self.old }
         ensures value { result ≡ is_ready T.times self.old worker node }
-        ensures stands { (h : List (Event T)) → Stands T.times self.old h
+        ensures stands { (h : List (Event T)) → Represents T.times self.old h
             → result ≡ list_any
             (has_passed T.times (input_frontier_on T.times self.old h node))
             (held_on T.times self.old h node worker) }

@@ -13,7 +13,7 @@
 ghost use Rattle.std.specs.Prelude.{◌≡◌, ◌<◌, ◌+◌, ◌%◌, List, [], Some, None, IfErr, IfOk, IfSome, length, min, slice_get};
 ghost use Rattle.histories.specs.declared.event.Event.{Event};
 ghost use Rattle.histories.specs.Histories.States.{place};
-ghost use Rattle.machine.specs.Boards.{IsBoard, Stands};
+ghost use Rattle.machine.specs.Boards.{IsBoard, Represents};
 ghost use Rattle.machine.specs.Boards.Pieces.{takable_at, pieces_held, pieces_at, pieces, pieces_on, IsPiece, MayTakeOn, HasNoPieceOn};
 
 use crate::board::Board;
@@ -70,12 +70,12 @@ impl<T: Minimum> Board<T> {
             result ≡ slice_get all (pick % length all) }
         ensures none { result ≡ None → pieces T.times self.old worker ≡ [] }
         ensures piece { IfSome result (IsPiece T.times self.old worker) }
-        ensures stands { (h : List (Event T)) → Stands T.times self.old h
+        ensures stands { (h : List (Event T)) → Represents T.times self.old h
             → IfSome result (MayTakeOn T.times self.old h worker) }
-        ensures numbered { (h : List (Event T)) → Stands T.times self.old h
+        ensures numbered { (h : List (Event T)) → Represents T.times self.old h
             → let all = pieces_on T.times self.old h worker in
             result ≡ slice_get all (pick % length all) }
-        ensures idle { (h : List (Event T)) → Stands T.times self.old h
+        ensures idle { (h : List (Event T)) → Represents T.times self.old h
             → result ≡ None → HasNoPieceOn T.times self.old h worker }
     {
         self.pick(worker, pick)

@@ -6,7 +6,7 @@ ghost use Rattle.update.specs.declared.change.Update.{Update};
 ghost use Rattle.histories.specs.declared.event.Event.{Event};
 ghost use Rattle.histories.specs.Histories.Promises.{MeetsQuery};
 ghost use Rattle.histories.specs.Histories.Readings.{ReadsQuery};
-ghost use Rattle.machine.specs.Boards.{state_on, plan_on, IsKeptOf, Stands};
+ghost use Rattle.machine.specs.Boards.{state_on, plan_on, IsKeptOf, Represents};
 
 use crate::board::Board;
 use lattice::Minimum;
@@ -15,10 +15,10 @@ use lattice::Minimum;
 /// frontier has passed, what the node gave is the query. The same holds of any reading of a view,
 /// at times that are passed and that the view's readers still hold. Costs nothing.
 pub fn meets<T: Minimum>(board: &Board<T>)
-    ensures headline { (h : List (Event T)) → Stands T.times board.now h
+    ensures headline { (h : List (Event T)) → Represents T.times board.now h
         → (n : ℕ)
         → MeetsQuery T.times (plan_on board.now h) (state_on T.times board.now h) n }
-    ensures reading { (h : List (Event T)) → Stands T.times board.now h
+    ensures reading { (h : List (Event T)) → Represents T.times board.now h
         → ReadsQuery T.times (plan_on board.now h) (state_on T.times board.now h) }
 {
     board.known();

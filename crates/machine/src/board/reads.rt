@@ -13,7 +13,7 @@ ghost use Rattle.histories.specs.declared.event.Event.{Event};
 ghost use Rattle.histories.specs.Histories.Dataflows.{node_of};
 ghost use Rattle.views.specs.Views.{IsSumRefusal};
 ghost use Rattle.update.specs.Refusals.{OnlyMemory, IsMemoryOrOverflow};
-ghost use Rattle.machine.specs.Boards.{plan_on, frontier_on, changes_on, query_on, IsQuietOn, Stands, IsBoard};
+ghost use Rattle.machine.specs.Boards.{plan_on, frontier_on, changes_on, query_on, IsQuietOn, Represents, IsBoard};
 ghost use Rattle.histories.specs.Histories.Readings.{is_from_start};
 ghost use Rattle.plan.specs.Ancestors.{numbers_below};
 ghost use Rattle.outstanding.specs.Loads.{lot_of};
@@ -106,7 +106,7 @@ impl<T: Minimum> Board<T> {
         ensures refused { IfErr result (IsReadRefusal T.times self.old view t) }
         ensures bag { IfOk result IsBag }
         ensures sum { IfOk result (λ bag. Alike bag (as_of T.times t (captured_of self.old view))) }
-        ensures query { (h : List (Event T)) → Stands T.times self.old h
+        ensures query { (h : List (Event T)) → Represents T.times self.old h
             → IfOk result (λ bag. Alike bag (query_on T.times self.old h view t)) }
     {
         self.read_captured(view, t)
@@ -172,7 +172,7 @@ impl<T: Minimum> Board<T> {
         ensures kept { self.new ≡ self.old }
         ensures accepted { OnOk result (changes_refusal_on T.times self.old view ≡ None) }
         ensures refused { IfErr result (IsChangesRefusal T.times self.old view) }
-        ensures differences { (h : List (Event T)) → Stands T.times self.old h
+        ensures differences { (h : List (Event T)) → Represents T.times self.old h
             → IfOk result (λ us. AreDifferences T.times T.cmp (plan_on self.old h).nodes
             (changes_on T.times self.old h) (frontier_on T.times self.old h view)
             view us.items) }
@@ -255,7 +255,7 @@ impl<T: Minimum> Board<T> {
     pub fn is_quiet(&mut self) -> bool
         ensures kept { self.new ≡ self.old }
         ensures value { result ≡ is_quiet_board T.times self.old }
-        ensures quiet { (h : List (Event T)) → Stands T.times self.old h
+        ensures quiet { (h : List (Event T)) → Represents T.times self.old h
             → (IsTrue result ↔ IsQuietOn T.times self.old h) }
     {
         self.rests()

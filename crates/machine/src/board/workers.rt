@@ -9,7 +9,7 @@ ghost use Rattle.histories.specs.declared.event.Event.TheVariants.{Take};
 ghost use Rattle.histories.specs.Histories.Dataflows.{node_of};
 ghost use Rattle.histories.specs.Histories.States.{update_times};
 ghost use Rattle.outstanding.specs.Loads.{queue_of};
-ghost use Rattle.machine.specs.Boards.{IsBoard, Stands, after_look, after_take, after_turn};
+ghost use Rattle.machine.specs.Boards.{IsBoard, Represents, after_look, after_take, after_notification};
 ghost use Rattle.machine.specs.Boards.Reads.{is_ready};
 
 use crate::board::Board;
@@ -44,8 +44,8 @@ impl<T: Minimum> Board<T> {
         ensures taken { IfOk result (λ bundle. self.new ≡ after_take number bundle self.old) }
         ensures refused { OnlyMemory result }
         ensures unchanged { OnErr result (self.new ≡ after_look place.worker self.old) }
-        ensures stands { (h : List (Event T)) → Stands T.times self.old h
-            → Stands T.times self.new (self.new.last ∷ h) }
+        ensures stands { (h : List (Event T)) → Represents T.times self.old h
+            → Represents T.times self.new (self.new.last ∷ h) }
     {
         self.try_take(place, number)
     }
@@ -95,17 +95,17 @@ impl<T: Minimum> Board<T> {
         requires within { node < length self.old.dataflow.nodes }
         requires free { get_or self.old.hand worker None ≡ None }
         requires ready { IsTrue (is_ready T.times self.old worker node) }
-        ensures turned { self.new ≡ after_turn worker node self.old }
-        ensures stands { (h : List (Event T)) → Stands T.times self.old h
-            → Stands T.times self.new (self.new.last ∷ h) }
+        ensures notified { self.new ≡ after_notification worker node self.old }
+        ensures stands { (h : List (Event T)) → Represents T.times self.old h
+            → Represents T.times self.new (self.new.last ∷ h) }
     {
-        self.turn(worker, node);
+        self.notify(worker, node);
     }
 
     // Changes the board as `take_held` says. `take_held` adds what that means for histories.
-    fn turn(&mut self, worker: usize, node: NodeId)
+    fn notify(&mut self, worker: usize, node: NodeId)
         requires { worker < self.old.dataflow.workers }
-        ensures turned { self.new ≡ after_turn worker node self.old }
+        ensures notified { self.new ≡ after_notification worker node self.old }
         ensures board { IsBoard self.old }
     {
         self.hand[worker] = Some(node);

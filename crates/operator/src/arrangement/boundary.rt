@@ -12,7 +12,7 @@ ghost use Rattle.antichain.specs.Antichains.{IsFrontier};
 ghost use Rattle.batch.specs.Descriptions.{BatchState};
 ghost use Rattle.trace.specs.Readings.{Insertion, reached};
 ghost use Rattle.spine.specs.HoldRules.{forbids};
-ghost use Rattle.spine.specs.Spines.{Stands, boundaries};
+ghost use Rattle.spine.specs.Spines.{Represents, boundaries};
 ghost use Rattle.operator.specs.Arrangements.{AreInTurn, IsOpen, upper_of};
 ghost use Rattle.operator_laws.specs.JoinNodes.{on_top};
 
@@ -63,7 +63,7 @@ impl<T: Minimum> Arrangement<T> {
     /// Cost: two comparisons of frontiers for each batch up to there.
     pub fn boundary_after(&self, acknowledged: &[T]) -> Option<&[T]>
         ensures next { (inserted later taken : List (Insertion T)) (next : Insertion T)
-            → Stands T.times self.now.spine inserted
+            → Represents T.times self.now.spine inserted
             → AreInTurn T.times self.now.spine.list.start inserted
             → IsOpen T.times self.now.spine inserted
             → inserted ≡ on_top later (next ∷ taken)

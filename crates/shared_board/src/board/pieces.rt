@@ -35,7 +35,7 @@ pub enum Taken<T: Minimum> {
         more: bool,
     },
     /// A node, where it holds a time that the input frontier has passed.
-    Turned {
+    Notified {
         /// The node.
         node: NodeId,
         /// Times that tell the input frontier: what is beyond them is beyond it.
@@ -91,7 +91,7 @@ impl<T: Minimum> SharedBoard<T> {
     {
         match piece {
             Piece::Waiting { site, number } => self.take_at(*site, *number),
-            Piece::Held { node } => self.turn_to(worker, *node),
+            Piece::Held { node } => self.notify(worker, *node),
         }
     }
 
@@ -135,7 +135,7 @@ impl<T: Minimum> SharedBoard<T> {
 
     // A worker turns to the times that it holds at a node, of which the input frontier has passed
     // one.
-    fn turn_to(&mut self, worker: usize, node: NodeId) -> Result<Taken<T>, Refusal>
+    fn notify(&mut self, worker: usize, node: NodeId) -> Result<Taken<T>, Refusal>
         requires worker { worker < self.old.board.dataflow.workers }
         requires within { node < length self.old.board.dataflow.nodes }
         requires free { get_or self.old.board.hand worker None ≡ None }
@@ -153,7 +153,7 @@ impl<T: Minimum> SharedBoard<T> {
         match self.board.input_times(node) {
             Ok(upper) => {
                 self.board.take_held(worker, node);
-                Ok(Taken::Turned { node, upper })
+                Ok(Taken::Notified { node, upper })
             }
             Err(refusal) => {
                 self.board.look(worker);

@@ -1,7 +1,7 @@
 use Rattle.std.proofs.Common.{rules, ◌≡◌, ◌∷◌, ◌∙◌, ℕ, sym, ap}
 use Rattle.std.specs.Prelude.{slice_get}
 use Rattle.lattice.specs.declared.product.Pair.{Pair}
-use Rattle.hub.specs.Known.{Known}
+use Rattle.hub.specs.PassViews.{PassView}
 use Rattle.shared_board.specs.declared.event.BoardEvent.{BoardEvent}
 use Rattle.shared_board.specs.Tenures.{opening_in}
 use Rattle.client_trials.specs.Plans.{counted_rows}
@@ -17,10 +17,10 @@ pub loop-client-preserved : goal.loop-client-preserved
 loop-client-preserved g c k a there =
     let l = c.loop-client in
     let next : l.client-iterator.rest.items ≡ c.in-Some.client ∷ c.next.new.self.rest.items = search rules in
-    each_behind (λ k (p : Known (BoardEvent (Pair ℕ ℕ))). (opening_in p.seen).dataflow.nodes ≡ counted_rows) _ _ c.in-Some.client next l.invariant k a there
+    each_behind (λ k (p : PassView (BoardEvent (Pair ℕ ℕ))). (opening_in p.seen).dataflow.nodes ≡ counted_rows) _ _ c.in-Some.client next l.invariant k a there
 
 pub invariant_of-push : goal.invariant_of-push
 invariant_of-push g c =
     let l = c.loop-client in
     let next : l.client-iterator.rest.items ≡ c.in-Some.client ∷ c.next.new.self.rest.items = search rules in
-    record { knows = first_of (λ k (p : Known (BoardEvent (Pair ℕ ℕ))). (opening_in p.seen).dataflow.nodes ≡ counted_rows) _ _ c.in-Some.client next l.invariant }
+    record { knows = first_of (λ k (p : PassView (BoardEvent (Pair ℕ ℕ))). (opening_in p.seen).dataflow.nodes ≡ counted_rows) _ _ c.in-Some.client next l.invariant }

@@ -9,7 +9,7 @@ use Rattle.key_history.specs.Settlements.{Settling}
 use Rattle.correction.proofs.KeyedLemmas.{own_kept}
 use Rattle.correction.proofs.ResultLemmas.{passed_on}
 use Rattle.key_history.specs.Sweeps.{AreMeets, IsSweep}
-use Rattle.key_history.specs.Replays.{StandsEver, on_the_way}
+use Rattle.key_history.specs.Replays.{AgreeEver, on_the_way}
 use Rattle.key_history.proofs.PastLemmas.{on_the_times}
 use Rattle.key_history.proofs.SweepLemmas.{begun, drop_one, least_first, slice_whole}
 use Rattle.key_history.proofs.SettleLemmas.{first_of, stepped, overfull, own_from}
@@ -23,7 +23,7 @@ loop-i-init g c =
     let none : h.given ++ c.in_ok-with_capacity.field-0.items ≡ h.given = ap (λ z. h.given ++ z) c.in_ok-with_capacity.ensures.items ∙ append-nil h.given in
     let meets = subst (λ z. AreMeets times z c.as_slice.result.now) c.due-due.ensures (subst (λ z. AreMeets times c.due-due.result.now z) (sym c.as_slice.ensures.value) c.in_ok-meets.ensures.meets) in
     let rows =
-    subst (λ us. StandsEver times us (on_the_way s.rows.near.items s.rows.later.items s.rows.entered)) (ap (λ us. c.args.rows.now ++ us) c.new-none.ensures ∙ append-nil c.args.rows.now) c.in_ok-of-2.ensures.stands in
+    subst (λ us. AgreeEver times us (on_the_way s.rows.near.items s.rows.later.items s.rows.entered)) (ap (λ us. c.args.rows.now ++ us) c.new-none.ensures ∙ append-nil c.args.rows.now) c.in_ok-of-2.ensures.stands in
     let had = on_the_times times c.first_of.result h.due h.given (c.seen_from-from.result.0.now ++ drop c.seen_from-from.result.2 c.seen_from-from.result.1.now) (on_the_way s.had.near.items s.had.later.items s.had.entered)
     (least_first times h.due c.as_slice.result.now meets c.first_of.result c.first_of.ensures) c.seen_from-from.ensures.stands c.in_ok-of-3.ensures.stands in (
       rw c.in_ok-with_capacity.ensures.items refl,

@@ -9,7 +9,7 @@ use Rattle.plan.specs.declared.node.Node.{Node}
 use Rattle.engines.specs.Answers.{FindsRows}
 use Rattle.engines.specs.Bounds.{EndsByBound}
 use Rattle.script.specs.Reads.{last_session}
-use Rattle.crews.specs.BoardStates.{StandsAs}
+use Rattle.crews.specs.BoardStates.{HasSessionOf}
 use Rattle.engines.specs.Bitemporal.{BitemporalSession, opening_session}
 use Rattle.script.proofs.reads.read_twice.Goals as goal
 
@@ -35,7 +35,7 @@ ended s p q (Err refusal) e h = inl (subst (λ (plan : List Node). EndsByBound p
 pub returns-clause-first : goal.returns-clause-first
 returns-clause-first g c =
     let t = c.args.script.now in
-    let opened = subst (λ (p : List Node). StandsAs bitime_times c.in_ok-crew.crew (opening_session p)) c.plan.ensures.plan c.in_ok-crew.ensures.stands in
+    let opened = subst (λ (p : List Node). HasSessionOf bitime_times c.in_ok-crew.crew (opening_session p)) c.plan.ensures.plan c.in_ok-crew.ensures.stands in
     let ahead = c.run_ahead.ensures.stands (last_session t) (c.in_ok-follow_all.ensures.stands (opening_session t.plan) opened) in
     first_of (last_session t) c.args.reads.view c.args.reads.first c.args.reads.second _ t.plan c.ask_twice.result
     (ap (λ flow. flow.nodes) c.run_ahead.ensures.plan ∙ c.follow_all.ensures.plan ∙ c.in_ok-crew.ensures.plan ∙ c.plan.ensures.plan)
@@ -44,7 +44,7 @@ returns-clause-first g c =
 pub returns-clause-second : goal.returns-clause-second
 returns-clause-second g c =
     let t = c.args.script.now in
-    let opened = subst (λ (p : List Node). StandsAs bitime_times c.in_ok-crew.crew (opening_session p)) c.plan.ensures.plan c.in_ok-crew.ensures.stands in
+    let opened = subst (λ (p : List Node). HasSessionOf bitime_times c.in_ok-crew.crew (opening_session p)) c.plan.ensures.plan c.in_ok-crew.ensures.stands in
     let ahead = c.run_ahead.ensures.stands (last_session t) (c.in_ok-follow_all.ensures.stands (opening_session t.plan) opened) in
     second_of (last_session t) c.args.reads.view c.args.reads.first c.args.reads.second _ t.plan c.ask_twice.result
     (ap (λ flow. flow.nodes) c.run_ahead.ensures.plan ∙ c.follow_all.ensures.plan ∙ c.in_ok-crew.ensures.plan ∙ c.plan.ensures.plan)
@@ -53,7 +53,7 @@ returns-clause-second g c =
 pub returns-clause-refused : goal.returns-clause-refused
 returns-clause-refused g c =
     let t = c.args.script.now in
-    let opened = subst (λ (p : List Node). StandsAs bitime_times c.in_ok-crew.crew (opening_session p)) c.plan.ensures.plan c.in_ok-crew.ensures.stands in
+    let opened = subst (λ (p : List Node). HasSessionOf bitime_times c.in_ok-crew.crew (opening_session p)) c.plan.ensures.plan c.in_ok-crew.ensures.stands in
     let ahead = c.run_ahead.ensures.stands (last_session t) (c.in_ok-follow_all.ensures.stands (opening_session t.plan) opened) in
     ended (last_session t) _ t.plan c.ask_twice.result
     (ap (λ flow. flow.nodes) c.run_ahead.ensures.plan ∙ c.follow_all.ensures.plan ∙ c.in_ok-crew.ensures.plan ∙ c.plan.ensures.plan)

@@ -3,7 +3,7 @@ use Rattle.std.proofs.lemmas.Result.{err_from_is_err_and}
 use Rattle.lattice.specs.Bitimes.{bitime_times}
 use Rattle.grammar.specs.declared.command.CommandLine.{CommandLine}
 use Rattle.engines.specs.Bounds.{EndsByBound, ends_by_bound}
-use Rattle.crews.specs.BoardStates.{StandsAs}
+use Rattle.crews.specs.BoardStates.{HasSessionOf}
 use Rattle.engines.specs.Bitemporal.{BitemporalSession}
 use Rattle.script.specs.Text.{HoldsAlong, after_command, after_lines, piece, lines_text}
 use Rattle.script.proofs.EndLemmas.{crew_weaker, cause_of_crew_end}
@@ -22,7 +22,7 @@ loop-line-preserved g c =
     let before = λ (s : BitemporalSession). after_lines t.plan s (take i t.commands) in
     record {
       plan = grind arith;
-      stands = λ s h. subst (StandsAs bitime_times c.run_crew_line.new.crew) (after_more t.commands i line within is t.plan s) (c.in_ok-run_crew_line.ensures.ran (before s) (c.loop-line.invariant.stands s h)).0;
+      stands = λ s h. subst (HasSessionOf bitime_times c.run_crew_line.new.crew) (after_more t.commands i line within is t.plan s) (c.in_ok-run_crew_line.ensures.ran (before s) (c.loop-line.invariant.stands s h)).0;
       wrote = λ s h.
           wrote_more g.W.Out.took g.met.W.Out.in_turn c.args.out.now c.loop-line.out c.run_crew_line.new.out c.args.buffer.now
           (lines_text t s (take i t.commands)) c.loop-line.buffer (piece t (before s) line.line line.command) c.run_crew_line.new.buffer

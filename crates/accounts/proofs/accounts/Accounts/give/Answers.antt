@@ -25,21 +25,21 @@ after_give g c =
       counted_give a cut c.args.held c.args.cut.sent within staffed c.self.inside.tally.items c.announce.new.tally.items c.self.invariant c.in-Ok.ensures.counted,
     )
 
-pub settle-requires-clause-held : goal.settle-requires-clause-held
-settle-requires-clause-held g c =
+pub count_moved-requires-clause-held : goal.count_moved-requires-clause-held
+count_moved-requires-clause-held g c =
     let cut = c.args.cut.given in
     let mid = c.announce.new.tally.items in
     subst (λ (all : List (List (Lot g.row.T.Denot))). AreCounted mid (items_held_by all cut.node cut.worker)) (sym c.announce.ensures.stations)
-    (after_give g (goal.at.settle-requires-clause-held g c).In-Ok).0
+    (after_give g (goal.at.count_moved-requires-clause-held g c).In-Ok).0
 
 pub invariant_of-self-2 : goal.invariant_of-self-2
 invariant_of-self-2 g c =
     let cut = c.args.cut.given in
     let mid = c.announce.new.tally.items in
-    let new = c.settle.new.tally.items in
-    let removed = subst (λ (all : List (List (Lot g.row.T.Denot))). SameCounts (items_held_by all cut.node cut.worker ++ new) mid) c.announce.ensures.stations c.settle.ensures.counted in
-    let moved = c.settle.ensures.stations
+    let new = c.count_moved.new.tally.items in
+    let removed = subst (λ (all : List (List (Lot g.row.T.Denot))). SameCounts (items_held_by all cut.node cut.worker ++ new) mid) c.announce.ensures.stations c.count_moved.ensures.counted in
+    let moved = c.count_moved.ensures.stations
     ∙ ap₂ (λ ts all. held_from cut.node cut.worker ts (put_all c.args.cut.sent all)) c.in-Ok.ensures.held c.announce.ensures.stations in
     subst (λ (x : AccountState g.row.T.Denot). IsCounted x new)
-    (ap₂ (λ nodes stations. record { nodes = nodes; stations = stations; inputs = c.self.inside.inputs }) (sym (c.settle.ensures.nodes ∙ c.announce.ensures.nodes)) (sym moved))
+    (ap₂ (λ nodes stations. record { nodes = nodes; stations = stations; inputs = c.self.inside.inputs }) (sym (c.count_moved.ensures.nodes ∙ c.announce.ensures.nodes)) (sym moved))
     ((after_give g (goal.at.invariant_of-self-2 g c).In-Ok).1 new removed)

@@ -47,28 +47,28 @@ invariant_of-self-in-Err-captured_by g c =
     (ap₂ (λ nodes stations. record { nodes = nodes; stations = stations; inputs = c.self.inside.inputs }) (sym (c.withdraw-held.ensures.nodes ∙ c.announce.ensures.nodes)) (sym (c.withdraw-held.ensures.stations ∙ c.announce.ensures.stations)))
     (recounted a items new c.self.invariant (taken_back (items_given (lots c.self.inside.stations) c.args.cut.given c.args.held c.args.cut.sent) items mid new c.in-Ok.ensures.counted removed))
 
-pub settle-requires-clause-held : goal.settle-requires-clause-held
-settle-requires-clause-held g c =
+pub count_moved-requires-clause-held : goal.count_moved-requires-clause-held
+count_moved-requires-clause-held g c =
     let cut = c.args.cut.given in
     let mid = c.announce.new.tally.items in
     subst (λ xs. AreCounted mid xs)
     (ap (λ (all : List (List (Lot g.row.T.Denot))). items_held_by all cut.node cut.worker) (sym c.announce.ensures.stations)
     ∙ ap₂ (λ n k. items_held_by (lots c.announce.new.stations) n k) (sym c.captured_by.ensures.node) (sym c.captured_by.ensures.worker))
-    (after_give g (goal.at.settle-requires-clause-held g c).In-Ok).0
+    (after_give g (goal.at.count_moved-requires-clause-held g c).In-Ok).0
 
 pub invariant_of-self-2 : goal.invariant_of-self-2
 invariant_of-self-2 g c =
     let cut = c.args.cut.given in
     let mid = c.announce.new.tally.items in
-    let new = c.settle.new.tally.items in
+    let new = c.count_moved.new.tally.items in
     let after = c.captured_by.new.self in
     let held = ap₂ (λ n k. items_held_by (lots c.announce.new.stations) n k) c.captured_by.ensures.node c.captured_by.ensures.worker
     ∙ ap (λ (all : List (List (Lot g.row.T.Denot))). items_held_by all cut.node cut.worker) c.announce.ensures.stations in
-    let removed = subst (λ xs. SameCounts (xs ++ new) mid) held c.settle.ensures.counted in
-    let moved = c.settle.ensures.stations
+    let removed = subst (λ xs. SameCounts (xs ++ new) mid) held c.count_moved.ensures.counted in
+    let moved = c.count_moved.ensures.stations
     ∙ (ap₂ (λ n k. held_from n k c.in-Ok.next (put_all after.sent (lots c.announce.new.stations))) c.captured_by.ensures.node c.captured_by.ensures.worker
     ∙ (ap (λ ts. held_from cut.node cut.worker ts (put_all after.sent (lots c.announce.new.stations))) c.in-Ok.ensures.held
     ∙ ap₂ (λ bs all. held_from cut.node cut.worker c.args.held (put_all bs all)) c.captured_by.ensures.sent c.announce.ensures.stations)) in
     subst (λ (x : AccountState g.row.T.Denot). IsCounted x new)
-    (ap₂ (λ nodes stations. record { nodes = nodes; stations = stations; inputs = c.self.inside.inputs }) (sym (c.settle.ensures.nodes ∙ c.announce.ensures.nodes)) (sym moved))
+    (ap₂ (λ nodes stations. record { nodes = nodes; stations = stations; inputs = c.self.inside.inputs }) (sym (c.count_moved.ensures.nodes ∙ c.announce.ensures.nodes)) (sym moved))
     ((after_give g (goal.at.invariant_of-self-2 g c).In-Ok).1 new removed)

@@ -1,6 +1,6 @@
 use Rattle.std.proofs.Common.{◌≡◌, true, ℕ, subst}
 use Rattle.lattice.specs.Bitimes.{bitime_times}
-use Rattle.hub.specs.Known.{Known}
+use Rattle.hub.specs.PassViews.{PassView}
 use Rattle.lattice.specs.declared.product.Pair.{Pair}
 use Rattle.histories.specs.declared.event.Event.TheVariants.{Look}
 use Rattle.shared_board.specs.Found.{dataflow_of}
@@ -8,7 +8,7 @@ use Rattle.shared_board.specs.Tenures.{state_found, state_left}
 use Rattle.shared_board.specs.declared.event.BoardEvent.{BoardEvent}
 use Rattle.engines.specs.Bounds.{IsLarge}
 use Rattle.engines.proofs.BitimeLemmas.{bitime_bounds, bitime_extends, bitime_order, bitime_total}
-use Rattle.crews.specs.BoardStates.{StandsAs}
+use Rattle.crews.specs.BoardStates.{HasSessionOf}
 use Rattle.crews.proofs.BoardStateLemmas.{client_step, large_session, session_found, still_stands}
 use Rattle.crews.proofs.TurnLemmas.{never}
 use Rattle.crews.proofs.crew.Crew.is_too_large.Goals as goal
@@ -26,6 +26,6 @@ returns-clause-cause g c s =
     let k = c.self.inside.client in
     let new = c.is_too_large.new.self in
     let step = client_step bitime_times bitime_order k new (Look k.number) c.self.invariant.0 c.self.invariant.1 c.known.ensures c.in-Ok.ensures.0 in
-    subst (λ (e : Known (BoardEvent (Pair ℕ ℕ))). StandsAs bitime_times e s → c.in-Ok.large ≡ true → IsLarge (dataflow_of e).nodes s) c.self.view_is
+    subst (λ (e : PassView (BoardEvent (Pair ℕ ℕ))). HasSessionOf bitime_times e s → c.in-Ok.large ≡ true → IsLarge (dataflow_of e).nodes s) c.self.view_is
     (λ a told. large_session bitime_order bitime_bounds bitime_extends bitime_total (dataflow_of k) (state_found bitime_times new) s step.dataflow
     (session_found bitime_times bitime_order (dataflow_of k) (state_left bitime_times k) (state_found bitime_times new) s step.clients a) (c.in-Ok.ensures.1 told))

@@ -1,7 +1,7 @@
 use Rattle.std.proofs.Common.{rules, ℕ, ℤ, List, FitsSigned, w64, subst}
 use Rattle.std.proofs.lemmas.Int.{to_z-of_z}
 use Rattle.lattice.specs.Bitimes.{bitime_times}
-use Rattle.hub.specs.Known.{Known}
+use Rattle.hub.specs.PassViews.{PassView}
 use Rattle.lattice.specs.declared.product.Pair.{Pair}
 use Rattle.histories.specs.declared.event.Fed.{Fed}
 use Rattle.shared_board.specs.Calls.{IsFed}
@@ -9,7 +9,7 @@ use Rattle.shared_board.specs.Found.{dataflow_of}
 use Rattle.shared_board.specs.declared.event.BoardEvent.{BoardEvent}
 use Rattle.engines.specs.Answers.{TakesChange}
 use Rattle.engines.proofs.BitimeLemmas.{bitime_order}
-use Rattle.crews.specs.BoardStates.{StandsAs}
+use Rattle.crews.specs.BoardStates.{HasSessionOf}
 use Rattle.session.specs.Clients.{row_fed}
 use Rattle.crews.proofs.BoardStateLemmas.{change_answered}
 use Rattle.crews.proofs.TurnLemmas.{ends_of}
@@ -25,5 +25,5 @@ returns-clause-answered g c s =
     let IsSent : List ℤ → ℤ → Type 0 = λ columns d. IsFed bitime_times ⊥ k new (row_fed c.args.input columns c.args.update.time d) c.feed-told.result in
     let fed = subst (λ columns. IsSent columns diff) c.columns-columns.ensures.columns (subst (IsSent c.columns-columns.result.now) (to_z-of_z w64 diff fits) c.feed-told.ensures) in
     let e = ends_of k new _ _ _ c.feed-told.result fed in
-    subst (λ (x : Known (BoardEvent (Pair ℕ ℕ))). StandsAs bitime_times x s → TakesChange (dataflow_of x).nodes s f (StandsAs bitime_times new) c.feed-told.result) c.self.view_is
+    subst (λ (x : PassView (BoardEvent (Pair ℕ ℕ))). HasSessionOf bitime_times x s → TakesChange (dataflow_of x).nodes s f (HasSessionOf bitime_times new) c.feed-told.result) c.self.view_is
     (λ a. change_answered bitime_times bitime_order k new c.self.invariant.0 c.self.invariant.1 c.known.ensures s c.feed-told.result a f e.done e.accepted e.refused e.looked)

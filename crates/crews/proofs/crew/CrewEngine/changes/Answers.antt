@@ -1,6 +1,6 @@
 use Rattle.std.proofs.Common.{ℕ, List, sym, subst, ◌∙◌}
 use Rattle.lattice.specs.Bitimes.{bitime_times}
-use Rattle.hub.specs.Known.{Known}
+use Rattle.hub.specs.PassViews.{PassView}
 use Rattle.lattice.specs.declared.product.Pair.{Pair}
 use Rattle.std.specs.Prelude.{Result}
 use Rattle.update.specs.declared.change.Update.{Update}
@@ -11,7 +11,7 @@ use Rattle.shared_board.specs.declared.event.BoardEvent.{BoardEvent}
 use Rattle.engines.specs.Answers.{FindsChanges}
 use Rattle.engines.specs.Bounds.{IsLarge, EndsByBound}
 use Rattle.engines.proofs.BitimeLemmas.{bitime_bounds, bitime_extends, bitime_order, bitime_total}
-use Rattle.crews.specs.BoardStates.{StandsAs}
+use Rattle.crews.specs.BoardStates.{HasSessionOf}
 use Rattle.crews.proofs.ReadLemmas.{changes_found, large_changes, refused_alike, same_changes_refusal}
 use Rattle.crews.proofs.BoardStateLemmas.{asked_of, still_stands}
 use Rattle.crews.proofs.TurnLemmas.{answers_of, refused_there}
@@ -35,7 +35,7 @@ returns-clause-answered g c s =
     let w = state_found bitime_times new in
     let asked = asked_of bitime_times bitime_order k new c.self.invariant.0 c.self.invariant.1 c.known.ensures answer.looked c.self.view_is v c.requires.view c.requires.caught_up in
     let Changes : Type 0 = List (Update (Pair ℕ ℕ)) in
-    let Answered : Known (BoardEvent (Pair ℕ ℕ)) → Result Changes Refusal → Type 0 = λ e r. StandsAs bitime_times e s
+    let Answered : PassView (BoardEvent (Pair ℕ ℕ)) → Result Changes Refusal → Type 0 = λ e r. HasSessionOf bitime_times e s
     → FindsChanges (EndsByBound (dataflow_of e).nodes s) (dataflow_of e).nodes s v r in
     subst (λ e. Answered e c.match-changes.result) c.self.view_is
     (elim c.match-changes.branch [

@@ -1,6 +1,6 @@
 use Rattle.std.proofs.Common.{◌≡◌, ℕ, List, refl, inl, inr, sym, subst}
 use Rattle.lattice.specs.Bitimes.{bitime_times}
-use Rattle.hub.specs.Known.{Known}
+use Rattle.hub.specs.PassViews.{PassView}
 use Rattle.lattice.specs.declared.product.Pair.{Pair}
 use Rattle.std.specs.Prelude.{Result}
 use Rattle.update.specs.declared.refusal.Refusal.{Refusal}
@@ -11,7 +11,7 @@ use Rattle.shared_board.specs.declared.event.BoardEvent.{BoardEvent}
 use Rattle.engines.specs.Answers.{FindsFrontier}
 use Rattle.engines.specs.Bounds.{EndsByBound}
 use Rattle.engines.proofs.BitimeLemmas.{bitime_extends, bitime_order, bitime_total}
-use Rattle.crews.specs.BoardStates.{StandsAs}
+use Rattle.crews.specs.BoardStates.{HasSessionOf}
 use Rattle.crews.proofs.ReadLemmas.{frontier_found}
 use Rattle.crews.proofs.BoardStateLemmas.{asked_of, still_stands}
 use Rattle.crews.proofs.TurnLemmas.{answers_of, refused_there}
@@ -32,7 +32,7 @@ returns-clause-answered g c s =
     let answer = answers_of k new _ _ c.probe-frontier.result c.probe-frontier.ensures in
     let v = c.args.view in
     let asked = asked_of bitime_times bitime_order k new c.self.invariant.0 c.self.invariant.1 c.known.ensures answer.looked c.self.view_is v c.requires.view c.requires.caught_up in
-    let Answered : Known (BoardEvent (Pair ℕ ℕ)) → Result (List (Pair ℕ ℕ)) Refusal → Type 0 = λ e r. StandsAs bitime_times e s
+    let Answered : PassView (BoardEvent (Pair ℕ ℕ)) → Result (List (Pair ℕ ℕ)) Refusal → Type 0 = λ e r. HasSessionOf bitime_times e s
     → FindsFrontier (EndsByBound (dataflow_of e).nodes s) (dataflow_of e).nodes s v r in
     subst (λ e. Answered e c.match-frontier.result) c.self.view_is
     (elim c.match-frontier.branch [

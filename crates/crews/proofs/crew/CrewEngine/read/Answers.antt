@@ -1,7 +1,7 @@
 use Rattle.std.proofs.Common.{ℕ, subst}
 use Rattle.std.proofs.lemmas.Result.{IfOk-weaker}
 use Rattle.lattice.specs.Bitimes.{bitime_times}
-use Rattle.hub.specs.Known.{Known}
+use Rattle.hub.specs.PassViews.{PassView}
 use Rattle.lattice.specs.declared.product.Pair.{Pair}
 use Rattle.update.specs.Bags.{HasLargeCount}
 use Rattle.plan.specs.Changes.{query_at}
@@ -12,7 +12,7 @@ use Rattle.shared_board.specs.declared.event.BoardEvent.{BoardEvent}
 use Rattle.engines.specs.Answers.{FindsRows}
 use Rattle.engines.specs.Bounds.{IsLarge, EndsByBound}
 use Rattle.engines.proofs.BitimeLemmas.{bitime_bounds, bitime_extends, bitime_order, bitime_total}
-use Rattle.crews.specs.BoardStates.{StandsAs}
+use Rattle.crews.specs.BoardStates.{HasSessionOf}
 use Rattle.crews.proofs.ReadLemmas.{read_answered, large_read}
 use Rattle.crews.proofs.BoardStateLemmas.{asked_of, still_stands}
 use Rattle.crews.proofs.TurnLemmas.{answers_of, on_ok_of}
@@ -35,7 +35,7 @@ returns-clause-answered g c s =
     let p = dataflow_of k in
     let w = state_found bitime_times new in
     let asked = asked_of bitime_times bitime_order k new c.self.invariant.0 c.self.invariant.1 c.known.ensures answer.looked c.self.view_is v c.requires.view c.requires.caught_up in
-    subst (λ (e : Known (BoardEvent (Pair ℕ ℕ))). StandsAs bitime_times e s → FindsRows (EndsByBound (dataflow_of e).nodes s) (dataflow_of e).nodes s v t c.read-rows.result) c.self.view_is
+    subst (λ (e : PassView (BoardEvent (Pair ℕ ℕ))). HasSessionOf bitime_times e s → FindsRows (EndsByBound (dataflow_of e).nodes s) (dataflow_of e).nodes s v t c.read-rows.result) c.self.view_is
     (λ a. read_answered bitime_times bitime_order p asked.dataflow w s (asked.found s a) v asked.caught t
     (HasLargeCount (query_at bitime_times p.nodes (changes_in w) v t)) (IsLarge p.nodes s) c.read-rows.result
     (large_read bitime_order bitime_bounds bitime_extends bitime_total p asked.dataflow w s (asked.found s a) v asked.within t)

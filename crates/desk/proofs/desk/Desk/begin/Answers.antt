@@ -5,7 +5,7 @@ use Rattle.update.specs.Refusals.{IsMemoryOrOverflow}
 use Rattle.histories.specs.Histories.{state_after}
 use Rattle.desk_laws.specs.Own.{DeskView, gives_passed, hand_node}
 use Rattle.desk_laws.specs.declared.hand.Hand.{Hand}
-use Rattle.desk_laws.specs.declared.hand.Hand.TheVariants.{Taken, Turned}
+use Rattle.desk_laws.specs.declared.hand.Hand.TheVariants.{Taken, Notified}
 use Rattle.desk.specs.Desks.{IsComputed, IsRight, IsTooLarge, Leads}
 use Rattle.desk.proofs.PassedOnLemmas.{by_laid, if_some_always, passed_leads, passed_rows, passed_too_large}
 use Rattle.desk.proofs.ResultLemmas.{if_err_at, memory_or}
@@ -17,20 +17,20 @@ returns-in_err-laid-clause-refused g c =
     let p = err_from_is_err_and c.from_residual-in_err-laid.result c.from_residual-in_err-laid.ensures.1 in
     if_err_at c.from_residual-in_err-laid.result (IsMemoryOrOverflow (large c.args.hand.now)) c.in_err-laid.field-0.0 p.0 p.1 (cc p.2) (memory_or (λ cause. subst large (sym c.in-Taken.is) cause) c.in_err-laid.ensures.refused)
 
-pub returns-in_err-turned-clause-leads : goal.returns-in_err-turned-clause-leads
-returns-in_err-turned-clause-leads g c p q e es legal k x =
+pub returns-in_err-notified-clause-leads : goal.returns-in_err-notified-clause-leads
+returns-in_err-notified-clause-leads g c p q e es legal k x =
     let w = state_after g.T.PartialOrder.times p es in
     let right : DeskView g.row.T.Denot → Hand g.row.T.Denot → Type 0 = λ d h. IsRight g.T.PartialOrder.times p w k d h in
-    subst (λ h. right c.turn.new.self h) (sym c.in-Turned.is) (subst (λ ts. right c.turn.new.self (Turned c.in-Turned.node ts)) c.as_slice.ensures
-    (c.in_err-turned.ensures.kept p q e es legal k (subst (λ ts. right c.args.self.now (Turned c.in-Turned.node ts)) (sym c.as_slice.ensures) (subst (λ h. right c.args.self.now h) c.in-Turned.is x))))
+    subst (λ h. right c.notify.new.self h) (sym c.in-Notified.is) (subst (λ ts. right c.notify.new.self (Notified c.in-Notified.node ts)) c.as_slice.ensures
+    (c.in_err-notified.ensures.kept p q e es legal k (subst (λ ts. right c.args.self.now (Notified c.in-Notified.node ts)) (sym c.as_slice.ensures) (subst (λ h. right c.args.self.now h) c.in-Notified.is x))))
 
-pub returns-in_err-turned-clause-refused : goal.returns-in_err-turned-clause-refused
-returns-in_err-turned-clause-refused g c =
+pub returns-in_err-notified-clause-refused : goal.returns-in_err-notified-clause-refused
+returns-in_err-notified-clause-refused g c =
     let large : Hand g.row.T.Denot → Type 0 = λ h. IsTooLarge g.T.PartialOrder.times g.T.Ord.cmp c.args.plan.now c.args.self.now h in
-    let r = c.from_residual-in_err-turned.result in
-    let p = err_from_is_err_and r c.from_residual-in_err-turned.ensures.1 in
-    if_err_at r (IsMemoryOrOverflow (large c.args.hand.now)) c.in_err-turned.field-0.0 p.0 p.1 (cc p.2)
-    (memory_or (λ cause. subst large (sym c.in-Turned.is) (subst (λ ts. large (Turned c.in-Turned.node ts)) c.as_slice.ensures cause)) c.in_err-turned.ensures.refused)
+    let r = c.from_residual-in_err-notified.result in
+    let p = err_from_is_err_and r c.from_residual-in_err-notified.ensures.1 in
+    if_err_at r (IsMemoryOrOverflow (large c.args.hand.now)) c.in_err-notified.field-0.0 p.0 p.1 (cc p.2)
+    (memory_or (λ cause. subst large (sym c.in-Notified.is) (subst (λ ts. large (Notified c.in-Notified.node ts)) c.as_slice.ensures cause)) c.in_err-notified.ensures.refused)
 
 pub returns-in-Taken-clause-leads : goal.returns-in-Taken-clause-leads
 returns-in-Taken-clause-leads g c p q e es legal k x =
@@ -52,12 +52,12 @@ returns-in-Taken-clause-node g c =
 pub returns-in-Taken-clause-passed : goal.returns-in-Taken-clause-passed
 returns-in-Taken-clause-passed g c passed = absurd (true≢false (sym passed ∙ ap gives_passed c.in-Taken.is))
 
-pub returns-in_ok-turned-clause-leads : goal.returns-in_ok-turned-clause-leads
-returns-in_ok-turned-clause-leads g c p q e es legal k x =
+pub returns-in_ok-notified-clause-leads : goal.returns-in_ok-notified-clause-leads
+returns-in_ok-notified-clause-leads g c p q e es legal k x =
     let w = state_after g.T.PartialOrder.times p es in
     let right : DeskView g.row.T.Denot → Hand g.row.T.Denot → Type 0 = λ d h. IsRight g.T.PartialOrder.times p w k d h in
-    subst (λ h. right c.turn.new.self h) (sym c.take_in_hand.ensures)
-    (c.in_ok-turned.ensures.leads p q e es legal k (subst (λ ts. right c.args.self.now (Turned c.in-Turned.node ts)) (sym c.as_slice.ensures) (subst (λ h. right c.args.self.now h) c.in-Turned.is x)))
+    subst (λ h. right c.notify.new.self h) (sym c.take_in_hand.ensures)
+    (c.in_ok-notified.ensures.leads p q e es legal k (subst (λ ts. right c.args.self.now (Notified c.in-Notified.node ts)) (sym c.as_slice.ensures) (subst (λ h. right c.args.self.now h) c.in-Notified.is x)))
 
 pub pass_on-requires : goal.pass_on-requires
 pass_on-requires g c =

@@ -5,12 +5,12 @@ use Rattle.std.proofs.lemmas.Option.{none-some, slice_get_within}
 use Rattle.lattice.specs.Frontiers.{all_beyond}
 use Rattle.update.specs.Refusals.{IsMemoryOrOverflow}
 use Rattle.trace.specs.Readings.{Insertion, all_updates}
-use Rattle.spine.specs.Spines.{SpineState, Stands}
+use Rattle.spine.specs.Spines.{SpineState, Represents}
 use Rattle.update.specs.declared.change.Update.{Update}
 use Rattle.plan.specs.Changes.{has_passed}
 use Rattle.operator.specs.Reductions.{IsOverfullWith, IsReduced, ReducingView, SumsToReceived, pending_of}
 use Rattle.desk_laws.specs.Own.{DeskView}
-use Rattle.desk_laws.specs.declared.hand.Hand.TheVariants.{Ready, Turned}
+use Rattle.desk_laws.specs.declared.hand.Hand.TheVariants.{Ready, Notified}
 use Rattle.desk.specs.Desks.{IsTooLarge, Leads}
 use Rattle.desk.proofs.PlaceLemmas.{found_at, set_same}
 use Rattle.desk.proofs.AnswerLemmas.{found_large, found_ok, pending_readable}
@@ -71,7 +71,7 @@ returns-clause-leads g c =
     let here = there ∙ ap Some (sym mine ∙ c.in-Some.is) in
     let after = record d { reductions = set d.reductions c.number.result (Some c.ready.new.self) } in
     let x = c.ready.ensures in
-    if_ok_by c.ready.result (λ out leads. subst (λ y. Leads times c.args.plan.now y (Turned n c.args.upper.now) after (Ready n out)) c.self.view_is leads)
+    if_ok_by c.ready.result (λ out leads. subst (λ y. Leads times c.args.plan.now y (Notified n c.args.upper.now) after (Ready n out)) c.self.view_is leads)
     (found_ok times g.met.T.PartialOrder.order g.met.T.Lattice.bounds c.args.plan.now d n c.requires.reduces.0 c.args.source c.requires.reduces.1 c.args.upper.now c.in-Some.reduction c.ready.new.self here c.arrangement_at.result.now c.arrangement_at.ensures.there
     c.trace-source.result.now c.trace-source.ensures.value c.number.result c.number.ensures c.ready.result x.kept x.stands x.settled x.later x.out_beyond x.rest_beyond)
 
@@ -106,10 +106,10 @@ returns-clause-refused g c =
     let here = there ∙ ap Some (sym mine ∙ c.in-Some.is) in
     let trace = c.trace-source.result.now in
     let reduction = c.in-Some.reduction in
-    let too_large = IsTooLarge times g.T.Ord.cmp c.args.plan.now c.args.self.now (Turned n upper) in
+    let too_large = IsTooLarge times g.T.Ord.cmp c.args.plan.now c.args.self.now (Notified n upper) in
     if_err_from c.ready.result
-    (IsMemoryOrOverflow ((inserted : List (Insertion g.row.T.Denot)) (received emitted : List (Update g.row.T.Denot)) → Stands times trace inserted → SumsToReceived times upper (all_updates inserted) received → IsReduced times reduction received emitted → IsTrue (list_all (λ u. has_passed times upper u.time) emitted) → IsOverfullWith times reduction received upper))
+    (IsMemoryOrOverflow ((inserted : List (Insertion g.row.T.Denot)) (received emitted : List (Update g.row.T.Denot)) → Represents times trace inserted → SumsToReceived times upper (all_updates inserted) received → IsReduced times reduction received emitted → IsTrue (list_all (λ u. has_passed times upper u.time) emitted) → IsOverfullWith times reduction received upper))
     (IsMemoryOrOverflow too_large)
     (λ e m. memory_or (λ cause.
-    subst (λ y. IsTooLarge times g.T.Ord.cmp c.args.plan.now y (Turned n upper)) c.self.view_is
+    subst (λ y. IsTooLarge times g.T.Ord.cmp c.args.plan.now y (Notified n upper)) c.self.view_is
     (found_large times g.met.T.PartialOrder.order g.T.Ord.cmp c.args.plan.now d n c.requires.reduces.0 c.args.source c.requires.reduces.1 upper reduction here c.arrangement_at.result.now c.arrangement_at.ensures.there trace c.trace-source.ensures.value cause)) m) c.ready.ensures.refused

@@ -7,10 +7,10 @@ use Rattle.linear.specs.Widths.{are_wide}
 use Rattle.operator_laws.specs.GatheredUpdates.{IsSplit}
 use Rattle.desk_laws.specs.Own.{DeskView, gathered_in}
 use Rattle.desk_laws.specs.declared.hand.Hand.{Hand}
-use Rattle.desk_laws.specs.declared.hand.Hand.TheVariants.{Kept, Ready, Turned}
+use Rattle.desk_laws.specs.declared.hand.Hand.TheVariants.{Kept, Ready, Notified}
 use Rattle.desk.specs.Desks.{IsTakenOut, IsTooLarge, Leads}
 use Rattle.desk.proofs.PlaceLemmas.{read_at, set_same}
-use Rattle.desk.proofs.AnswerLemmas.{gathered_large, kept_leads, taken_after, turned_leads}
+use Rattle.desk.proofs.AnswerLemmas.{gathered_large, kept_leads, taken_after, notified_leads}
 use Rattle.desk.proofs.ResultLemmas.{if_err_from, if_ok_back, if_ok_from, memory_or, on_err_by, on_ok_back}
 use Rattle.desk.proofs.desk.Desk.take_gathered.Given.{Over}
 use Rattle.desk.proofs.desk.Desk.take_gathered.Goals as goal
@@ -46,14 +46,14 @@ returns-clause-kept g c =
     subst (λ x. Leads times c.args.plan.now x (Kept n more) after (Ready n out.items)) c.self.view_is
     (kept_leads times g.met.T.PartialOrder.order c.args.plan.now n (desk g c) after c.requires.within c.requires.plain c.requires.other out.items (taken g c out is) more))
 
-pub returns-clause-turned : goal.returns-clause-turned
-returns-clause-turned g c =
+pub returns-clause-notified : goal.returns-clause-notified
+returns-clause-notified g c =
     let times = g.T.PartialOrder.times in
     let n = c.args.node in
     let after = record (desk g c) { gathered = set c.self.inside.gathered.items c.number.result c.take_summed.new.self } in
-    if_ok_from c.take_summed.result (λ out. (upper : List g.row.T.Denot) → Leads times c.args.plan.now c.args.self.now (Turned n upper) after (Ready n out.items)) (λ out is upper.
-    subst (λ x. Leads times c.args.plan.now x (Turned n upper) after (Ready n out.items)) c.self.view_is
-    (turned_leads times g.met.T.PartialOrder.order c.args.plan.now n (desk g c) after c.requires.within c.requires.plain c.requires.other out.items (taken g c out is) upper))
+    if_ok_from c.take_summed.result (λ out. (upper : List g.row.T.Denot) → Leads times c.args.plan.now c.args.self.now (Notified n upper) after (Ready n out.items)) (λ out is upper.
+    subst (λ x. Leads times c.args.plan.now x (Notified n upper) after (Ready n out.items)) c.self.view_is
+    (notified_leads times g.met.T.PartialOrder.order c.args.plan.now n (desk g c) after c.requires.within c.requires.plain c.requires.other out.items (taken g c out is) upper))
 
 pub returns-clause-same : goal.returns-clause-same
 returns-clause-same g c =

@@ -1,7 +1,7 @@
 use Rattle.std.proofs.Common.{rules, sym, ap, subst, min, ◌≡◌, ◌++◌, ◌∙◌, ◌+◌, ◌-◌, ◌^◌, length}
 use Rattle.std.proofs.lemmas.List.{append-nil}
 use Rattle.std.proofs.lemmas.Result.{err_from_is_err_and}
-use Rattle.join.specs.FormedPairs.{StandsIn}
+use Rattle.join.specs.FormedPairs.{TakesPlaceOf}
 use Rattle.join.proofs.FitLemmas.{piece_fit}
 use Rattle.join.proofs.FormedLemmas.{item_at}
 use Rattle.join.proofs.PartLemmas.{one_more_batch_large}
@@ -15,7 +15,7 @@ loop-other-init g c =
     let items = c.args.self.now.updates.items in
     let looked = c.args.self.now.looked in
     record {
-      formed = subst (λ ys. StandsIn items ys) (sym (ap (λ ys. items ++ ys) none ∙ append-nil items)) (stands_itself items);
+      formed = subst (λ ys. TakesPlaceOf items ys) (sym (ap (λ ys. items ++ ys) none ∙ append-nil items)) (stands_itself items);
       looked = subst (λ ys. looked ≡ min (looked + length ys) (2 ^ 64 - 1)) (sym none) (search rules);
     }
 

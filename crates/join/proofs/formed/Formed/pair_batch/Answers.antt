@@ -4,7 +4,7 @@ use Rattle.std.proofs.lemmas.Result.{err_from_is_err_and}
 use Rattle.update.specs.declared.change.Update.{Update}
 use Rattle.columns.specs.Runs.{run_place}
 use Rattle.batch.specs.Batches.{AllBefore}
-use Rattle.join.specs.FormedPairs.{formed_all, StandsIn}
+use Rattle.join.specs.FormedPairs.{formed_all, TakesPlaceOf}
 use Rattle.join.proofs.FormedLemmas.{some_at}
 use Rattle.join.proofs.RunLemmas.{runs_more, runs_looked, runs_large, run_inside, run_before, fronts_next}
 use Rattle.join.proofs.PartLemmas.{large_itself}
@@ -28,8 +28,8 @@ keys-init g c =
       upto = omega (arith, own);
       within = omega (arith, their);
       front = λ j d h l. subst (λ (ws : List (Update g.row.T.Denot)). AllBefore (take c.args.k (get_or us j d).row) ws) (sym front) (λ i e m. absurd (omega (arith, m)));
-      formed = subst (λ ws. StandsIn c.settle.new.self.updates.items (items ++ all ws vs)) (sym begin) (subst (StandsIn c.settle.new.self.updates.items) (sym (append-nil items)) c.in_ok-settle.ensures.stands);
-      looked = c.in_ok-settle.ensures.looked ∙ still ∙ ap (λ ws. min (looked + length (all ws vs)) (2 ^ 64 - 1)) (sym begin);
+      formed = subst (λ ws. TakesPlaceOf c.consolidate_if_long.new.self.updates.items (items ++ all ws vs)) (sym begin) (subst (TakesPlaceOf c.consolidate_if_long.new.self.updates.items) (sym (append-nil items)) c.in_ok-consolidate_if_long.ensures.stands);
+      looked = c.in_ok-consolidate_if_long.ensures.looked ∙ still ∙ ap (λ ws. min (looked + length (all ws vs)) (2 ^ 64 - 1)) (sym begin);
     }
 
 pub pair_key-requires-clause-here : goal.pair_key-requires-clause-here
@@ -45,12 +45,12 @@ pair_key-requires-clause-front g c =
     some_at (λ u. AllBefore (take c.args.k u.row) (take (run_place vs c.keys.at.other) vs)) us (run_place us at) inside
     (λ d. c.keys.invariant.front (run_place us at) d (omega arith) inside)
 
-pub returns-in_err-settle-clause-refused : goal.returns-in_err-settle-clause-refused
-returns-in_err-settle-clause-refused g c =
+pub returns-in_err-consolidate_if_long-clause-refused : goal.returns-in_err-consolidate_if_long-clause-refused
+returns-in_err-consolidate_if_long-clause-refused g c =
     let all = formed_all c.args.side g.T.PartialOrder.times c.args.k (g.B.BatchReader.content c.args.batch.now) (g.C.BatchReader.content c.args.other.now) in
     let p = err_from_is_err_and c.from_residual.result c.from_residual.ensures.1 in
-    let large = large_itself g.T.PartialOrder.times c.args.self.now.updates.items all (c.in_err-settle.ensures.large refl) in
-    rw (p.1, p.2) (inr (c.in_err-settle.ensures.only, large))
+    let large = large_itself g.T.PartialOrder.times c.args.self.now.updates.items all (c.in_err-consolidate_if_long.ensures.large refl) in
+    rw (p.1, p.2) (inr (c.in_err-consolidate_if_long.ensures.only, large))
 
 pub returns-in_err-at-clause-refused : goal.returns-in_err-at-clause-refused
 returns-in_err-at-clause-refused g c =
@@ -81,7 +81,7 @@ pub returns-clause-formed : goal.returns-clause-formed
 returns-clause-formed g c =
     let us = g.B.BatchReader.content c.args.batch.now in
     let vs = g.C.BatchReader.content c.args.other.now in
-    subst (λ ws. StandsIn c.keys.self.updates.items (c.args.self.now.updates.items ++ formed_all c.args.side g.T.PartialOrder.times c.args.k ws vs)) (take_all (run_place us c.keys.at.batch) us (search rules)) c.keys.invariant.formed
+    subst (λ ws. TakesPlaceOf c.keys.self.updates.items (c.args.self.now.updates.items ++ formed_all c.args.side g.T.PartialOrder.times c.args.k ws vs)) (take_all (run_place us c.keys.at.batch) us (search rules)) c.keys.invariant.formed
 
 pub returns-clause-looked : goal.returns-clause-looked
 returns-clause-looked g c =

@@ -1,7 +1,7 @@
 use Rattle.std.proofs.Common.{sym, subst, ap, take, drop, ◌++◌, ◌∙◌}
 use Rattle.std.proofs.lemmas.Result.{err_from_is_err_and}
 use Rattle.columns.specs.Runs.{run_place}
-use Rattle.join.specs.FormedPairs.{formed_each, updates_in, StandsIn}
+use Rattle.join.specs.FormedPairs.{formed_each, updates_in, TakesPlaceOf}
 use Rattle.join.proofs.RunLemmas.{none_stands}
 use Rattle.join.proofs.LargeLemmas.{refused_more}
 use Rattle.join.proofs.PartLemmas.{large_alone}
@@ -29,4 +29,4 @@ returns-clause-formed g c =
     let vs = updates_in (g.C.BatchReader.content c.args.other.now) c.args.found.start c.args.found.end in
     let each = formed_each c.args.side g.T.PartialOrder.times c.args.k us vs in
     let old = c.args.self.now.updates.items in
-    subst (λ l. StandsIn l (old ++ each)) (sym c.in_ok-append.ensures.items) (stands_behind c.in_ok-pairs.pairs.items each old c.in_ok-pairs.ensures.stands)
+    subst (λ l. TakesPlaceOf l (old ++ each)) (sym c.in_ok-append.ensures.items) (stands_behind c.in_ok-pairs.pairs.items each old c.in_ok-pairs.ensures.stands)

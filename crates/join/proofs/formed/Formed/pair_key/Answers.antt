@@ -3,7 +3,7 @@ use Rattle.std.proofs.lemmas.Result.{err_from_is_err_and}
 use Rattle.columns.specs.Runs.{run_place}
 use Rattle.columns.proofs.PlaceLemmas.{run_place_within, run_place_onward}
 use Rattle.join.specs.Pairs.{is_keyed}
-use Rattle.join.specs.FormedPairs.{updates_in, StandsIn}
+use Rattle.join.specs.FormedPairs.{updates_in, TakesPlaceOf}
 use Rattle.join.proofs.RunLemmas.{IsFound, run_wide, run_here, run_behind, keyed_wide, found_pass, run_found, run_is, run_part, run_fits, run_looked}
 use Rattle.join.proofs.LargeLemmas.{refused_more}
 use Rattle.join.proofs.PartLemmas.{large_with_more}
@@ -80,7 +80,7 @@ returns-clause-formed g c =
     let us = g.B.BatchReader.content c.args.batch.now in
     let vs = g.C.BatchReader.content c.args.other.now in
     let f = found g (goal.at.returns-clause-formed g c).After-seek_past_run-end in
-    subst (λ ps. StandsIn c.pair_found.new.self.updates.items (c.args.self.now.updates.items ++ ps)) (sym (run_is c.args.side g.T.PartialOrder.times c.args.k us vs f)) c.in_ok-pair_found.ensures.formed
+    subst (λ ps. TakesPlaceOf c.pair_found.new.self.updates.items (c.args.self.now.updates.items ++ ps)) (sym (run_is c.args.side g.T.PartialOrder.times c.args.k us vs f)) c.in_ok-pair_found.ensures.formed
 
 pub returns-clause-looked : goal.returns-clause-looked
 returns-clause-looked g c =

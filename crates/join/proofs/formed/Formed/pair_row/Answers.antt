@@ -52,12 +52,12 @@ returns-in_err-push_pairs-clause-refused g c =
     (λ h. large_alone times c.args.self.now.updates.items each (large_more times ones each part (large_one_part g.met.T.PartialOrder.order ones h)))
     c.in_err-push_pairs.ensures.refused)
 
-pub returns-in_err-settle-clause-refused : goal.returns-in_err-settle-clause-refused
-returns-in_err-settle-clause-refused g c =
+pub returns-in_err-consolidate_if_long-clause-refused : goal.returns-in_err-consolidate_if_long-clause-refused
+returns-in_err-consolidate_if_long-clause-refused g c =
     let us = g.B.BatchReader.content c.args.outer.now in
     let vs = c.args.inner.now in
     let u = c.read_update.new.into in
-    let p = err_from_is_err_and c.from_residual-in_err-settle.result c.from_residual-in_err-settle.ensures.1 in
+    let p = err_from_is_err_and c.from_residual-in_err-consolidate_if_long.result c.from_residual-in_err-consolidate_if_long.ensures.1 in
     let times = g.T.PartialOrder.times in
     let old = c.args.self.now.updates.items in
     let grown = formed_each c.args.side g.T.PartialOrder.times c.args.k (slice_range us c.args.part.start (c.loop-i.i + 1)) vs in
@@ -65,7 +65,7 @@ returns-in_err-settle-clause-refused g c =
     let part = each_part g.T.PartialOrder.times c.args.k c.args.side us vs c.args.part.start c.loop-i.i c.loop-i.auto.i u c.read_update.ensures.read c.args.part.end c.loop-i-test.true c.requires.within in
     let stands = each_more g.T.PartialOrder.times c.args.k c.args.side us vs c.args.part.start c.loop-i.i c.loop-i.auto.i u c.read_update.ensures.read old c.loop-i.self.updates.items _ (search rules) c.loop-i.invariant.formed c.in_ok-push_pairs.ensures.stands in
     rw (p.1, p.2)
-    (inr (c.in_err-settle.ensures.only, large_with_more times old grown each part (large_listed times _ old grown stands (c.in_err-settle.ensures.large refl))))
+    (inr (c.in_err-consolidate_if_long.ensures.only, large_with_more times old grown each part (large_listed times _ old grown stands (c.in_err-consolidate_if_long.ensures.large refl))))
 
 pub loop-i-preserved : goal.loop-i-preserved
 loop-i-preserved g c =
@@ -74,6 +74,6 @@ loop-i-preserved g c =
     let u = c.read_update.new.into in
     record {
       row = c.read_update.ensures.row ∙ c.loop-i.invariant.row;
-      formed = each_more g.T.PartialOrder.times c.args.k c.args.side us vs c.args.part.start c.loop-i.i c.loop-i.auto.i u c.read_update.ensures.read c.args.self.now.updates.items c.loop-i.self.updates.items c.settle.new.self.updates.items (search rules) c.loop-i.invariant.formed
-          (stands_in_turn _ _ _ c.in_ok-settle.ensures.stands c.in_ok-push_pairs.ensures.stands);
+      formed = each_more g.T.PartialOrder.times c.args.k c.args.side us vs c.args.part.start c.loop-i.i c.loop-i.auto.i u c.read_update.ensures.read c.args.self.now.updates.items c.loop-i.self.updates.items c.consolidate_if_long.new.self.updates.items (search rules) c.loop-i.invariant.formed
+          (stands_in_turn _ _ _ c.in_ok-consolidate_if_long.ensures.stands c.in_ok-push_pairs.ensures.stands);
     }

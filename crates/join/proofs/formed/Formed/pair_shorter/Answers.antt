@@ -2,8 +2,8 @@ use Rattle.std.proofs.Common.{sym, subst, ap, ◌∙◌, IsTrue, IfErr, ◌++◌
 use Rattle.std.specs.List.{list_all}
 use Rattle.std.proofs.lemmas.Result.{on_ok_weaker, IfErr-weaker}
 use Rattle.update.specs.Refusals.{IsMemoryOrOverflow}
-use Rattle.join.specs.Sides.{turned}
-use Rattle.join.specs.FormedPairs.{formed_fits, formed_each, updates_in, StandsIn, HasLargePartWith}
+use Rattle.join.specs.Sides.{other_side}
+use Rattle.join.specs.FormedPairs.{formed_fits, formed_each, updates_in, TakesPlaceOf, HasLargePartWith}
 use Rattle.join.proofs.RunLemmas.{fits_turned, turned_stands, turned_part}
 use Rattle.join.proofs.LargeLemmas.{refused_more}
 use Rattle.join.proofs.PartLemmas.{large_with_more}
@@ -21,8 +21,8 @@ pair_runs-requires-else-updates_of-clause-fits g c =
     let us = updates_in (g.B.BatchReader.content c.args.batch.now) c.args.runs.start c.args.runs.end in
     let vs = updates_in (g.C.BatchReader.content c.args.other.now) c.args.found.start c.args.found.end in
     let copied = c.as_slice-else-updates_of.ensures.value ∙ c.in_ok-copy_runs-2.ensures.copied ∙ ap (λ l. l ++ us) c.new-inner.ensures.items in
-    subst (λ ws. IsTrue (list_all (λ v. list_all (formed_fits c.turned.result c.args.k v) ws) vs)) (sym copied)
-    (subst (λ s. IsTrue (list_all (λ v. list_all (formed_fits s c.args.k v) us) vs)) (sym c.turned.ensures)
+    subst (λ ws. IsTrue (list_all (λ v. list_all (formed_fits c.other.result c.args.k v) ws) vs)) (sym copied)
+    (subst (λ s. IsTrue (list_all (λ v. list_all (formed_fits s c.args.k v) us) vs)) (sym c.other.ensures)
     (fits_turned g.T.PartialOrder.times c.args.k c.args.side us vs c.requires.fits))
 
 pub returns-then-updates_of-clause-refused : goal.returns-then-updates_of-clause-refused
@@ -42,8 +42,8 @@ returns-clause-formed g c =
     let copied = c.as_slice-else-updates_of.ensures.value ∙ c.in_ok-copy_runs-2.ensures.copied ∙ ap (λ l. l ++ us) c.new-inner.ensures.items in
     on_ok_weaker c.pair_runs-else-updates_of.result
     (λ s. turned_stands g.T.PartialOrder.times c.args.k c.args.side us vs old new
-    (subst (λ t. StandsIn new (old ++ formed_each t g.T.PartialOrder.times c.args.k vs us)) c.turned.ensures
-    (subst (λ ws. StandsIn new (old ++ formed_each c.turned.result g.T.PartialOrder.times c.args.k vs ws)) copied s)))
+    (subst (λ t. TakesPlaceOf new (old ++ formed_each t g.T.PartialOrder.times c.args.k vs us)) c.other.ensures
+    (subst (λ ws. TakesPlaceOf new (old ++ formed_each c.other.result g.T.PartialOrder.times c.args.k vs ws)) copied s)))
     c.pair_runs-else-updates_of.ensures.formed
 
 pub returns-clause-refused : goal.returns-clause-refused
@@ -54,8 +54,8 @@ returns-clause-refused g c =
     let copied = c.as_slice-else-updates_of.ensures.value ∙ c.in_ok-copy_runs-2.ensures.copied ∙ ap (λ l. l ++ us) c.new-inner.ensures.items in
     IfErr-weaker c.pair_runs-else-updates_of.result _ _
     (λ e. refused_more _ _ e
-    (λ h. large_with_more g.T.PartialOrder.times old (formed_each (turned c.args.side) g.T.PartialOrder.times c.args.k vs us) (formed_each c.args.side g.T.PartialOrder.times c.args.k us vs)
+    (λ h. large_with_more g.T.PartialOrder.times old (formed_each (other_side c.args.side) g.T.PartialOrder.times c.args.k vs us) (formed_each c.args.side g.T.PartialOrder.times c.args.k us vs)
     (turned_part g.T.PartialOrder.times c.args.k c.args.side us vs)
-    (subst (λ t. HasLargePartWith g.T.PartialOrder.times old (formed_each t g.T.PartialOrder.times c.args.k vs us)) c.turned.ensures
-    (subst (λ ws. HasLargePartWith g.T.PartialOrder.times old (formed_each c.turned.result g.T.PartialOrder.times c.args.k vs ws)) copied h))))
+    (subst (λ t. HasLargePartWith g.T.PartialOrder.times old (formed_each t g.T.PartialOrder.times c.args.k vs us)) c.other.ensures
+    (subst (λ ws. HasLargePartWith g.T.PartialOrder.times old (formed_each c.other.result g.T.PartialOrder.times c.args.k vs ws)) copied h))))
     c.pair_runs-else-updates_of.ensures.refused

@@ -1,6 +1,6 @@
 use Rattle.std.proofs.Common.{◌++◌, ◌∙◌, drop, ap, sym, subst}
 use Rattle.key_history.specs.States.{HistoryState}
-use Rattle.key_history.specs.Replays.{StandsFrom}
+use Rattle.key_history.specs.Replays.{AgreeFrom}
 use Rattle.key_history.proofs.PastLemmas.{from_later, past_stands}
 use Rattle.key_history.proofs.history.KeyHistory.seen_from.Goals as goal
 
@@ -10,7 +10,7 @@ returns-then-less_equal g c =
     let p = c.self.inside.past in
     let given = c.self.inside.given in
     let same = ap (λ (h : HistoryState g.row.T.Denot). h.given) c.self.view_is in
-    let past = subst (λ us. StandsFrom times p.since us (p.near.items ++ drop p.count given)) same (past_stands times p given c.self.invariant) in
+    let past = subst (λ us. AgreeFrom times p.since us (p.near.items ++ drop p.count given)) same (past_stands times p given c.self.invariant) in
     record {
       within = c.self.invariant.within;
       whole = same;

@@ -1,5 +1,5 @@
 use Rattle.std.proofs.Common.{◌≡◌, ◌+◌, ◌++◌, ◌∷◌, [], ◌∙◌, take, subst, ap, append_assoc}
-use Rattle.key_history.specs.Replays.{StandsEver}
+use Rattle.key_history.specs.Replays.{AgreeEver}
 use Rattle.key_history.proofs.ReplayLemmas.{ever_more, more_taken}
 use Rattle.key_history.proofs.replay.Replay.put_all.Goals as goal
 
@@ -15,6 +15,6 @@ loop-update-preserved g c =
       λ before s.
           let more : (before ++ take i us) ++ u ∷ [] ≡ before ++ take (i + 1) us =
           append_assoc before (take i us) (u ∷ []) ∙ ap (λ z. before ++ z) (more_taken us i u c.loop-update-test.true c.update-item.is) in
-          subst (λ z. StandsEver times z (q.near.items ++ q.later.items)) more
+          subst (λ z. AgreeEver times z (q.near.items ++ q.later.items)) more
           (ever_more times (before ++ take i us) p.near.items p.later.items q.near.items q.later.items u (c.loop-update.invariant.1 before s) c.in_ok-put.ensures.put),
     )

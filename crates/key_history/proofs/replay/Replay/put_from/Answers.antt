@@ -1,5 +1,5 @@
 use Rattle.std.proofs.Common.{◌≡◌, ◌<◌, ◌+◌, ◌++◌, ◌∷◌, [], ◌∙◌, length, take, drop, subst, ap, sym, append_assoc, arith}
-use Rattle.key_history.specs.Replays.{StandsEver}
+use Rattle.key_history.specs.Replays.{AgreeEver}
 use Rattle.key_history.proofs.PackLemmas.{drop_more_taken}
 use Rattle.key_history.proofs.ReplayLemmas.{ever_more}
 use Rattle.key_history.proofs.replay.Replay.put_from.Goals as goal
@@ -20,7 +20,7 @@ loop-i-preserved g c =
       λ before s.
           let more : (before ++ drop from (take i us)) ++ u ∷ [] ≡ before ++ drop from (take (i + 1) us) =
           append_assoc before (drop from (take i us)) (u ∷ []) ∙ ap (λ z. before ++ z) (sym (drop_more_taken us from i u c.loop-i.auto.i within c.copy.ensures)) in
-          subst (λ z. StandsEver times z (q.near.items ++ q.later.items)) more
+          subst (λ z. AgreeEver times z (q.near.items ++ q.later.items)) more
           (ever_more times (before ++ drop from (take i us)) p.near.items p.later.items q.near.items q.later.items u (c.loop-i.invariant.1 before s) c.in_ok-put.ensures.put),
       c.place_behind-place.ensures,
     )

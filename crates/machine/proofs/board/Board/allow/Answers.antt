@@ -1,7 +1,7 @@
 use Rattle.machine.proofs.BoardLemmas.BoardLemmas.{on_both, stands_looked}
 use Rattle.machine.proofs.BoardLemmas.AllowLemmas.{stands_allowed}
 use Rattle.std.proofs.Common.{◌∷◌, subst, sym}
-use Rattle.machine.specs.Boards.{Stands}
+use Rattle.machine.specs.Boards.{Represents}
 use Rattle.machine.proofs.board.Board.allow.Goals as goal
 
 pub returns-clause-stands : goal.returns-clause-stands
@@ -11,6 +11,6 @@ returns-clause-stands g c h s =
     let looked = λ (e : _). stands_looked times c.args.self.now r.new.self h c.args.client e s in
     on_both times r.result _ _ r.ensures.allowed r.ensures.unchanged
     (λ e. on_both times r.result _ _ r.ensures.accepted r.ensures.unchanged
-    (λ a. subst (λ z. Stands times z (z.last ∷ h)) (sym e) (stands_allowed g.met.T.PartialOrder.order c.args.self.now r.ensures.board h c.args.client c.args.view c.args.times.now c.requires.client c.requires.within c.requires.view a s))
+    (λ a. subst (λ z. Represents times z (z.last ∷ h)) (sym e) (stands_allowed g.met.T.PartialOrder.order c.args.self.now r.ensures.board h c.args.client c.args.view c.args.times.now c.requires.client c.requires.within c.requires.view a s))
     looked)
     looked

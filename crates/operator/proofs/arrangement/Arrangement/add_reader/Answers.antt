@@ -1,6 +1,6 @@
 use Rattle.std.proofs.Common.{List, [], ◌∷◌, ◌++◌, refl, sym, ◌∙◌, ap, subst}
 use Rattle.trace.specs.Holds.{HoldState}
-use Rattle.spine.specs.Spines.{SpineState, Stands}
+use Rattle.spine.specs.Spines.{SpineState, Represents}
 use Rattle.operator.specs.Arrangements.{ArrangementState, AreInTurn, IsOpen, upper_of}
 use Rattle.operator.proofs.ArrangementLemmas.{arrangement_held}
 use Rattle.operator.proofs.OpenLemmas.{open_held}
@@ -18,7 +18,7 @@ invariant_of-self-2 g c =
 
 pub returns-clause-stands : goal.returns-clause-stands
 returns-clause-stands g c h stands =
-    c.in_ok-hold.ensures.stands h (subst (λ (a : ArrangementState g.row.T.Denot). Stands g.T.PartialOrder.times a.spine h) (sym c.self.view_is) stands)
+    c.in_ok-hold.ensures.stands h (subst (λ (a : ArrangementState g.row.T.Denot). Represents g.T.PartialOrder.times a.spine h) (sym c.self.view_is) stands)
 
 pub returns-clause-open : goal.returns-clause-open
 returns-clause-open g c h stands all is =
@@ -27,6 +27,6 @@ returns-clause-open g c h stands all is =
     let back = sym c.self.view_is in
     let k : HoldState g.row.T.Denot = record { logical = s.since; physical = upper_of s } in
     open_held g.met.T.PartialOrder.order s c.hold.new.self k h refl c.in_ok-hold.ensures.held
-    (subst (λ (a : ArrangementState g.row.T.Denot). Stands times a.spine h) back stands)
+    (subst (λ (a : ArrangementState g.row.T.Denot). Represents times a.spine h) back stands)
     (subst (λ (a : ArrangementState g.row.T.Denot). AreInTurn times a.spine.list.start h) back all)
     (subst (λ (a : ArrangementState g.row.T.Denot). IsOpen times a.spine h) back is)

@@ -8,7 +8,7 @@ use Rattle.lattice.specs.Frontiers.{all_beyond}
 use Rattle.trace.specs.Holds.{HoldState}
 use Rattle.trace.specs.BatchLists.{BatchListState}
 use Rattle.trace.proofs.BoundaryLemmas.{frontiers_decided}
-use Rattle.spine.specs.Spines.{SpineState, Stands, boundaries}
+use Rattle.spine.specs.Spines.{SpineState, Represents, boundaries}
 use Rattle.operator.specs.Arrangements.{ArrangementState, IsOpen, upper_of}
 use Rattle.operator.proofs.ArrangementLemmas.{arrangement_moved}
 use Rattle.operator.proofs.HoldLemmas.{own_found}
@@ -94,7 +94,7 @@ returns-clause-moved g c =
 
 pub returns-clause-stands : goal.returns-clause-stands
 returns-clause-stands g c h stands =
-    c.in_ok-advance_hold.ensures.stands h (subst (λ (x : ArrangementState g.row.T.Denot). Stands g.T.PartialOrder.times x.spine h) (sym c.self.view_is) stands)
+    c.in_ok-advance_hold.ensures.stands h (subst (λ (x : ArrangementState g.row.T.Denot). Represents g.T.PartialOrder.times x.spine h) (sym c.self.view_is) stands)
 
 pub returns-clause-open : goal.returns-clause-open
 returns-clause-open g c h is =

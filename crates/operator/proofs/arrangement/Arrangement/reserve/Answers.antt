@@ -1,5 +1,5 @@
 use Rattle.std.proofs.Common.{sym, ◌∙◌, ap, subst}
-use Rattle.spine.specs.Spines.{SpineState, Stands}
+use Rattle.spine.specs.Spines.{SpineState, Represents}
 use Rattle.operator.specs.Arrangements.{ArrangementState, IsOpen}
 use Rattle.operator.proofs.ArrangementLemmas.{arrangement_reserved, stands_reserved}
 use Rattle.std.proofs.Common.{true}
@@ -18,7 +18,7 @@ pub returns-clause-stands : goal.returns-clause-stands
 returns-clause-stands g c h stands =
     let times = g.T.PartialOrder.times in
     stands_reserved times g.met.T.PartialOrder.order c.self.inside.spine c.reserve.new.self true c.in_ok-reserve.ensures.room h
-    (subst (λ (x : ArrangementState g.row.T.Denot). Stands times x.spine h) (sym c.self.view_is) stands)
+    (subst (λ (x : ArrangementState g.row.T.Denot). Represents times x.spine h) (sym c.self.view_is) stands)
 
 pub returns-clause-open : goal.returns-clause-open
 returns-clause-open g c h is =

@@ -4,7 +4,7 @@ use Rattle.std.proofs.lemmas.Result.{err_from_is_err_and, IfOk-weaker, IfErr-wea
 use Rattle.lattice.proofs.BoundLemmas.{join_below}
 use Rattle.update.specs.Refusals.{IsMemoryOrOverflow}
 use Rattle.spine.specs.Spines.{boundaries}
-use Rattle.join.specs.Sides.{Acknowledged, acknowledged_to, boundary_of, turned}
+use Rattle.join.specs.Sides.{Acknowledged, acknowledged_to, boundary_of, other_side}
 use Rattle.join.proofs.LargeLemmas.{refused_more}
 use Rattle.operator.specs.Joins.{JoiningView, CanTakeTo, IsFitting, IsSideAnswer, IsTakeLarge}
 use Rattle.operator.proofs.JoinAnswerLemmas.{batch_answered, batch_refused, batch_taken, either_way, key_stays}
@@ -21,7 +21,7 @@ take_batch-requires-clause-own g c =
 
 pub take_batch-requires-clause-readable : goal.take_batch-requires-clause-readable
 take_batch-requires-clause-readable g c =
-    subst (λ (j : JoiningView g.row.T.Denot). Contains (boundaries c.args.other.now) (boundary_of (turned c.args.side) j.state)) (sym c.self.view_is) c.requires.takeable.readable
+    subst (λ (j : JoiningView g.row.T.Denot). Contains (boundaries c.args.other.now) (boundary_of (other_side c.args.side) j.state)) (sym c.self.view_is) c.requires.takeable.readable
 
 pub take_batch-requires-clause-takeable : goal.take_batch-requires-clause-takeable
 take_batch-requires-clause-takeable g c =

@@ -1,7 +1,7 @@
 use Rattle.std.proofs.Common.{[], ◌∷◌, refl, sym, subst}
 use Rattle.reduce.specs.Histories.{ReduceView}
 use Rattle.reduce.specs.Kinds.{kind_answer}
-use Rattle.reduce.specs.Reductions.{StandsFor}
+use Rattle.reduce.specs.Reductions.{RepresentsUpdates}
 use Rattle.plan.specs.declared.kind.Kind.{Kind}
 use Rattle.operator.specs.Reductions.{IsReduced}
 use Rattle.operator.proofs.ReductionLemmas.{stand_in_nothing}
@@ -14,7 +14,7 @@ returns-clause-stands g c =
     (record {
       taken = [];
       same = stand_in_nothing times;
-      stands = subst (λ (s : ReduceView g.row.T.Denot Kind). StandsFor times (g.T.PartialOrder.times.least ∷ []) c.state_columns.result (kind_answer c.args.kind) s.histories [] []) c.new.ensures.first (c.new.ensures.stands (g.T.PartialOrder.times.least ∷ []));
+      stands = subst (λ (s : ReduceView g.row.T.Denot Kind). RepresentsUpdates times (g.T.PartialOrder.times.least ∷ []) c.state_columns.result (kind_answer c.args.kind) s.histories [] []) c.new.ensures.first (c.new.ensures.stands (g.T.PartialOrder.times.least ∷ []));
       apart = tt;
       ahead = λ u m. absurd m;
       wide = refl;

@@ -54,7 +54,7 @@ module _ (g : Over) (c : goal.In_ok-out g) where
   settled : IsTrue (list_all (λ (u : Update g.row.T.Denot). has_passed g.T.PartialOrder.times c.args.frontier.now u.time) c.in_ok-out.out)
   settled = out_settled g.T.PartialOrder.times c.args.frontier.now c.self.inside.state.key c.self.inside.state.histories c.in_ok-out.out c.in_ok-out.ensures.at
 
-  stands : (inserted : List (Insertion g.row.T.Denot)) (received emitted : List (Update g.row.T.Denot)) → Rattle.spine.specs.Spines.Stands g.T.PartialOrder.times c.args.trace.now inserted
+  stands : (inserted : List (Insertion g.row.T.Denot)) (received emitted : List (Update g.row.T.Denot)) → Rattle.spine.specs.Spines.Represents g.T.PartialOrder.times c.args.trace.now inserted
       → SumsToReceived g.T.PartialOrder.times c.args.frontier.now (all_updates inserted) received → IsReduced g.T.PartialOrder.times old received emitted
       → IsReduced g.T.PartialOrder.times new received (c.in_ok-out.out ++ emitted)
   stands inserted received emitted st sums w =

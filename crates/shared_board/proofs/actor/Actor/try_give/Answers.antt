@@ -4,7 +4,7 @@ use Rattle.hub.specs.Passes.{hub_id}
 use Rattle.std.proofs.lemmas.Result.{on_ok_weaker}
 use Rattle.hub.specs.Histories.{entry}
 use Rattle.histories.specs.declared.event.Event.TheVariants.{Give, Look}
-use Rattle.shared_board.specs.Tenures.{StandsFor, doing, opening_in, opening_of_board}
+use Rattle.shared_board.specs.Tenures.{RepresentsEntries, doing, opening_in, opening_of_board}
 use Rattle.shared_board.specs.Widths.{are_wide_for}
 use Rattle.shared_board.proofs.ActorLemmas.{IsIn, adds_as, after, give_found, if_err_map, kept, leaves, looked, on_board}
 use Rattle.shared_board.proofs.CallLemmas.{entered}
@@ -34,7 +34,7 @@ leave-requires g c =
     let t = tenure g (goal.at.leave-requires g c).After-deref_mut in
     let own = c.requires.own ∙ t.own_number in
     let allowed = give_found t c.args.cut.given c.args.held c.args.cut.sent c.requires.own c.requires.allowed in
-    let next = subst (λ n. StandsFor g.T.PartialOrder.times g.T.Ord.cmp c.give-answer.new.self (entry n (doing (opening_of_board c.deref_mut.result.now) c.give-answer.new.self.board.last) ∷ c.in-Ok.home.found)) own (c.give-answer.ensures.stands c.in-Ok.home.found t.stands allowed) in
+    let next = subst (λ n. RepresentsEntries g.T.PartialOrder.times g.T.Ord.cmp c.give-answer.new.self (entry n (doing (opening_of_board c.deref_mut.result.now) c.give-answer.new.self.board.last) ∷ c.in-Ok.home.found)) own (c.give-answer.ensures.stands c.in-Ok.home.found t.stands allowed) in
     g.met.P.BoardProtocol.may_stand _ _ (leaves t c.give-answer.new.self c.give-answer.ensures.terms next _ (g.met.P.BoardProtocol.last_is _))
 
 pub invariant_of-self : goal.invariant_of-self
@@ -42,7 +42,7 @@ invariant_of-self g c =
     let t = tenure g (goal.at.invariant_of-self g c).After-deref_mut in
     let own = c.requires.own ∙ t.own_number in
     let allowed = give_found t c.args.cut.given c.args.held c.args.cut.sent c.requires.own c.requires.allowed in
-    let next = subst (λ n. StandsFor g.T.PartialOrder.times g.T.Ord.cmp c.give-answer.new.self (entry n (doing (opening_of_board c.deref_mut.result.now) c.give-answer.new.self.board.last) ∷ c.in-Ok.home.found)) own (c.give-answer.ensures.stands c.in-Ok.home.found t.stands allowed) in
+    let next = subst (λ n. RepresentsEntries g.T.PartialOrder.times g.T.Ord.cmp c.give-answer.new.self (entry n (doing (opening_of_board c.deref_mut.result.now) c.give-answer.new.self.board.last) ∷ c.in-Ok.home.found)) own (c.give-answer.ensures.stands c.in-Ok.home.found t.stands allowed) in
     let a = after t c.give-answer.new.self c.give-answer.ensures.terms next _ (g.met.P.BoardProtocol.last_is _) c.leave.result c.leave.ensures in
     kept a _ (c.accepted-self-inside.ensures ∙ search rules)
 
@@ -51,7 +51,7 @@ returns-in-Ok-clause-given g c =
     let t = tenure g (goal.at.returns-in-Ok-clause-given g c).After-deref_mut in
     let own = c.requires.own ∙ t.own_number in
     let allowed = give_found t c.args.cut.given c.args.held c.args.cut.sent c.requires.own c.requires.allowed in
-    let next = subst (λ n. StandsFor g.T.PartialOrder.times g.T.Ord.cmp c.give-answer.new.self (entry n (doing (opening_of_board c.deref_mut.result.now) c.give-answer.new.self.board.last) ∷ c.in-Ok.home.found)) own (c.give-answer.ensures.stands c.in-Ok.home.found t.stands allowed) in
+    let next = subst (λ n. RepresentsEntries g.T.PartialOrder.times g.T.Ord.cmp c.give-answer.new.self (entry n (doing (opening_of_board c.deref_mut.result.now) c.give-answer.new.self.board.last) ∷ c.in-Ok.home.found)) own (c.give-answer.ensures.stands c.in-Ok.home.found t.stands allowed) in
     let a = after t c.give-answer.new.self c.give-answer.ensures.terms next _ (g.met.P.BoardProtocol.last_is _) c.leave.result c.leave.ensures in
     on_ok_weaker c.give-answer.result (λ e. adds_as a (λ n. Give c.args.cut.given c.args.held c.args.cut.sent) e) c.give-answer.ensures.given
 
@@ -60,6 +60,6 @@ returns-in-Ok-clause-returned g c =
     let t = tenure g (goal.at.returns-in-Ok-clause-returned g c).After-deref_mut in
     let own = c.requires.own ∙ t.own_number in
     let allowed = give_found t c.args.cut.given c.args.held c.args.cut.sent c.requires.own c.requires.allowed in
-    let next = subst (λ n. StandsFor g.T.PartialOrder.times g.T.Ord.cmp c.give-answer.new.self (entry n (doing (opening_of_board c.deref_mut.result.now) c.give-answer.new.self.board.last) ∷ c.in-Ok.home.found)) own (c.give-answer.ensures.stands c.in-Ok.home.found t.stands allowed) in
+    let next = subst (λ n. RepresentsEntries g.T.PartialOrder.times g.T.Ord.cmp c.give-answer.new.self (entry n (doing (opening_of_board c.deref_mut.result.now) c.give-answer.new.self.board.last) ∷ c.in-Ok.home.found)) own (c.give-answer.ensures.stands c.in-Ok.home.found t.stands allowed) in
     let a = after t c.give-answer.new.self c.give-answer.ensures.terms next _ (g.met.P.BoardProtocol.last_is _) c.leave.result c.leave.ensures in
     if_err_map c.give-answer.result _ _ (λ r x. (looked a (x.0 ∙ ap (λ n. Look n) own), x.1)) c.give-answer.ensures.returned

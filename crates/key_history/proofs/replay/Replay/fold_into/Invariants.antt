@@ -1,7 +1,7 @@
 use Rattle.std.proofs.Common.{◌≡◌, ◌++◌, length}
 use Rattle.std.specs.Vec.Iter.{into_iter_items, into_iter_len}
 use Rattle.key_history.specs.Replays.{Settles}
-use Rattle.key_history.proofs.replay.Replay.settle_into.Given as goal
+use Rattle.key_history.proofs.replay.Replay.fold_into.Given as goal
 
 -- the updates so far have settled, or have come in again
 abbrev pub invariant-loop-update : goal.invariant-loop-update

@@ -3,7 +3,7 @@ use Rattle.std.specs.Vec.Iter.{into_iter_items}
 use Rattle.std.proofs.lemmas.List.{append-nil, nil_from_length}
 use Rattle.key_history.specs.Replays.{Settles}
 use Rattle.key_history.proofs.ReplayLemmas.{settles_none, settles_more}
-use Rattle.key_history.proofs.replay.Replay.settle_into.Goals as goal
+use Rattle.key_history.proofs.replay.Replay.fold_into.Goals as goal
 
 pub returns-then-not-has_settled-clause-settles : goal.returns-then-not-has_settled-clause-settles
 returns-then-not-has_settled-clause-settles g c = settles_none g.T.PartialOrder.times c.args.meet c.args.base.now c.args.self.now.near.items
@@ -29,13 +29,13 @@ loop-update-preserved g c =
     record {
       whole = was.whole ∙ ap (λ xs. ys ++ xs) c.in-Some.ensures.steps.0 ∙ sym (append_assoc ys (u ∷ []) rest);
       left = omega (arith, c.in-Some.ensures.steps.1, longer, was.left);
-      later = c.in_ok-settle.ensures.later ∙ was.later;
-      entered = c.in_ok-settle.ensures.entered ∙ was.entered;
-      settles = settles_more g.T.PartialOrder.times c.args.meet c.args.base.now c.loop-update.base c.settle.new.base ys c.loop-update.self.near.items c.settle.new.self.near.items u was.settles c.in_ok-settle.ensures.settles;
+      later = c.in_ok-fold_or_keep.ensures.later ∙ was.later;
+      entered = c.in_ok-fold_or_keep.ensures.entered ∙ was.entered;
+      settles = settles_more g.T.PartialOrder.times c.args.meet c.args.base.now c.loop-update.base c.fold_or_keep.new.base ys c.loop-update.self.near.items c.fold_or_keep.new.self.near.items u was.settles c.in_ok-fold_or_keep.ensures.settles;
     }
 
-pub returns-in_err-settle-clause-later : goal.returns-in_err-settle-clause-later
-returns-in_err-settle-clause-later g c = c.in_err-settle.ensures.later ∙ c.loop-update.invariant.later
+pub returns-in_err-fold_or_keep-clause-later : goal.returns-in_err-fold_or_keep-clause-later
+returns-in_err-fold_or_keep-clause-later g c = c.in_err-fold_or_keep.ensures.later ∙ c.loop-update.invariant.later
 
 pub returns-clause-settles : goal.returns-clause-settles
 returns-clause-settles g c =

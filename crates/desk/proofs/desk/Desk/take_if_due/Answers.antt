@@ -4,7 +4,7 @@ use Rattle.update.specs.Refusals.{IsMemoryOrOverflow}
 use Rattle.histories.specs.Histories.{state_after}
 use Rattle.desk.specs.Desks.{IsRight, IsTooLarge}
 use Rattle.desk.proofs.ResultLemmas.{if_err_at, memory_or}
-use Rattle.desk.proofs.desk.Desk.settle.Goals as goal
+use Rattle.desk.proofs.desk.Desk.take_if_due.Goals as goal
 
 pub returns-in_err-gathered-clause-refused : goal.returns-in_err-gathered-clause-refused
 returns-in_err-gathered-clause-refused g c =

@@ -4,7 +4,7 @@ use Rattle.atomic_table.specs.Seated.{TableId}
 use Rattle.hub.specs.declared.view.Entry.{Entry}
 
 -- a pass: its hub, its number, and the history that it has seen
-pub record Known (E : Type 0) : Type 0 where
+pub record PassView (E : Type 0) : Type 0 where
   pub hub : TableId
   pub number : ℕ
   pub seen : List (Entry E)

@@ -3,12 +3,12 @@ use Rattle.std.proofs.lemmas.Result.{err_from_is_err_and}
 use Rattle.update.specs.Refusals.{IsMemoryOrOverflow}
 use Rattle.desk_laws.specs.Own.{gives_passed, hand_node}
 use Rattle.desk_laws.specs.declared.hand.Hand.{Hand}
-use Rattle.desk_laws.specs.declared.hand.Hand.TheVariants.{Ready, Turned}
+use Rattle.desk_laws.specs.declared.hand.Hand.TheVariants.{Ready, Notified}
 use Rattle.desk.specs.Desks.{IsComputed, IsTooLarge, Leads}
 use Rattle.desk.proofs.FromLemmas.{leads_same}
 use Rattle.desk.proofs.AnswerLemmas.{answers_there, source_there}
 use Rattle.desk.proofs.ResultLemmas.{if_err_at, if_ok_err, memory_or, on_err_always}
-use Rattle.desk.proofs.desk.Desk.turn.Goals as goal
+use Rattle.desk.proofs.desk.Desk.notify.Goals as goal
 
 pub find-requires : goal.find-requires
 find-requires g c =
@@ -32,7 +32,7 @@ returns-in_err-gathered-in_default g c =
     let times = g.T.PartialOrder.times in
     let plan = c.args.plan.now in
     let d = c.args.self.now in
-    let h : Hand g.row.T.Denot = Turned c.args.node c.args.upper.now in
+    let h : Hand g.row.T.Denot = Notified c.args.node c.args.upper.now in
     let next = c.take_gathered.new.self in
     let r = c.from_residual-in_err-gathered-in_default.result in
     let p = err_from_is_err_and r c.from_residual-in_err-gathered-in_default.ensures.1 in
@@ -46,13 +46,13 @@ returns-in_err-gathered-in_default g c =
 
 pub returns-in_ok-answers-in-Reduce-clause-leads : goal.returns-in_ok-answers-in-Reduce-clause-leads
 returns-in_ok-answers-in-Reduce-clause-leads g c =
-    subst (λ us. Leads g.T.PartialOrder.times c.args.plan.now c.args.self.now (Turned c.args.node c.args.upper.now) c.find.new.self (Ready c.args.node us)) (sym c.into.ensures) c.in_ok-answers-in-Reduce.ensures.leads
+    subst (λ us. Leads g.T.PartialOrder.times c.args.plan.now c.args.self.now (Notified c.args.node c.args.upper.now) c.find.new.self (Ready c.args.node us)) (sym c.into.ensures) c.in_ok-answers-in-Reduce.ensures.leads
 
 pub returns-in_ok-gathered-in_default : goal.returns-in_ok-gathered-in_default
 returns-in_ok-gathered-in_default g c = record {
   leads =
-      subst (λ h. Leads g.T.PartialOrder.times c.args.plan.now c.args.self.now (Turned c.args.node c.args.upper.now) c.take_gathered.new.self h) (sym c.ready.ensures)
-      (c.in_ok-gathered-in_default.ensures.turned c.args.upper.now);
+      subst (λ h. Leads g.T.PartialOrder.times c.args.plan.now c.args.self.now (Notified c.args.node c.args.upper.now) c.take_gathered.new.self h) (sym c.ready.ensures)
+      (c.in_ok-gathered-in_default.ensures.notified c.args.upper.now);
   computed = subst (λ h. IsComputed h × (hand_node h ≡ Some c.args.node)) (sym c.ready.ensures) (tt, refl);
   passed = subst (λ h. IsTrue (gives_passed h)) (sym c.ready.ensures) refl;
   kept = tt;

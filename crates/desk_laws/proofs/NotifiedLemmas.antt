@@ -1,4 +1,4 @@
--- What a turn to held times makes of a worker's own.
+-- What a notification makes of a worker's own.
 use Rattle.std.proofs.Common.{◌≡◌, ℕ, cond, eqb, not, List, ◌∷◌, Option, Some, IsTrue, sym, refl, ap, ◌∙◌, subst}
 use Rattle.std.specs.Prelude.{IfSome, slice_get}
 use Rattle.std.specs.List.{filter}
@@ -15,16 +15,16 @@ use Rattle.histories.specs.Histories.States.{ObservedFrontier, State}
 use Rattle.histories.specs.Histories.{IsTakeHeld, next_state}
 use Rattle.operator_laws.specs.Workers.{IsWorkingAt}
 use Rattle.operator_laws.proofs.PortLemmas.{port_stays}
-use Rattle.operator_laws.proofs.ReduceLemmas.{turned_was}
+use Rattle.operator_laws.proofs.ReduceLemmas.{notified_was}
 use Rattle.operator_laws.proofs.WorkerLemmas.{same_working}
 use Rattle.desk_laws.specs.Observed.{newest_observed}
 use Rattle.desk_laws.specs.Own.{DeskView, IsOwn}
-use Rattle.desk_laws.specs.declared.hand.Hand.TheVariants.{Free, Turned}
-use Rattle.desk_laws.proofs.KeptLemmas.{at_each, of_each, free_idle, laid_same, same_desk, same_keeps, turned_idle}
+use Rattle.desk_laws.specs.declared.hand.Hand.TheVariants.{Free, Notified}
+use Rattle.desk_laws.proofs.KeptLemmas.{at_each, of_each, free_idle, laid_same, same_desk, same_keeps, notified_idle}
 
-pub turned_lem : {T : Type 0} (times : Times T) (o : PartialOrderLaws times) (p : Dataflow) (q : IsDataflow p) (w : State T) (k n : ℕ) → IsTakeHeld times p w k n → (d : DeskView T) (upper : List T)
-    → ((t : T) → is_beyond times upper t ≡ is_beyond times (input_frontier times p w n) t) → IsOwn times p w k d Free → IsOwn times p (next_state times p w (TakeHeld k n)) k d (Turned n upper)
-turned_lem {T} times o p q w k n turn d upper same x = record {
+pub notified_lem : {T : Type 0} (times : Times T) (o : PartialOrderLaws times) (p : Dataflow) (q : IsDataflow p) (w : State T) (k n : ℕ) → IsTakeHeld times p w k n → (d : DeskView T) (upper : List T)
+    → ((t : T) → is_beyond times upper t ≡ is_beyond times (input_frontier times p w n) t) → IsOwn times p w k d Free → IsOwn times p (next_state times p w (TakeHeld k n)) k d (Notified n upper)
+notified_lem {T} times o p q w k n turn d upper same x = record {
   worker = x.worker;
   keeps = x.keeps;
   keeping = record {
@@ -33,11 +33,11 @@ turned_lem {T} times o p q w k n turn d upper same x = record {
     given = x.keeping.given;
     ports = λ m port. port_stays times o p q w (TakeHeld k n) turn m port (x.keeps.ports m port) (x.keeping.ports m port);
   };
-  laid = of_each times p d (Turned n upper) x.keeps (λ m l. laid_same times p m d d (same_desk m d) x.keeps x.keeps (same_keeps m x.keeps) Free (Turned n upper) (free_idle m) (turned_idle m n upper) (at_each times p d Free x.keeps x.laid m l));
+  laid = of_each times p d (Notified n upper) x.keeps (λ m l. laid_same times p m d d (same_desk m d) x.keeps x.keeps (same_keeps m x.keeps) Free (Notified n upper) (free_idle m) (notified_idle m n upper) (at_each times p d Free x.keeps x.laid m l));
   hand = ap (λ b. cond b (Some n) (w.hand k)) (eq-eqb k k refl);
   come = record {
     come = λ t h. sym (ap not (same t)) ∙ h;
-    was = λ t h. turned_was times o p w n k t (sym (ap not (same t)) ∙ h);
+    was = λ t h. notified_was times o p w n k t (sym (ap not (same t)) ∙ h);
     newest = subst (λ (found : Option (ObservedFrontier T)). IfSome found (λ l. IsTrue (all_beyond times l.frontier upper))) (sym newest_is) (all_beyond_from o (input_frontier times p w n) upper (λ t h. sym (same t) ∙ h));
     after = λ source key e t h. ap not (same t) ∙ (subst (λ node. IsWorkingAt times p w k x.keeps.works n node) e (x.keeping.working n turn.within)).passed t h;
     on = λ source kind e t h. ap not (same t) ∙ (subst (λ node. IsWorkingAt times p w k x.keeps.works n node) e (x.keeping.working n turn.within)).passed t h;

@@ -7,9 +7,9 @@ use Rattle.outstanding.specs.Stations.{lots}
 use Rattle.outstanding.proofs.PlacedLemmas.{wide_put_all}
 use Rattle.accounts.specs.Accounts.{items_held_by}
 use Rattle.accounts.proofs.EventLemmas.{held_stays}
-use Rattle.accounts.proofs.give.settle.Given.{Over}
-use Rattle.accounts.proofs.give.settle.Goals.{After-put_all}
-use Rattle.accounts.proofs.give.settle.Goals as goal
+use Rattle.accounts.proofs.give.count_moved.Given.{Over}
+use Rattle.accounts.proofs.give.count_moved.Goals.{After-put_all}
+use Rattle.accounts.proofs.give.count_moved.Goals as goal
 
 -- what the worker holds at the node is what it held
 held_there : (g : Over) (c : After-put_all g)

@@ -1,6 +1,6 @@
 use Rattle.std.proofs.Common.{◌++◌, ◌∷◌, []}
 use Rattle.key_history.proofs.ReplayLemmas.{settles_none, settles_one}
-use Rattle.key_history.proofs.replay.Replay.settle.Goals as goal
+use Rattle.key_history.proofs.replay.Replay.fold_or_keep.Goals as goal
 
 pub returns-then-add_early-clause-settles : goal.returns-then-add_early-clause-settles
 returns-then-add_early-clause-settles g c =

@@ -1,5 +1,0 @@
-use Rattle.operator_laws.proofs.ReduceLemmas.{turned_was}
-use Rattle.operator_laws.proofs.reduce_nodes.turning_leaves_it.Goals as goal
-
-pub returns : goal.returns
-returns g c p w n k t h = turned_was g.T.PartialOrder.times g.met.T.PartialOrder.order p w n k t h
