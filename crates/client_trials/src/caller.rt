@@ -64,8 +64,7 @@ impl Caller {
                 .client
                 .feed(&InTurn(rt), alloc, input, columns, time, diff);
         }
-        self.client
-            .feed(&AtOnce, alloc, input, columns, time, diff)
+        self.client.feed(&AtOnce, alloc, input, columns, time, diff)
     }
 
     pub(crate) fn advance<R: Wait>(

@@ -170,9 +170,7 @@ impl<'a, R: Wait> Engine for Crew<'a, R> {
         let Update { time, row, diff } = update;
         let columns = row.columns();
         let access = InTurn(self.runtime);
-        let told = self
-            .client
-            .feed(&access, alloc, input, columns, time, diff);
+        let told = self.client.feed(&access, alloc, input, columns, time, diff);
         self.client.known();
         told
     }

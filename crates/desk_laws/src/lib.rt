@@ -25,4 +25,4 @@ pub use computed::{
 pub use gives::{given_is_beyond, kept_is_held_back, ready_is_given, sealed_is_given};
 pub use hand::Hand;
 pub use output::Output;
-pub use takes::{first_is_laid, others_leave_it, taken_is_laid, notified_is_laid};
+pub use takes::{first_is_laid, notified_is_laid, others_leave_it, taken_is_laid};

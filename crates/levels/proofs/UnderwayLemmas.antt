@@ -166,17 +166,17 @@ module _ {T : Type 0} {times : Times T} (cmp : T → T → Ordering) (o : Partia
       let all : updates_at 0 src ++ updates_at 1 src ≡ is.0.updates ++ [] = λ k. first_at bs n 0 is.0 is.1 k ++ no_second (drop n bs) k in
       let whole = finished_rewrite o l since made is.0 (e ∙ is.2.described) (subst (λ ws. StandFor made.updates (compacted times since ws)) all stand) in
       λ a p.
-          subst (λ F. IsRewriteOf times F made a) (sym (ap (λ (d : DescriptionState T). d.since) e))
-          (subst (λ (z : BatchState T). IsRewriteOf times since made z) (some_same (sym is.1 ∙ p)) whole)
+      subst (λ F. IsRewriteOf times F made a) (sym (ap (λ (d : DescriptionState T). d.since) e))
+      (subst (λ (z : BatchState T). IsRewriteOf times since made z) (some_same (sym is.1 ∙ p)) whole)
   made_in bs false n m made is e stand =
       let since = m.description.since in
       let src = take 2 (drop n bs) in
       let all : updates_at 0 src ++ updates_at 1 src ≡ is.0.updates ++ is.1.updates = λ k. first_at bs n 1 is.0 is.2 k ++ second_at bs n is.1 is.3 k in
       let whole = finished_merge o l since made is.0 is.1 (e ∙ is.4.described) (subst (λ ws. StandFor made.updates (compacted times since ws)) all stand) in
       λ a b p q.
-          subst (λ F. IsMergeOf times F made a b) (sym (ap (λ (d : DescriptionState T). d.since) e))
-          (subst (λ (z : BatchState T). IsMergeOf times since made z b) (some_same (sym is.2 ∙ p))
-          (subst (λ (z : BatchState T). IsMergeOf times since made is.0 z) (some_same (sym is.3 ∙ q)) whole))
+      subst (λ F. IsMergeOf times F made a b) (sym (ap (λ (d : DescriptionState T). d.since) e))
+      (subst (λ (z : BatchState T). IsMergeOf times since made z b) (some_same (sym is.2 ∙ p))
+      (subst (λ (z : BatchState T). IsMergeOf times since made is.0 z) (some_same (sym is.3 ∙ q)) whole))
 
   -- a merge that has read all makes a batch for those at its place
   pub made_at : (bs src : List (BatchState T)) (u w : UnderwayState T) → u ≡ w → IsAt times cmp bs w → src ≡ batches_at bs u → (made : BatchState T) → made.description ≡ u.merging.description

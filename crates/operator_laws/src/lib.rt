@@ -45,8 +45,8 @@ pub use join_nodes::{
     queued_elsewhere, queued_inserts,
 };
 pub use reduce_nodes::{
-    reduced_elsewhere, reduced_gives, reduced_holds_back, reduced_takes, reducing_begins,
-    a_notification_leaves_it,
+    a_notification_leaves_it, reduced_elsewhere, reduced_gives, reduced_holds_back, reduced_takes,
+    reducing_begins,
 };
 pub use workers::{
     gives_at_one_node, inserts_at_one_node, joins_read_arranged_nodes, quiet_while_it_waits,

@@ -119,9 +119,7 @@ impl Plan {
             Node::Join { left, right } => {
                 joined_width(self.key(*left), self.width(*left), self.width(*right))
             }
-            Node::Reduce { kind, source } => {
-                kind.width(self.key(*source), self.width(*source))
-            }
+            Node::Reduce { kind, source } => { kind.width(self.key(*source), self.width(*source)) }
             Node::Concat { left: source, .. }
             | Node::Filter { source, .. }
             | Node::Negate { source }

@@ -18,11 +18,7 @@ pub trait Access {
     ghost tries: { Type 0 };
 
     /// Begins a tenure. `Err` gives the pass back: the board was away.
-    fn enter<'h, P: Protocol>(
-        &self,
-        hub: &'h Hub<P>,
-        pass: Pass<P>,
-    ) -> Result<Held<'h, P>, Pass<P>>
+    fn enter<'h, P: Protocol>(&self, hub: &'h Hub<P>, pass: Pass<P>) -> Result<Held<'h, P>, Pass<P>>
         requires { pass.hub ≡ hub_id hub.now }
         ensures { MatchResult result
             (λ h. IsTenureOf pass h × P.stands h.state h.found) (λ p. tries × (p ≡ pass)) };
@@ -35,11 +31,7 @@ pub struct AtOnce;
 impl Access for AtOnce {
     ghost tries = { ⊤ };
 
-    fn enter<'h, P: Protocol>(
-        &self,
-        hub: &'h Hub<P>,
-        pass: Pass<P>,
-    ) -> Result<Held<'h, P>, Pass<P>>
+    fn enter<'h, P: Protocol>(&self, hub: &'h Hub<P>, pass: Pass<P>) -> Result<Held<'h, P>, Pass<P>>
         requires { pass.hub ≡ hub_id hub.now }
         ensures { MatchResult result
             (λ h. IsTenureOf pass h × P.stands h.state h.found) (λ p. ⊤ × (p ≡ pass)) }
@@ -55,11 +47,7 @@ pub struct InTurn<'r, R>(pub &'r R);
 impl<'r, R: Wait> Access for InTurn<'r, R> {
     ghost tries = { ⊥ };
 
-    fn enter<'h, P: Protocol>(
-        &self,
-        hub: &'h Hub<P>,
-        pass: Pass<P>,
-    ) -> Result<Held<'h, P>, Pass<P>>
+    fn enter<'h, P: Protocol>(&self, hub: &'h Hub<P>, pass: Pass<P>) -> Result<Held<'h, P>, Pass<P>>
         requires { pass.hub ≡ hub_id hub.now }
         ensures { MatchResult result
             (λ h. IsTenureOf pass h × P.stands h.state h.found) (λ p. ⊥ × (p ≡ pass)) }

@@ -14,8 +14,8 @@ use Rattle.join.proofs.formed.Formed.pair_key.Goals as goal
 -- the three searches find the key of the run
 found : (g : Over) (c : After-seek_past_run-end g)
     → IsFound c.args.k (g.B.BatchReader.content c.args.batch.now) (g.C.BatchReader.content c.args.other.now) c.run_row-row.result
-        (run_place (g.B.BatchReader.content c.args.batch.now) c.args.at.batch) (run_place (g.B.BatchReader.content c.args.batch.now) c.seek_past_run-next.result)
-        (run_place (g.C.BatchReader.content c.args.other.now) c.seek_run-start.result) (run_place (g.C.BatchReader.content c.args.other.now) c.seek_past_run-end.result)
+    (run_place (g.B.BatchReader.content c.args.batch.now) c.args.at.batch) (run_place (g.B.BatchReader.content c.args.batch.now) c.seek_past_run-next.result)
+    (run_place (g.C.BatchReader.content c.args.other.now) c.seek_run-start.result) (run_place (g.C.BatchReader.content c.args.other.now) c.seek_past_run-end.result)
 found g c =
     let us = g.B.BatchReader.content c.args.batch.now in
     let vs = g.C.BatchReader.content c.args.other.now in
