@@ -15,9 +15,9 @@
 //! This crate goes through all keys. It stands on four others, and hands on what a caller needs of
 //! them:
 //!
-//! - `reducer`: what a key's rows are reduced to. A [`Reducer`] is a function of a bag; the kind of
-//!   a plan's reduction is one. [`RowCounts`] is how it reads the rows of a key, and a [`Tally`]
-//!   has them with counts that change in place.
+//! - `reducer`: what a key's rows are reduced to. A [`Reducer`] is a function of a bag; each kind of
+//!   a plan's reductions is one: [`Count`], [`Distinct`], [`Min`] and [`Max`]. [`RowCounts`] is how
+//!   it reads the rows of a key, and a [`Tally`] has them with counts that change in place.
 //! - `joined_times`: which times are joined times, after new ones came.
 //! - `correction`: what is given of one key at one time.
 //! - `key_history`: what is kept of one key, a [`KeyHistory`], and what is given of it as of a
@@ -41,5 +41,6 @@ pub use laws::{
     order_does_not_matter, outputs_change_at_joined_times, rows_given_are_answered,
     settled_is_right, stands_as_of_later_frontiers,
 };
+pub use plan::Kind::{Count, Distinct, Max, Min};
 pub use reducer::{Reducer, RowCounts, Tally, kinds_are_reductions};
 pub use state::ReduceState;
