@@ -9,7 +9,7 @@ use antichain::Antichain;
 use lattice::Bitime;
 use plan::{Kind, Node, NodeId, Plan, PlanBuilder};
 use session::{Client, open};
-use shared_board::{AtOnce, BitemporalBoards, InTurn};
+use shared_board::BitemporalBoards;
 use std::alloc::Global;
 use std::sync::Wait;
 use steps::Worker;
@@ -41,7 +41,8 @@ fn viewed(alloc: Global) -> Result<Plan, Refusal>
     Ok(builder.finish())
 }
 
-// A client of that board, who knows the plan. It waits in each call, or in none.
+// A client of that board, who knows the plan. It makes each call without waiting, or by its twin
+// that waits.
 #[derive(Drop)]
 pub(crate) struct Caller {
     client: Client<Bitime, BitemporalBoards>,
@@ -60,11 +61,9 @@ impl Caller {
     ) -> Result<(), Refusal> {
         let input = NodeId::new(0);
         if self.waits {
-            return self
-                .client
-                .feed(&InTurn(rt), alloc, input, columns, time, diff);
+            return self.client.feed_wait(rt, alloc, input, columns, time, diff);
         }
-        self.client.feed(&AtOnce, alloc, input, columns, time, diff)
+        self.client.feed(alloc, input, columns, time, diff)
     }
 
     pub(crate) fn advance<R: Wait>(
@@ -75,16 +74,17 @@ impl Caller {
     ) -> Result<(), Refusal> {
         let frontier = Antichain::from_elem(alloc, time);
         if self.waits {
-            return self.client.advance(&InTurn(rt), NodeId::new(0), &frontier);
+            return self.client.advance_wait(rt, NodeId::new(0), &frontier);
         }
-        self.client.advance(&AtOnce, NodeId::new(0), &frontier)
+        self.client.advance(NodeId::new(0), &frontier)
     }
 
     pub(crate) fn close_input<R: Wait>(&mut self, rt: &R) -> Result<(), Refusal> {
         if self.waits {
-            return self.client.close_input(&InTurn(rt), NodeId::new(0));
+            self.client.close_input_wait(rt, NodeId::new(0));
+            return Ok(());
         }
-        self.client.close_input(&AtOnce, NodeId::new(0))
+        self.client.close_input(NodeId::new(0))
     }
 
     pub(crate) fn allow<R: Wait>(
@@ -95,51 +95,51 @@ impl Caller {
     ) -> Result<(), Refusal> {
         let frontier = Antichain::from_elem(alloc, time);
         if self.waits {
-            return self.client.allow(&InTurn(rt), NodeId::new(1), &frontier);
+            return self.client.allow_wait(rt, NodeId::new(1), &frontier);
         }
-        self.client.allow(&AtOnce, NodeId::new(1), &frontier)
+        self.client.allow(NodeId::new(1), &frontier)
     }
 
     pub(crate) fn probe<R: Wait>(&mut self, rt: &R) -> Result<Antichain<Bitime>, Refusal> {
         if self.waits {
-            return self.client.probe(&InTurn(rt), NodeId::new(1));
+            return self.client.probe_wait(rt, NodeId::new(1));
         }
-        self.client.probe(&AtOnce, NodeId::new(1))
+        self.client.probe(NodeId::new(1))
     }
 
     pub(crate) fn read<R: Wait>(&mut self, rt: &R, time: Bitime) -> Result<Bag, Refusal> {
         if self.waits {
-            return self.client.read(&InTurn(rt), NodeId::new(1), time);
+            return self.client.read_wait(rt, NodeId::new(1), time);
         }
-        self.client.read(&AtOnce, NodeId::new(1), time)
+        self.client.read(NodeId::new(1), time)
     }
 
     pub(crate) fn read_counts<R: Wait>(&mut self, rt: &R, time: Bitime) -> Result<Bag, Refusal> {
         if self.waits {
-            return self.client.read(&InTurn(rt), NodeId::new(4), time);
+            return self.client.read_wait(rt, NodeId::new(4), time);
         }
-        self.client.read(&AtOnce, NodeId::new(4), time)
+        self.client.read(NodeId::new(4), time)
     }
 
     pub(crate) fn changes<R: Wait>(&mut self, rt: &R) -> Result<Vec<Update<Bitime>>, Refusal> {
         if self.waits {
-            return self.client.changes(&InTurn(rt), NodeId::new(1));
+            return self.client.changes_wait(rt, NodeId::new(1));
         }
-        self.client.changes(&AtOnce, NodeId::new(1))
+        self.client.changes(NodeId::new(1))
     }
 
     pub(crate) fn quiet<R: Wait>(&mut self, rt: &R) -> Result<bool, Refusal> {
         if self.waits {
-            return self.client.quiet(&InTurn(rt));
+            return Ok(self.client.quiet_wait(rt));
         }
-        self.client.quiet(&AtOnce)
+        self.client.quiet()
     }
 
     pub(crate) fn is_too_large<R: Wait>(&mut self, rt: &R) -> Result<bool, Refusal> {
         if self.waits {
-            return self.client.is_too_large(&InTurn(rt));
+            return Ok(self.client.is_too_large_wait(rt));
         }
-        self.client.is_too_large(&AtOnce)
+        self.client.is_too_large()
     }
 }
 

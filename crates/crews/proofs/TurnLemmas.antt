@@ -35,11 +35,6 @@ module _ {T : Type 0} (old new : PassView (BoardEvent T)) where
   answers_of Found Refused (Ok x) answer = record { looked = answer.0; found = answer.1; refused = tt }
   answers_of Found Refused (Err x) answer = let there = refused_there Refused x answer in record { looked = there.0; found = tt; refused = there.1 }
 
--- a question that is refused with nothing in the client's turn is not refused
-pub never : {A B : Type 0} → (⊥ × A) ⊎ (B × ⊥) → ⊥
-never (inl busy) = busy.0
-never (inr refused) = refused.1
-
 -- what each answer shows
 pub on_ok_of : {A : Type 0} {Found : A → Type 0} {Shown : Type 0} (r : Result A Refusal) → ((x : A) → Found x → Shown) → IfOk r Found → OnOk r Shown
 on_ok_of (Ok x) shows found = shows x found

@@ -30,7 +30,7 @@ use engines::{CatchUp, Engine};
 use lattice::Bitime;
 use plan::{NodeId, Plan};
 use session::{Client, Gate, open, run_threads};
-use shared_board::{BitemporalBoards, InTurn};
+use shared_board::BitemporalBoards;
 use std::alloc::Global;
 use std::marker::Model;
 use std::sync::Wait;
@@ -99,9 +99,7 @@ impl<'a, R: Wait> Crew<'a, R> {
         ensures quiet { result ≡ true → IsQuiet bitime_times (dataflow_of self.new)
             (state_left bitime_times self.new) }
     {
-        let Ok(quiet) = self.client.quiet(&InTurn(self.runtime)) else {
-            unreachable!()
-        };
+        let quiet = self.client.quiet_wait(self.runtime);
         self.client.known();
         quiet
     }
@@ -114,9 +112,7 @@ impl<'a, R: Wait> Crew<'a, R> {
         ensures cause { (s : BitemporalSession) → HasSessionOf bitime_times self.old s
             → result ≡ true → IsLarge (dataflow_of self.old).nodes s }
     {
-        let Ok(large) = self.client.is_too_large(&InTurn(self.runtime)) else {
-            unreachable!()
-        };
+        let large = self.client.is_too_large_wait(self.runtime);
         self.client.known();
         large
     }
@@ -169,8 +165,9 @@ impl<'a, R: Wait> Engine for Crew<'a, R> {
     ) -> Result<(), Refusal> {
         let Update { time, row, diff } = update;
         let columns = row.columns();
-        let access = InTurn(self.runtime);
-        let told = self.client.feed(&access, alloc, input, columns, time, diff);
+        let told = self
+            .client
+            .feed_wait(self.runtime, alloc, input, columns, time, diff);
         self.client.known();
         told
     }
@@ -181,7 +178,7 @@ impl<'a, R: Wait> Engine for Crew<'a, R> {
         input: NodeId,
         frontier: &Antichain<Bitime>,
     ) -> Result<(), Refusal> {
-        let told = self.client.advance(&InTurn(self.runtime), input, frontier);
+        let told = self.client.advance_wait(self.runtime, input, frontier);
         self.client.known();
         told
     }
@@ -192,19 +189,19 @@ impl<'a, R: Wait> Engine for Crew<'a, R> {
         view: NodeId,
         frontier: &Antichain<Bitime>,
     ) -> Result<(), Refusal> {
-        let told = self.client.allow(&InTurn(self.runtime), view, frontier);
+        let told = self.client.allow_wait(self.runtime, view, frontier);
         self.client.known();
         told
     }
 
     fn read(&mut self, _alloc: Global, view: NodeId, time: Bitime) -> Result<Bag, Refusal> {
-        let rows = self.client.read(&InTurn(self.runtime), view, time);
+        let rows = self.client.read_wait(self.runtime, view, time);
         self.client.known();
         rows
     }
 
     fn changes(&mut self, _alloc: Global, view: NodeId) -> Result<Updates<Bitime>, Refusal> {
-        let changes = self.client.changes(&InTurn(self.runtime), view);
+        let changes = self.client.changes_wait(self.runtime, view);
         self.client.known();
         match changes {
             Ok(changes) => Ok(Updates::from(changes)),
@@ -213,7 +210,7 @@ impl<'a, R: Wait> Engine for Crew<'a, R> {
     }
 
     fn frontier(&mut self, _alloc: Global, view: NodeId) -> Result<Antichain<Bitime>, Refusal> {
-        let frontier = self.client.probe(&InTurn(self.runtime), view);
+        let frontier = self.client.probe_wait(self.runtime, view);
         self.client.known();
         match frontier {
             Ok(frontier) => {

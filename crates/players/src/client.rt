@@ -12,12 +12,12 @@ use antichain::Antichain;
 use lattice::Minimum;
 use plan::{NodeId, Plan};
 use session::Client as Caller;
-use shared_board::{AtOnce, BoardProtocol, InTurn};
+use shared_board::BoardProtocol;
 use std::alloc::Global;
 use std::sync::Wait;
 use update::{Bag, Refusal, Update};
 
-/// The client of a session. It waits in each call, or in none.
+/// The client of a session. It makes each call by the twin that waits, or by the one that does not.
 #[derive(Drop)]
 pub struct Client<T: Minimum, P: BoardProtocol<T>> {
     alloc: Global,
@@ -74,10 +74,9 @@ impl<T: Minimum, P: BoardProtocol<T>> Client<T, P> {
         if self.waits {
             return self
                 .client
-                .feed(&InTurn(rt), self.alloc, input, columns, time, diff);
+                .feed_wait(rt, self.alloc, input, columns, time, diff);
         }
-        self.client
-            .feed(&AtOnce, self.alloc, input, columns, time, diff)
+        self.client.feed(self.alloc, input, columns, time, diff)
     }
 
     /// Moves the frontier of an input.
@@ -91,9 +90,9 @@ impl<T: Minimum, P: BoardProtocol<T>> Client<T, P> {
             return Err(Refusal::UnknownName);
         }
         if self.waits {
-            return self.client.advance(&InTurn(rt), input, frontier);
+            return self.client.advance_wait(rt, input, frontier);
         }
-        self.client.advance(&AtOnce, input, frontier)
+        self.client.advance(input, frontier)
     }
 
     /// The frontier of a view.
@@ -102,9 +101,9 @@ impl<T: Minimum, P: BoardProtocol<T>> Client<T, P> {
             return Err(Refusal::UnknownName);
         }
         if self.waits {
-            return self.client.probe(&InTurn(rt), view);
+            return self.client.probe_wait(rt, view);
         }
-        self.client.probe(&AtOnce, view)
+        self.client.probe(view)
     }
 
     /// The rows of a view at a time.
@@ -113,9 +112,9 @@ impl<T: Minimum, P: BoardProtocol<T>> Client<T, P> {
             return Err(Refusal::UnknownName);
         }
         if self.waits {
-            return self.client.read(&InTurn(rt), view, time);
+            return self.client.read_wait(rt, view, time);
         }
-        self.client.read(&AtOnce, view, time)
+        self.client.read(view, time)
     }
 
     /// The changes of a view.
@@ -124,16 +123,16 @@ impl<T: Minimum, P: BoardProtocol<T>> Client<T, P> {
             return Err(Refusal::UnknownName);
         }
         if self.waits {
-            return self.client.changes(&InTurn(rt), view);
+            return self.client.changes_wait(rt, view);
         }
-        self.client.changes(&AtOnce, view)
+        self.client.changes(view)
     }
 
     /// Whether all that was fed has reached the views.
     pub fn is_quiet<R: Wait>(&mut self, rt: &R) -> Result<bool, Refusal> {
         if self.waits {
-            return self.client.quiet(&InTurn(rt));
+            return Ok(self.client.quiet_wait(rt));
         }
-        self.client.quiet(&AtOnce)
+        self.client.quiet()
     }
 }

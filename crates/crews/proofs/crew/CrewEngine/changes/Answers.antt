@@ -21,15 +21,15 @@ use Rattle.crews.proofs.crew.CrewEngine.changes.Goals.{in-Ok, in-Err}
 pub returns-clause-stands : goal.returns-clause-stands
 returns-clause-stands g c s =
     let k = c.self.inside.client in
-    let new = c.changes-changes.new.self in
-    let answer = answers_of k new _ _ c.changes-changes.result c.changes-changes.ensures in
+    let new = c.changes_wait-changes.new.self in
+    let answer = answers_of k new _ _ c.changes_wait-changes.result c.changes_wait-changes.ensures in
     still_stands bitime_times bitime_order k new c.self.invariant.0 c.self.invariant.1 c.known.ensures answer.looked c.self.view_is s
 
 pub returns-clause-answered : goal.returns-clause-answered
 returns-clause-answered g c s =
     let k = c.self.inside.client in
-    let new = c.changes-changes.new.self in
-    let answer = answers_of k new _ _ c.changes-changes.result c.changes-changes.ensures in
+    let new = c.changes_wait-changes.new.self in
+    let answer = answers_of k new _ _ c.changes_wait-changes.result c.changes_wait-changes.ensures in
     let v = c.args.view in
     let p = dataflow_of k in
     let w = state_found bitime_times new in

@@ -21,15 +21,15 @@ use Rattle.crews.proofs.crew.CrewEngine.frontier.Goals.{in-Ok, in-Err}
 pub returns-clause-stands : goal.returns-clause-stands
 returns-clause-stands g c s =
     let k = c.self.inside.client in
-    let new = c.probe-frontier.new.self in
-    let answer = answers_of k new _ _ c.probe-frontier.result c.probe-frontier.ensures in
+    let new = c.probe_wait-frontier.new.self in
+    let answer = answers_of k new _ _ c.probe_wait-frontier.result c.probe_wait-frontier.ensures in
     still_stands bitime_times bitime_order k new c.self.invariant.0 c.self.invariant.1 c.known.ensures answer.looked c.self.view_is s
 
 pub returns-clause-answered : goal.returns-clause-answered
 returns-clause-answered g c s =
     let k = c.self.inside.client in
-    let new = c.probe-frontier.new.self in
-    let answer = answers_of k new _ _ c.probe-frontier.result c.probe-frontier.ensures in
+    let new = c.probe_wait-frontier.new.self in
+    let answer = answers_of k new _ _ c.probe_wait-frontier.result c.probe_wait-frontier.ensures in
     let v = c.args.view in
     let asked = asked_of bitime_times bitime_order k new c.self.invariant.0 c.self.invariant.1 c.known.ensures answer.looked c.self.view_is v c.requires.view c.requires.caught_up in
     let Answered : PassView (BoardEvent (Pair ℕ ℕ)) → Result (List (Pair ℕ ℕ)) Refusal → Type 0 = λ e r. HasSessionOf bitime_times e s

@@ -21,23 +21,23 @@ use Rattle.crews.proofs.crew.CrewEngine.read.Goals as goal
 pub returns-clause-stands : goal.returns-clause-stands
 returns-clause-stands g c s =
     let k = c.self.inside.client in
-    let new = c.read-rows.new.self in
-    let answer = answers_of k new _ _ c.read-rows.result c.read-rows.ensures in
+    let new = c.read_wait-rows.new.self in
+    let answer = answers_of k new _ _ c.read_wait-rows.result c.read_wait-rows.ensures in
     still_stands bitime_times bitime_order k new c.self.invariant.0 c.self.invariant.1 c.known.ensures answer.looked c.self.view_is s
 
 pub returns-clause-answered : goal.returns-clause-answered
 returns-clause-answered g c s =
     let k = c.self.inside.client in
-    let new = c.read-rows.new.self in
-    let answer = answers_of k new _ _ c.read-rows.result c.read-rows.ensures in
+    let new = c.read_wait-rows.new.self in
+    let answer = answers_of k new _ _ c.read_wait-rows.result c.read_wait-rows.ensures in
     let v = c.args.view in
     let t = c.args.time in
     let p = dataflow_of k in
     let w = state_found bitime_times new in
     let asked = asked_of bitime_times bitime_order k new c.self.invariant.0 c.self.invariant.1 c.known.ensures answer.looked c.self.view_is v c.requires.view c.requires.caught_up in
-    subst (λ (e : PassView (BoardEvent (Pair ℕ ℕ))). HasSessionOf bitime_times e s → FindsRows (EndsByBound (dataflow_of e).nodes s) (dataflow_of e).nodes s v t c.read-rows.result) c.self.view_is
+    subst (λ (e : PassView (BoardEvent (Pair ℕ ℕ))). HasSessionOf bitime_times e s → FindsRows (EndsByBound (dataflow_of e).nodes s) (dataflow_of e).nodes s v t c.read_wait-rows.result) c.self.view_is
     (λ a. read_answered bitime_times bitime_order p asked.dataflow w s (asked.found s a) v asked.caught t
-    (HasLargeCount (query_at bitime_times p.nodes (changes_in w) v t)) (IsLarge p.nodes s) c.read-rows.result
+    (HasLargeCount (query_at bitime_times p.nodes (changes_in w) v t)) (IsLarge p.nodes s) c.read_wait-rows.result
     (large_read bitime_order bitime_bounds bitime_extends bitime_total p asked.dataflow w s (asked.found s a) v asked.within t)
-    (on_ok_of c.read-rows.result (λ bag read. read.accepted) answer.found) answer.refused
-    (IfOk-weaker c.read-rows.result _ _ (λ bag read. read.is_bag) answer.found) (IfOk-weaker c.read-rows.result _ _ (λ bag read. read.query) answer.found))
+    (on_ok_of c.read_wait-rows.result (λ bag read. read.accepted) answer.found) answer.refused
+    (IfOk-weaker c.read_wait-rows.result _ _ (λ bag read. read.is_bag) answer.found) (IfOk-weaker c.read_wait-rows.result _ _ (λ bag read. read.query) answer.found))

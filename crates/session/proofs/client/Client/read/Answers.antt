@@ -1,7 +1,8 @@
 use Rattle.std.proofs.Common.{subst}
 use Rattle.shared_board.specs.Calls.{HasRead}
+use Rattle.session.specs.Clients.{TriesOnce}
 use Rattle.session.proofs.client.Client.read.Goals as goal
 
 pub returns : goal.returns
 returns g c =
-    subst (λ k. HasRead g.T.PartialOrder.times g.A.Access.tries k c.read.new.self c.args.view c.args.time c.read.result) c.self.view_is c.read.ensures
+    subst (λ k. HasRead g.T.PartialOrder.times TriesOnce k c.read.new.self c.args.view c.args.time c.read.result) c.self.view_is c.read.ensures

@@ -5,7 +5,7 @@ use Rattle.shared_board.specs.Calls.{HasLooked}
 use Rattle.shared_board.specs.Found.{dataflow_of}
 use Rattle.shared_board.specs.Tenures.{IsActor}
 use Rattle.session.proofs.ClientLemmas.{no_width}
-use Rattle.session.proofs.client.Client.feed.Goals as goal
+use Rattle.session.proofs.client.Client.feed_by.Goals as goal
 
 pub returns-in_default : goal.returns-in_default
 returns-in_default g c =

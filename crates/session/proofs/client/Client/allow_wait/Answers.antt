@@ -1,0 +1,11 @@
+use Rattle.std.proofs.Common.{subst}
+use Rattle.shared_board.specs.Calls.{IsGivenUp}
+use Rattle.session.specs.Clients.{Waits}
+use Rattle.session.proofs.client.Client.allow_wait.Goals as goal
+
+pub returns : goal.returns
+returns g c =
+    let times = g.T.PartialOrder.times in
+    let new = c.allow.new.self in
+    subst (λ ts. IsGivenUp times Waits c.args.self.now new c.args.view ts c.allow.result) c.elements.ensures.value
+    (subst (λ k. IsGivenUp times Waits k new c.args.view c.elements.result.now c.allow.result) c.self.view_is c.allow.ensures)

@@ -1,0 +1,13 @@
+use Rattle.std.proofs.Common.{subst}
+use Rattle.std.specs.Prelude.{Ok}
+use Rattle.shared_board.specs.Calls.{HasAskedQuiet}
+use Rattle.session.specs.Clients.{Waits}
+use Rattle.session.proofs.ClientLemmas.{never}
+use Rattle.session.proofs.client.Client.quiet_wait.Goals as goal
+
+pub unreachable-requires : goal.unreachable-requires
+unreachable-requires g c = never c.in_default.ensures
+
+pub returns : goal.returns
+returns g c =
+    subst (λ k. HasAskedQuiet g.T.PartialOrder.times Waits k c.is_quiet.new.self (Ok c.in-Ok.quiet)) c.self.view_is c.in-Ok.ensures
