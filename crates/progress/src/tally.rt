@@ -8,7 +8,7 @@ ghost use Rattle.plan.specs.Rules.{IsPlan};
 ghost use Rattle.progress.specs.Kept.{HaveChanged, IsInserted, IsSpared};
 ghost use Rattle.progress.specs.Tallies.{AreMarksBelow, IsUnmarked, SameCounts, is_marked, input_frontier, node_of, rebuilt_after};
 ghost use Rattle.progress.specs.declared.scope.Scope.TheVariants.{Output, Port};
-ghost use Rattle.progress.specs.Scopes.{IsAnswered, scope_node, scope_frontier};
+ghost use Rattle.progress.specs.Scopes.{AnswersFrontier, scope_node, scope_frontier};
 
 use crate::capability::Capability;
 use crate::counts::Counts;
@@ -202,7 +202,7 @@ impl<T: Lattice> Tally<T> {
     /// that are counted, times the most elements that are met on the way.
     pub fn frontier(&mut self, node: NodeId) -> Result<Antichain<T>, Refusal>
         requires { node < length self.old.nodes }
-        ensures { IsAnswered T.times (Output node) self.old self.new result }
+        ensures { AnswersFrontier T.times (Output node) self.old self.new result }
     {
         self.frontier_of(&Scope::Output(node))
     }
@@ -216,7 +216,7 @@ impl<T: Lattice> Tally<T> {
     /// Cost: that of `frontier`. For a port of 2 or more always that of a marked node.
     pub fn input_frontier(&mut self, node: NodeId, port: usize) -> Result<Antichain<T>, Refusal>
         requires { node < length self.old.nodes }
-        ensures { IsAnswered T.times (Port node port) self.old self.new result }
+        ensures { AnswersFrontier T.times (Port node port) self.old self.new result }
     {
         self.frontier_of(&Scope::Port(node, port))
     }
@@ -227,7 +227,7 @@ impl<T: Lattice> Tally<T> {
     /// Cost: that of `frontier`, or of `input_frontier` if the scope is a port.
     pub fn frontier_of(&mut self, scope: &Scope) -> Result<Antichain<T>, Refusal>
         requires { scope_node scope.now < length self.old.nodes }
-        ensures { IsAnswered T.times scope.now self.old self.new result }
+        ensures { AnswersFrontier T.times scope.now self.old self.new result }
     {
         let was_marked = self.table.is_marked(scope.node());
         let found = self.table.answer(&self.graph, scope, &self.items)?;

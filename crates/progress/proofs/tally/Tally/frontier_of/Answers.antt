@@ -5,7 +5,7 @@ use Rattle.plan.specs.declared.node.Node.{Node}
 use Rattle.progress.specs.declared.counted.Counted.{Counted}
 use Rattle.progress.specs.declared.kept.Kept.{Kept}
 use Rattle.progress.specs.Kept.{marks_of}
-use Rattle.progress.specs.Scopes.{IsAnswered}
+use Rattle.progress.specs.Scopes.{AnswersFrontier}
 use Rattle.progress.specs.Tallies.{TallyState, is_marked, rebuilt_after}
 use Rattle.progress.proofs.tally.Tally.frontier_of.Goals as goal
 
@@ -18,7 +18,7 @@ returns g c =
     let was = c.self.inside in
     let answer = c.in_ok-found.ensures in
     let new = seen was.graph was.items c.answer.new.self c.rebuilt_after.result in
-    subst (λ (s : TallyState g.row.T.Denot). IsAnswered g.T.PartialOrder.times c.args.scope.now s new (Ok c.in_ok-found.found)) c.self.view_is
+    subst (λ (s : TallyState g.row.T.Denot). AnswersFrontier g.T.PartialOrder.times c.args.scope.now s new (Ok c.in_ok-found.found)) c.self.view_is
     (record {
       items = refl;
       nodes = refl;
@@ -37,7 +37,7 @@ returns-in_err-found g c =
     let answer = c.in_err-found.ensures in
     let new = seen was.graph was.items c.answer.new.self was.rebuilt in
     let refusal = err_from_is_err_and c.from_residual.result c.from_residual.ensures.1 in
-    subst (λ (s : TallyState g.row.T.Denot). IsAnswered g.T.PartialOrder.times c.args.scope.now s new c.from_residual.result) c.self.view_is
+    subst (λ (s : TallyState g.row.T.Denot). AnswersFrontier g.T.PartialOrder.times c.args.scope.now s new c.from_residual.result) c.self.view_is
     (rw refusal.1 (record {
       items = refl;
       nodes = refl;
