@@ -112,7 +112,7 @@ impl<T: Minimum> Accounts<T> {
     /// One of the frontiers of a node: the least of what counts for it. Refused only with
     /// `OutOfMemory`.
     ///
-    /// Cost: that of [`Tally::frontier`].
+    /// Cost: that of [`Tally::frontier_of`].
     pub fn frontier(&mut self, scope: &Scope) -> Result<Antichain<T>, Refusal>
         requires { scope_node scope.now < length self.old.nodes }
         ensures kept { self.new ≡ self.old }
@@ -122,7 +122,7 @@ impl<T: Minimum> Accounts<T> {
             ≡ is_beyond T.times (scope_front_of T.times self.old scope.now) t) }
         ensures refused { OnlyMemory result }
     {
-        self.tally.frontier(scope)
+        self.tally.frontier_of(scope)
     }
 
     /// Times that tell the input frontier of a node: a time is beyond them if and only if it is

@@ -50,7 +50,7 @@ fn asked(
     ensures { OnOk result (tally.new.items ≡ tally.old.items) }
 {
     if node < tally.plan().len() {
-        let found = tally.frontier(&Scope::Output(NodeId::new(node)))?;
+        let found = tally.frontier(NodeId::new(node))?;
         let same = match want {
             Some(time) => found.len() == 1 && found.elements()[0] == at(time),
             None => found.is_empty(),
@@ -103,14 +103,14 @@ fn questions_find_a_marked_node_anew_once(rt: HostRuntime) -> Result<(), Fail> {
     assert!(rt; asked(&mut tally, 3, Some((5, 5)))? == (true, 2));
     if 3 < tally.plan().len() {
         let ports = [
-            tally.frontier(&Scope::Port(NodeId::new(3), 0))?.len(),
-            tally.frontier(&Scope::Port(NodeId::new(3), 1))?.len(),
-            tally.frontier(&Scope::Port(NodeId::new(3), 2))?.len(),
+            tally.input_frontier(NodeId::new(3), 0)?.len(),
+            tally.input_frontier(NodeId::new(3), 1)?.len(),
+            tally.input_frontier(NodeId::new(3), 2)?.len(),
         ];
         assert!(rt; ports == [1, 0, 0] && tally.rebuilt() == 2);
-        let port = tally.frontier(&Scope::Port(NodeId::new(0), 2))?;
+        let port = tally.input_frontier(NodeId::new(0), 2)?;
         assert!(rt; port.is_empty() && tally.rebuilt() == 3);
-        let input = tally.frontier(&Scope::Input(NodeId::new(0)))?;
+        let input = tally.frontier_of(&Scope::Input(NodeId::new(0)))?;
         assert!(rt; input.is_empty() && tally.rebuilt() == 3);
     }
     Ok(())

@@ -3,12 +3,12 @@
 ghost use Rattle.std.specs.Prelude.{◌≡◌, ℕ, ◌<◌, true, [], ◌∷◌, IsTrue, IfOk, OnErr, OnOk, Contains, length};
 ghost use Rattle.update.specs.Refusals.{OnlyMemory};
 ghost use Rattle.lattice.specs.Frontiers.{is_beyond};
-ghost use Rattle.antichain.specs.Antichains.{SameElements};
 ghost use Rattle.plan.specs.Changes.{has_passed};
 ghost use Rattle.plan.specs.Rules.{IsPlan};
 ghost use Rattle.progress.specs.Kept.{HaveChanged, IsInserted, IsSpared};
 ghost use Rattle.progress.specs.Tallies.{AreMarksBelow, IsUnmarked, SameCounts, is_marked, input_frontier, node_of, rebuilt_after};
-ghost use Rattle.progress.specs.Scopes.{scope_node, scope_frontier};
+ghost use Rattle.progress.specs.declared.scope.Scope.TheVariants.{Output, Port};
+ghost use Rattle.progress.specs.Scopes.{AnswersFrontier, scope_node, scope_frontier};
 
 use crate::capability::Capability;
 use crate::counts::Counts;
@@ -193,34 +193,41 @@ impl<T: Lattice> Tally<T> {
         self.remove(&place, &time);
     }
 
-    /// One of the frontiers of a node: the least of what counts for it. If the node is marked, then
-    /// all that is kept of it is found anew, and it is marked no more. Otherwise the answer is a
-    /// copy of what is kept, and takes memory only for more than four elements. Refused only with
-    /// `OutOfMemory`, and then the mark is what it was.
+    /// The frontier of a node: the least of what is outstanding at it or above it. If the node is
+    /// marked, then all that is kept of it is found anew, and it is marked no more. Otherwise the
+    /// answer is a copy of what is kept, and takes memory only for more than four elements. Refused
+    /// only with `OutOfMemory`, and then the mark is what it was.
     ///
-    /// No frontier is kept of a port of 2 or more, which no node has: it is found from what is
-    /// counted at each question, and marks go as at the other ports.
+    /// Cost: the square of the elements. If the node is marked, also linear in the different items
+    /// that are counted, times the most elements that are met on the way.
+    pub fn frontier(&mut self, node: NodeId) -> Result<Antichain<T>, Refusal>
+        requires { node < length self.old.nodes }
+        ensures { AnswersFrontier T.times (Output node) self.old self.new result }
+    {
+        self.frontier_of(&Scope::Output(node))
+    }
+
+    /// The input frontier of one port: the least of what is in flight to it, and of what is
+    /// outstanding at its source or above; at an input, of that input's own frontier. It is
+    /// answered, and refused, as `frontier` is. No frontier is kept of a port of 2 or more, which
+    /// no node has: it is found from what is counted at each question, and marks go as at the other
+    /// ports.
     ///
-    /// Cost: the square of the elements. If the node is marked, or the port is one of 2 or more,
-    /// also linear in the different items that are counted, times the most elements that are met on
-    /// the way.
-    pub fn frontier(&mut self, scope: &Scope) -> Result<Antichain<T>, Refusal>
+    /// Cost: that of `frontier`. For a port of 2 or more always that of a marked node.
+    pub fn input_frontier(&mut self, node: NodeId, port: usize) -> Result<Antichain<T>, Refusal>
+        requires { node < length self.old.nodes }
+        ensures { AnswersFrontier T.times (Port node port) self.old self.new result }
+    {
+        self.frontier_of(&Scope::Port(node, port))
+    }
+
+    /// Any one of the frontiers of a node, by its scope. It is answered, and refused, as `frontier`
+    /// is.
+    ///
+    /// Cost: that of `frontier`, or of `input_frontier` if the scope is a port.
+    pub fn frontier_of(&mut self, scope: &Scope) -> Result<Antichain<T>, Refusal>
         requires { scope_node scope.now < length self.old.nodes }
-        ensures items { self.new.items ≡ self.old.items }
-        ensures nodes { self.new.nodes ≡ self.old.nodes }
-        ensures least { IfOk result (λ found. SameElements found
-            (scope_frontier T.times self.old.nodes self.old.items scope.now)) }
-        ensures beyond { IfOk result (λ found. (t : T) → is_beyond T.times found t
-            ≡ is_beyond T.times
-            (scope_frontier T.times self.old.nodes self.old.items scope.now) t) }
-        ensures refused { OnlyMemory result }
-        ensures unmarked { OnOk result
-            (IsUnmarked (scope_node scope.now) self.old.marked self.new.marked) }
-        ensures unanswered { OnErr result (self.new.marked ≡ self.old.marked) }
-        ensures rebuilt { OnOk result (self.new.rebuilt
-            ≡ rebuilt_after (is_marked self.old.marked (scope_node scope.now))
-            self.old.rebuilt) }
-        ensures not_rebuilt { OnErr result (self.new.rebuilt ≡ self.old.rebuilt) }
+        ensures { AnswersFrontier T.times scope.now self.old self.new result }
     {
         let was_marked = self.table.is_marked(scope.node());
         let found = self.table.answer(&self.graph, scope, &self.items)?;

@@ -94,7 +94,7 @@ fn is_frontier(
     want: &[(u64, u64)],
 ) -> Result<bool, Refusal> {
     if node < tally.plan().len() {
-        let found = tally.frontier(&Scope::Output(NodeId::new(node)))?;
+        let found = tally.frontier(NodeId::new(node))?;
         return Ok(has_times(&found, want));
     }
     Ok(false)
@@ -107,7 +107,7 @@ fn is_input_frontier(
     want: &[(u64, u64)],
 ) -> Result<bool, Refusal> {
     if node < tally.plan().len() {
-        let found = tally.frontier(&Scope::Input(NodeId::new(node)))?;
+        let found = tally.frontier_of(&Scope::Input(NodeId::new(node)))?;
         return Ok(has_times(&found, want));
     }
     Ok(false)
@@ -120,7 +120,7 @@ fn is_port_frontier(
     want: &[(u64, u64)],
 ) -> Result<bool, Refusal> {
     if node < tally.plan().len() {
-        let found = tally.frontier(&Scope::Port(NodeId::new(node), port))?;
+        let found = tally.input_frontier(NodeId::new(node), port)?;
         return Ok(has_times(&found, want));
     }
     Ok(false)

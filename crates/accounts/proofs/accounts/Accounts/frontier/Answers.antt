@@ -10,11 +10,11 @@ use Rattle.accounts.proofs.accounts.Accounts.frontier.Goals as goal
 pub returns-clause-least : goal.returns-clause-least
 returns-clause-least g c =
     let tally = c.self.inside.tally in
-    subst (λ (a : AccountState g.row.T.Denot). IfOk c.frontier.result (λ found. SameElements found (scope_front_of g.T.PartialOrder.times a c.args.scope.now))) c.self.view_is
-    (if_ok c.frontier.result _ _ (λ found h. found_there g.T.PartialOrder.times g.met.T.PartialOrder.order (is_in_scope tally.nodes c.args.scope.now) tally.items _ c.self.invariant.counts found h) c.frontier.ensures.least)
+    subst (λ (a : AccountState g.row.T.Denot). IfOk c.frontier_of.result (λ found. SameElements found (scope_front_of g.T.PartialOrder.times a c.args.scope.now))) c.self.view_is
+    (if_ok c.frontier_of.result _ _ (λ found h. found_there g.T.PartialOrder.times g.met.T.PartialOrder.order (is_in_scope tally.nodes c.args.scope.now) tally.items _ c.self.invariant.counts found h) c.frontier_of.ensures.least)
 
 pub returns-clause-beyond : goal.returns-clause-beyond
 returns-clause-beyond g c =
     let tally = c.self.inside.tally in
-    subst (λ (a : AccountState g.row.T.Denot). IfOk c.frontier.result (λ found. (t : g.row.T.Denot) → is_beyond g.T.PartialOrder.times found t ≡ is_beyond g.T.PartialOrder.times (scope_front_of g.T.PartialOrder.times a c.args.scope.now) t)) c.self.view_is
-    (if_ok c.frontier.result _ _ (λ found h t. h t ∙ beyond_there g.T.PartialOrder.times g.met.T.PartialOrder.order (is_in_scope tally.nodes c.args.scope.now) tally.items _ c.self.invariant.counts t) c.frontier.ensures.beyond)
+    subst (λ (a : AccountState g.row.T.Denot). IfOk c.frontier_of.result (λ found. (t : g.row.T.Denot) → is_beyond g.T.PartialOrder.times found t ≡ is_beyond g.T.PartialOrder.times (scope_front_of g.T.PartialOrder.times a c.args.scope.now) t)) c.self.view_is
+    (if_ok c.frontier_of.result _ _ (λ found h t. h t ∙ beyond_there g.T.PartialOrder.times g.met.T.PartialOrder.order (is_in_scope tally.nodes c.args.scope.now) tally.items _ c.self.invariant.counts t) c.frontier_of.ensures.beyond)
